@@ -1,0 +1,5 @@
+pub mod Runs
+pub mod Presents
+pub mod Kept
+pub mod Causes
+pub mod RunFolds

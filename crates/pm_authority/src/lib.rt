@@ -1,0 +1,15 @@
+//! The authority, which keeps the one log of steps that all clients come to.
+#![tactic(auto)]
+
+pub mod authority;
+pub mod message;
+pub mod named;
+pub mod running;
+#[cfg(test)]
+mod tests;
+
+pub use authority::Authority;
+pub use message::{Answer, Message};
+pub use named::{Named, copy_steps};
+pub use pm_change::Name;
+pub use running::{Refusal, apply_all};

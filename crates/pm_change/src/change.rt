@@ -1,0 +1,48 @@
+//! The trait of a change.
+ghost use Rattle.std.specs.Prelude.{◌≡◌, ◌<◌, ◌^◌, IfOk};
+ghost use Rattle.pm_change.specs.Changes.{Meaning, Laws};
+ghost use Rattle.pm_change.specs.Failing.{Answers};
+
+use crate::failed::Failed;
+use std::alloc::{AllocError, Global};
+
+/// A change of a document under rules that are lent to each call, such as a schema.
+pub trait Change: Sized + Drop {
+    /// What says which documents are good.
+    type Rules;
+
+    /// What is changed.
+    type Doc: Drop;
+
+    /// Why a change does not apply.
+    type Reason: Drop;
+
+    ghost means: { Meaning Self.Rules Self.Doc Self.Reason Self };
+
+    /// The document after this change. `Reason` comes exactly where the change does not apply to the document under
+    /// these rules, and says why. The document lent must be good, and stays as it is.
+    fn apply(
+        &self,
+        alloc: Global,
+        rules: &Self::Rules,
+        doc: &Self::Doc,
+    ) -> Result<Self::Doc, Failed<Self::Reason>>
+        requires { means.is_good rules.now doc.now }
+        ensures { Answers (means.outcome rules.now self.now doc.now) result };
+
+    /// The document's size in tokens. The size of a good document is below 2^32.
+    fn size(doc: &Self::Doc) -> usize
+        requires { means.size doc.now < 2 ^ 32 }
+        ensures { result ≡ means.size doc.now };
+
+    /// A change equal to this one.
+    fn copy(&self, alloc: Global) -> Result<Self, AllocError>
+        ensures { IfOk result (λ c. c ≡ self.now) };
+
+    /// A document equal to `doc`.
+    fn copy_doc(alloc: Global, doc: &Self::Doc) -> Result<Self::Doc, AllocError>
+        ensures { IfOk result (λ d. d ≡ doc.now) };
+
+    // Below the last method, so that it is a law, which each implementation has to prove.
+    ghost laws: { Laws means };
+}

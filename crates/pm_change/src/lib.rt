@@ -1,0 +1,13 @@
+//! What a change of a document is, for code that knows nothing of documents.
+//!
+//! Code above this crate is written for any type that implements `Change`. It may use what a change means and the laws
+//! that each change keeps, and nothing else.
+#![tactic(auto)]
+
+pub mod change;
+pub mod failed;
+pub mod name;
+
+pub use change::Change;
+pub use failed::Failed;
+pub use name::Name;
