@@ -1,0 +1,15 @@
+pub mod Letters
+pub mod Flat
+pub mod FlatLaws
+pub mod Forms
+pub mod StepForms
+pub mod Lines
+pub mod Reading
+pub mod Answer
+pub mod SessionViews
+pub mod Making
+pub mod MakingLaws
+pub mod Report
+pub mod Words
+pub mod Output
+pub mod Headline

@@ -1,0 +1,118 @@
+-- The report of a session: what became of each line, how the editor stood, the log, and how all stands in the end.
+use Rattle.std.specs.Prelude.{ℕ, ◌+◌, List, [], ◌∷◌, ◌++◌, length, map, codes, decimal, Result}
+use Rattle.serde_json.specs.Data.{Data, number, unsigned, array, Items, no_items, item}
+use Rattle.serde_json.specs.Written.{compact_text}
+use Rattle.pm_authority.specs.declared.named.Named.{Named}
+use Rattle.pm_session.specs.declared.client.Client.{Client}
+use Rattle.pm_session.specs.declared.line.Line.{Line}
+use Rattle.pm_session.specs.declared.outcome.Told.{Told}
+use Rattle.pm_session.specs.declared.outcome.Told.TheVariants.{Accepted, Version, Refused as ToldRefused}
+use Rattle.pm_session.specs.declared.outcome.Taken.{Taken}
+use Rattle.pm_session.specs.declared.outcome.Taken.TheVariants.{Confirmed, Stale, Refused as TakenRefused}
+use Rattle.pm_session.specs.declared.outcome.Outcome.{Outcome}
+use Rattle.pm_session.specs.declared.outcome.Outcome.TheVariants.{Made, NoRange, NoPlace, NoFit, Refused, Exchanged}
+use Rattle.pm_session.specs.declared.room.Room.{Room}
+use Rattle.pm_session.specs.Rooms.{opened, settled}
+use Rattle.pm_session.specs.Sessions.{session}
+use Rattle.pm_program.specs.declared.flat.Replace.{Replace}
+use Rattle.pm_program.specs.declared.flat.Reason.{Reason}
+use Rattle.pm_program.specs.declared.flat.Reason.TheVariants.{Range, Depth, Large, Content}
+use Rattle.pm_program.specs.Flat.{meaning}
+use Rattle.pm_program.specs.Making.{makes}
+use Rattle.pm_program.specs.Forms.{doc_data, step_data}
+use Rattle.pm_program.specs.Reading.{SessionOf}
+
+-- ---- words of a line
+
+-- a blank between two words
+infixl 20 ◌&◌
+abbrev pub ◌&◌ : List ℕ → List ℕ → List ℕ
+a & b = a ++ 32 ∷ b
+
+-- a line ends with LF
+abbrev pub line : List ℕ → List ℕ
+line words = words ++ 10 ∷ []
+
+-- a list of numbers, as compact JSON
+abbrev pub number_items : List ℕ → Items
+number_items [] = no_items
+number_items (n ∷ ns) = item (number (unsigned n)) (number_items ns)
+
+abbrev pub list_text : List ℕ → List ℕ
+list_text ns = compact_text (array (number_items ns))
+
+abbrev pub doc_text : List ℕ → List ℕ
+doc_text doc = compact_text (doc_data doc)
+
+abbrev pub step_text : Replace → List ℕ
+step_text step = compact_text (step_data step)
+
+-- ---- what became of a line
+
+abbrev pub reason_text : Reason → List ℕ
+reason_text Range = codes "1"
+reason_text Depth = codes "4"
+reason_text Large = codes "7"
+reason_text (Content at) = codes "9" & decimal at
+
+abbrev pub told_text : Told Replace (Unit {0}) (List ℕ) Reason → List ℕ
+told_text (Accepted from count) = codes "accepted" & decimal from & decimal count
+told_text (Version n) = codes "version" & decimal n
+told_text (ToldRefused index reason) = codes "refused" & decimal index & reason_text reason
+
+abbrev pub taken_text : Taken → List ℕ
+taken_text (Confirmed own) = codes "confirmed" & decimal own
+taken_text Stale = codes "stale"
+taken_text TakenRefused = codes "kept"
+
+abbrev pub outcome_text : Outcome Replace (Unit {0}) (List ℕ) Reason → List ℕ
+outcome_text (Made count) = codes "made" & decimal count
+outcome_text NoRange = codes "no range"
+outcome_text NoPlace = codes "no place"
+outcome_text NoFit = codes "no fit"
+outcome_text (Refused index reason) = codes "refused" & decimal index & reason_text reason
+outcome_text (Exchanged told taken) = told_text told ++ codes ";" & taken_text taken
+
+-- for each line its number and its outcome
+abbrev pub outcome_lines : List (Line Replace) → List (Outcome Replace (Unit {0}) (List ℕ) Reason) → List ℕ
+outcome_lines [] outcomes = []
+outcome_lines (l ∷ lines) [] = []
+outcome_lines (l ∷ lines) (o ∷ outcomes) = line (decimal l.number & outcome_text o) ++ outcome_lines lines outcomes
+
+-- ---- how the editor and the authority stand
+
+abbrev pub serial_of : Named Replace → ℕ
+serial_of step = step.name.serial
+
+-- name, version, pending serials, dropped serials, cursors and document; none is dropped and there is no cursor
+abbrev pub client_line : List ℕ → Client Replace (Unit {0}) (List ℕ) Reason → List ℕ
+client_line name c = line (codes "client" & name & decimal c.version & list_text (map serial_of c.pending) & codes "[]" & codes "[]" & doc_text c.doc)
+
+-- each entry of the log, counted from 1, with the name of the client that made it
+abbrev pub entry_lines : List ℕ → ℕ → List (Named Replace) → List ℕ
+entry_lines name i [] = []
+entry_lines name i (n ∷ log) = line (decimal i & name & decimal n.name.serial & step_text n.change) ++ entry_lines name (i + 1) log
+
+-- name, version, dropped serials and cursors
+abbrev pub settled_line : List ℕ → Client Replace (Unit {0}) (List ℕ) Reason → List ℕ
+settled_line name c = line (codes "settled" & name & decimal c.version & codes "[]" & codes "[]")
+
+-- ---- the whole
+
+-- the outcomes, the editor before it settles, the log after that, the editor again, and the authority's document
+abbrev pub report : List ℕ → List (Line Replace) → List (Outcome Replace (Unit {0}) (List ℕ) Reason)
+    → Room Replace (Unit {0}) (List ℕ) Reason → Room Replace (Unit {0}) (List ℕ) Reason → List ℕ
+report name lines outcomes before after =
+    outcome_lines lines outcomes
+    ++ client_line name before.editor
+    ++ line (codes "log" & decimal (length after.authority.log))
+    ++ entry_lines name 1 after.authority.log
+    ++ settled_line name after.editor
+    ++ line (codes "final" & doc_text after.authority.doc)
+
+-- what arises by playing the session's lines in file order in a room opened at its document
+abbrev pub playing : SessionOf → List (Outcome Replace (Unit {0}) (List ℕ) Reason) × Room Replace (Unit {0}) (List ℕ) Reason
+playing s = session meaning tt (makes tt) (opened s.text) s.lines
+
+abbrev pub report_of : SessionOf → List ℕ
+report_of s = report s.client s.lines (playing s).0 (playing s).1 (settled meaning tt (playing s).1)

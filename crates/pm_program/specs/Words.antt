@@ -1,0 +1,11 @@
+-- The words of the command line.
+use Rattle.std.specs.Prelude.{ℕ, List, [], ◌∷◌, codes, Option, Some, None, nat_eq, if◌then◌else◌}
+use Rattle.std.specs.Cmp.Lexicographic.{pointwise}
+use Rattle.pm_program.specs.declared.words.Command.{Command}
+use Rattle.pm_program.specs.declared.words.Command.TheVariants.{Replay}
+
+-- what the words ask for; None where they are none of the forms
+abbrev pub command_of : List (List ℕ) → Option Command
+command_of [] = None
+command_of (word ∷ []) = if pointwise nat_eq word (codes "replay") then Some Replay else None
+command_of (word ∷ next ∷ more) = None

@@ -1,0 +1,92 @@
+//! What is written for an input.
+ghost use Rattle.std.specs.Prelude.{◌≡◌, ◌≤◌, ℕ, List, codes, decimal, length, string_bytes, true, false, All, IfOk, IsErrOf, Some};
+ghost use Rattle.pm_io.specs.Faults.{Rose};
+ghost use Rattle.pm_program.specs.Output.{text_of, status_for};
+ghost use Rattle.pm_program.specs.Reading.{session_of};
+ghost use Rattle.pm_program.specs.Report.{◌&◌, line, report_of};
+ghost use Rattle.pm_program.specs.SessionViews.{session_view};
+
+use crate::call::Status;
+use crate::fault::SessionError;
+use crate::flat::Replace;
+use crate::making::StepMaker;
+use crate::report::{client_line, report};
+use crate::session::{Session, read_session};
+use pm_io::{ReadError, Source, read_all};
+use pm_session::Room;
+use std::alloc::{AllocError, Global};
+
+/// The greatest number of bytes of an input.
+const MAX_INPUT: usize = 67_108_864;
+
+/// What is to be written, and the status that says so.
+#[derive(Drop)]
+pub struct Answer {
+    pub status: Status,
+    pub text: String,
+}
+
+/// The answer to what a source gives.
+pub fn replay_answer<R: Source>(alloc: Global, source: &mut R) -> Result<Answer, ReadError>
+    ensures text { IfOk result (λ a. (input : List ℕ) → R.left source.old ≡ Some input
+        → string_bytes a.text ≡ text_of (session_of input)) }
+    ensures status { IfOk result (λ a. (input : List ℕ) → R.left source.old ≡ Some input
+        → a.status ≡ status_for (session_of input)) }
+    ensures answers { IfOk result (λ a. IsAnswer a.status) }
+    ensures fault { IsErrOf result ReadError.ReadFault → Rose (R.faults source.old) (R.faults source.new) }
+    ensures read { IsErrOf result ReadError.TooLong → ⊥ }
+{
+    match read_all(alloc, source, MAX_INPUT) {
+        Ok(input) => Ok(answer_to(alloc, &input)?),
+        Err(ReadError::TooLong) => Ok(refused(alloc, 0, 1)?),
+        Err(e) => Err(e),
+    }
+}
+
+ghost use Rattle.pm_program.specs.Output.{IsAnswer};
+
+fn answer_to(alloc: Global, input: &[u8]) -> Result<Answer, AllocError>
+    ensures text { IfOk result (λ a. string_bytes a.text ≡ text_of (session_of input.now)) }
+    ensures status { IfOk result (λ a. a.status ≡ status_for (session_of input.now)) }
+{
+    match read_session(alloc, input) {
+        Ok(session) => Ok(Answer {
+            status: Status::Done,
+            text: replay(alloc, &session)?,
+        }),
+        Err(SessionError::Refused { line, code }) => refused(alloc, line, code),
+        Err(SessionError::NoMemory) => Err(AllocError),
+    }
+}
+
+/// The report of a session, whose lines are played in file order.
+fn replay(alloc: Global, session: &Session) -> Result<String, AllocError>
+    requires clients { All (λ line. line.client ≡ 0) session.now.lines.items }
+    requires few { length session.now.text ≤ 400000 }
+    ensures { IfOk result (λ s. string_bytes s ≡ report_of (session_view session.now)) }
+{
+    let name = session.client.as_str();
+    let doc = session.text.copy(alloc)?;
+    let mut room: Room<Replace> = Room::new(alloc, &(), doc, &[false])?;
+    let outcomes = room.play_all(alloc, &(), &StepMaker, &session.lines)?;
+    let standing = client_line(alloc, name, room.editor())?;
+    room.settle(alloc, &())?;
+    report(
+        alloc,
+        name,
+        &session.lines,
+        &outcomes,
+        standing.as_str(),
+        &room,
+    )
+}
+
+fn refused(alloc: Global, number: u32, code: u32) -> Result<Answer, AllocError>
+    ensures text { IfOk result (λ a. string_bytes a.text ≡ line (codes "refused" & decimal number & decimal code)) }
+    ensures status { IfOk result (λ a. a.status ≡ Status.SessionRefused) }
+{
+    Ok(Answer {
+        status: Status::SessionRefused,
+        text: format!(in alloc; "refused {number} {code}\n")?,
+    })
+}

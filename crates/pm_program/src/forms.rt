@@ -1,0 +1,247 @@
+//! The JSON values of a session's lines, and what each holds.
+ghost use Rattle.std.specs.Prelude.{◌≡◌, codes, option_map, true, IfSome};
+ghost use Rattle.serde_json.specs.View.{view, items_view};
+ghost use Rattle.pm_program.specs.Letters.{all_printable};
+ghost use Rattle.pm_program.specs.Forms.{has_members, has_text, text_at, single, only_item, only_child, some_letters, text_in, paragraph_in, doc_in, position_at, slice_in, inserted, step_in, as_name, is_name_letter, client_in};
+
+use crate::letters::all_printable;
+use serde_json::Value;
+
+/// Whether the value is an object of exactly so many members.
+#[tactic(auto, using(crate::proofs::Counts::counts))]
+pub fn has_members(json: &Value, count: usize) -> bool
+    ensures { result ≡ has_members count (view json.now) }
+{
+    match json.as_object() {
+        Some(members) => members.len() == count,
+        None => false,
+    }
+}
+
+fn text_at<'a>(json: &'a Value, key: &str) -> Option<&'a str>
+    ensures { option_map (λ s. s.now) result ≡ text_at key.now (view json.now) }
+{
+    match json.get(key) {
+        Some(value) => value.as_str(),
+        None => None,
+    }
+}
+
+/// Whether the member at this key is this text.
+pub fn has_text(json: &Value, key: &str, text: &str) -> bool
+    ensures { result ≡ has_text key.now text.now (view json.now) }
+{
+    match text_at(json, key) {
+        Some(found) => text == found,
+        None => false,
+    }
+}
+
+/// The only item of a list.
+fn only_item(json: &Value) -> Option<&Value>
+    ensures { option_map (λ v. view v.now) result ≡ only_item (view json.now) }
+{
+    match json.as_array() {
+        Some(items) => single(items),
+        None => None,
+    }
+}
+
+#[tactic(auto, using(crate::proofs::Counts::counts))]
+fn single(items: &[Value]) -> Option<&Value>
+    ensures { option_map (λ v. view v.now) result ≡ single (items_view items.now) }
+{
+    match items {
+        [] => None,
+        [item] => Some(item),
+        [_, _, ..] => None,
+    }
+}
+
+/// The only item of the list at `content`.
+fn only_child(json: &Value) -> Option<&Value>
+    ensures { option_map (λ v. view v.now) result ≡ only_child (view json.now) }
+{
+    match json.get("content") {
+        Some(content) => only_item(content),
+        None => None,
+    }
+}
+
+/// One or more characters from U+0020 to U+007E.
+fn some_letters(text: &str) -> Option<&str>
+    ensures found { option_map (λ s. s.now) result ≡ some_letters text.now }
+    ensures printable { IfSome result (λ s. all_printable s.now ≡ true) }
+{
+    if !text.is_empty() && all_printable(text) {
+        Some(text)
+    } else {
+        None
+    }
+}
+
+/// The text of a text node.
+fn text_in(json: &Value) -> Option<&str>
+    ensures found { option_map (λ s. s.now) result ≡ text_in (view json.now) }
+    ensures printable { IfSome result (λ s. all_printable s.now ≡ true) }
+{
+    if !(has_members(json, 2) && has_text(json, "type", "text")) {
+        return None;
+    }
+    match text_at(json, "text") {
+        Some(text) => some_letters(text),
+        None => None,
+    }
+}
+
+/// The text of a paragraph, which has a text node or nothing.
+fn paragraph_in(json: &Value) -> Option<&str>
+    ensures found { option_map (λ s. s.now) result ≡ paragraph_in (view json.now) }
+    ensures printable { IfSome result (λ s. all_printable s.now ≡ true) }
+{
+    if !has_text(json, "type", "paragraph") {
+        return None;
+    }
+    if has_members(json, 1) {
+        return Some("");
+    }
+    if !has_members(json, 2) {
+        return None;
+    }
+    match only_child(json) {
+        Some(child) => text_in(child),
+        None => None,
+    }
+}
+
+/// The text of a document of one paragraph.
+pub fn doc_in(json: &Value) -> Option<&str>
+    ensures found { option_map (λ s. s.now) result ≡ doc_in (view json.now) }
+    ensures printable { IfSome result (λ s. all_printable s.now ≡ true) }
+{
+    if !(has_members(json, 2) && has_text(json, "type", "doc")) {
+        return None;
+    }
+    match only_child(json) {
+        Some(child) => paragraph_in(child),
+        None => None,
+    }
+}
+
+/// A whole number below 2^32.
+fn position_at(json: &Value, key: &str) -> Option<u32>
+    ensures { result ≡ position_at key.now (view json.now) }
+{
+    match json.get(key) {
+        Some(value) => match value.as_u64() {
+            Some(number) => small(number),
+            None => None,
+        },
+        None => None,
+    }
+}
+
+fn small(number: u64) -> Option<u32>
+    ensures { result ≡ small number }
+{
+    if number <= 0xffff_ffff {
+        Some(number as u32)
+    } else {
+        None
+    }
+}
+
+ghost use Rattle.pm_program.specs.Forms.{small};
+
+/// The text of a slice of one text node.
+fn slice_in(json: &Value) -> Option<&str>
+    ensures found { option_map (λ s. s.now) result ≡ slice_in (view json.now) }
+    ensures printable { IfSome result (λ s. all_printable s.now ≡ true) }
+{
+    if !has_members(json, 1) {
+        return None;
+    }
+    match only_child(json) {
+        Some(child) => text_in(child),
+        None => None,
+    }
+}
+
+/// The text that a step puts in, which is empty where it has no slice.
+fn inserted(json: &Value) -> Option<&str>
+    ensures found { option_map (λ s. s.now) result ≡ inserted (view json.now) }
+    ensures printable { IfSome result (λ s. all_printable s.now ≡ true) }
+{
+    if has_members(json, 3) {
+        return Some("");
+    }
+    if !has_members(json, 4) {
+        return None;
+    }
+    match json.get("slice") {
+        Some(slice) => slice_in(slice),
+        None => None,
+    }
+}
+
+/// A step as its value holds it.
+#[derive(Clone, Copy)]
+pub struct StepForm<'a> {
+    pub from: u32,
+    pub to: u32,
+    pub text: &'a str,
+}
+
+/// A step that replaces what stands between two positions by a text.
+pub fn step_in(json: &Value) -> Option<StepForm<'_>>
+    ensures found { option_map step_form result ≡ step_in (view json.now) }
+    ensures printable { IfSome result (λ s. all_printable s.text.now ≡ true) }
+{
+    if !has_text(json, "stepType", "replace") {
+        return None;
+    }
+    let from = position_at(json, "from")?;
+    let to = position_at(json, "to")?;
+    let text = inserted(json)?;
+    Some(StepForm { from, to, text })
+}
+
+ghost use Rattle.pm_program.specs.StepForms.{step_form};
+
+/// A client's name: 1 to 16 characters from a to z and from 0 to 9.
+fn as_name(text: &str) -> Option<&str>
+    ensures { option_map (λ s. s.now) result ≡ as_name text.now }
+{
+    if !text.is_empty() && text.len() <= 16 && all_name_letters(text) {
+        Some(text)
+    } else {
+        None
+    }
+}
+
+fn all_name_letters(text: &str) -> bool
+    ensures { result ≡ list_all is_name_letter text.now }
+{
+    text.as_bytes().iter().all(|b| is_name_letter(*b))
+}
+
+ghost use Rattle.std.specs.List.{list_all};
+
+fn is_name_letter(byte: u8) -> bool
+    ensures { result ≡ is_name_letter byte }
+{
+    (97 <= byte && byte <= 122) || (48 <= byte && byte <= 57)
+}
+
+/// The name in a list of one client.
+pub fn client_in(json: &Value) -> Option<&str>
+    ensures { option_map (λ s. s.now) result ≡ client_in (view json.now) }
+{
+    match only_item(json) {
+        Some(item) => match item.as_str() {
+            Some(name) => as_name(name),
+            None => None,
+        },
+        None => None,
+    }
+}

@@ -1,0 +1,66 @@
+//! Plays a session of ProseMirror documents that is read from standard input, and writes its report.
+#![tactic(auto)]
+
+mod answer;
+mod call;
+mod fault;
+mod flat;
+mod forms;
+mod letters;
+mod lines;
+mod making;
+mod report;
+mod schema_line;
+mod session;
+#[cfg(test)]
+mod tests;
+mod words;
+mod written;
+
+use call::{Status, run};
+use pm_io::{OpenGate, StdSink, StdSource};
+use std::alloc::{AllocError, Global};
+use std::process::ExitCode;
+use std::rt::Env;
+use std::{env, io};
+
+/// Runs the words of the command line over standard input and output. It tells a status from 2 to 5
+/// by one line on standard error, and ends with the status's number.
+fn main(rt: HostRuntime) -> io::Result<ExitCode> {
+    let alloc = rt.alloc();
+    let mut source = StdSource::new(rt.stdin());
+    let mut sink = StdSink::new(rt.stdout());
+    let status = match words_of(&rt) {
+        Ok(words) => run(alloc, &words, &mut source, &mut sink, &OpenGate),
+        Err(_) => Status::NoMemory,
+    };
+    match status {
+        Status::Done | Status::SessionRefused => {}
+        Status::Usage => eprintln!(rt; "usage: replay")?,
+        Status::ReadFault => eprintln!(rt; "read fault")?,
+        Status::WriteFault => eprintln!(rt; "write fault")?,
+        Status::NoMemory => eprintln!(rt; "no memory")?,
+    }
+    Ok(ExitCode::from(number_of(status)))
+}
+
+/// The words after the program's name.
+fn words_of(rt: &(impl Env + AllocGlobal)) -> io::Result<Vec<String>> {
+    let mut words = Vec::new(rt.alloc());
+    for word in env::args(rt)?.skip(1) {
+        words.push(word)?;
+    }
+    Ok(words)
+}
+
+/// The number with which the program ends.
+fn number_of(status: Status) -> u8 {
+    match status {
+        Status::Done => 0,
+        Status::SessionRefused => 1,
+        Status::Usage => 2,
+        Status::ReadFault => 3,
+        Status::WriteFault => 4,
+        Status::NoMemory => 5,
+    }
+}

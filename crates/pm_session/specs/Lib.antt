@@ -1,0 +1,4 @@
+pub mod Makes
+pub mod Clients
+pub mod Rooms
+pub mod Sessions
