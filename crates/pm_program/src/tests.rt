@@ -53,9 +53,10 @@ fn report_of_x(rt: &impl AllocGlobal) -> Result<String, Fail> {
     Ok(text)
 }
 
-fn words(rt: &impl AllocGlobal, given: &[&str]) -> Result<Vec<String>, Fail> {
+// The words of a text, which blanks part.
+fn words(rt: &impl AllocGlobal, text: &str) -> Result<Vec<String>, Fail> {
     let mut words = Vec::new(rt.alloc());
-    for word in given {
+    for word in text.split_whitespace() {
         words.push(String::from_str(rt.alloc(), word)?)?;
     }
     Ok(words)
@@ -64,7 +65,7 @@ fn words(rt: &impl AllocGlobal, given: &[&str]) -> Result<Vec<String>, Fail> {
 // Plays an input in ample memory, and gives the status and what was written.
 fn replay(rt: &impl AllocGlobal, input: Vec<u8>) -> Result<(Status, String), Fail> {
     let alloc = rt.alloc();
-    let words = words(rt, &["replay"])?;
+    let words = words(rt, "replay")?;
     let mut source = SureSource::new(input);
     let mut sink = SureSink::new(alloc, 100_000)?;
     let status = plain(alloc, &words, &mut source, &mut sink);
@@ -207,13 +208,7 @@ fn limits_refuse_the_line_that_passes_them(rt: HostRuntime) -> Result<(), Fail> 
 #[test]
 fn other_words_are_usage(rt: HostRuntime) -> Result<(), Fail> {
     let alloc = rt.alloc();
-    for given in [
-        [].as_slice(),
-        ["replay", "x"].as_slice(),
-        ["gen", "0", "1", "1"].as_slice(),
-        ["check"].as_slice(),
-        ["run"].as_slice(),
-    ] {
+    for given in ["", "replay x", "gen 0 1 1", "check", "run", "--help"] {
         let words = words(&rt, given)?;
         let mut source = SureSource::new(input(&rt, SCHEMA_LINE, &[AB])?);
         let mut sink = MemSink::new(alloc, 1000, Vec::new(alloc))?;
@@ -227,7 +222,7 @@ fn other_words_are_usage(rt: HostRuntime) -> Result<(), Fail> {
 #[test]
 fn a_failing_end_is_told(rt: HostRuntime) -> Result<(), Fail> {
     let alloc = rt.alloc();
-    let words = words(&rt, &["replay"])?;
+    let words = words(&rt, "replay")?;
     for (failing_read, room, want, front) in [
         (1u64, 1000usize, Status::ReadFault, ""),
         (2, 1000, Status::ReadFault, ""),
