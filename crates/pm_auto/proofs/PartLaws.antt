@@ -1,0 +1,205 @@
+-- The parts of an expansion.
+use Rattle.std.proofs.Common.{◌≡◌, ℕ, zero, suc, ◌+◌, ◌-◌, ◌*◌, ◌≤◌, ◌<◌, List, [], ◌∷◌, ◌++◌, length, map, take, get_or, Bool, true, false, ◌||◌, ◌&&◌, nat_eq, Option, Some, None, Result, Ok, Err, IfOk, ◌≢◌, refl, ap, sym, ◌∙◌, arith, add-zero, rules}
+use Rattle.std.proofs.lemmas.List.{take_more, map-append, length-map, length-append}
+use Rattle.std.proofs.Math.Nat.{mul-le-mul_right}
+use Rattle.pm_auto.specs.declared.places.Row.{Row}
+use Rattle.pm_auto.specs.declared.places.Part.{Part}
+use Rattle.pm_auto.specs.declared.expr.Expr.{Expr}
+use Rattle.pm_auto.specs.Core.{Core, Never, Empty, One, Alt, Cat, Loop, when, nullable}
+use Rattle.pm_auto.specs.Expand.{expand, and_copies, range, optional, one_of, in_turn}
+use Rattle.pm_auto.specs.Table.{onward, again, rows, firsts, width, widths, part, one_or, one_then, repeated}
+use Rattle.pm_auto.proofs.WidthLaws.{width-in_turn, width-one_of, width-and_copies, width-range}
+
+again-one : (fs : List ℕ) (kind : ℕ) (follow : List ℕ) (ends : Bool) → onward fs true record { kind = kind; follow = follow; ends = ends } ≡ again fs record { kind = kind; follow = follow; ends = ends }
+again-one fs kind follow true = refl
+again-one fs kind follow false = refl
+
+pub again-all : (fs : List ℕ) (rs : List Row) → map (onward fs true) rs ≡ map (again fs) rs
+again-all fs [] = refl
+again-all fs (r ∷ rs) = rw (again-one fs r.kind r.follow r.ends, again-all fs rs) refl
+
+-- there is a row for each place
+pub length-rows : (n : ℕ) (e : Core) → length (rows n e) ≡ width e
+length-rows n Never = refl
+length-rows n Empty = refl
+length-rows n (One k) = refl
+length-rows n (Alt a b) = length-append (rows n a) (rows (n + width a) b) ∙ rw (length-rows n a, length-rows (n + width a) b) refl
+length-rows n (Cat a b) =
+    length-append (map (onward (firsts (n + width a) b) (nullable b)) (rows n a)) (rows (n + width a) b)
+    ∙ rw (length-map (rows n a) (onward (firsts (n + width a) b) (nullable b)), length-rows n a, length-rows (n + width a) b) refl
+length-rows n (Loop a) = length-map (rows n a) (again (firsts n a)) ∙ length-rows n a
+
+-- parts put together
+pub part-or : (n m : ℕ) (e d : Core) (a b : Part) → a ≡ part n e → m ≡ n + length a.rows → b ≡ part m d → one_or a b ≡ part n (Alt e d)
+part-or n m e d a b ea em eb =
+    let w : length a.rows ≡ width e = ap (λ z. length z.rows) ea ∙ length-rows n e in
+    let s : m ≡ n + width e = em ∙ ap (λ z. n + z) w in
+    rw (ea, eb, s) refl
+
+pub part-then : (n m : ℕ) (e d : Core) (a b : Part) → a ≡ part n e → m ≡ n + length a.rows → b ≡ part m d → one_then a b ≡ part n (Cat e d)
+part-then n m e d a b ea em eb =
+    let w : length a.rows ≡ width e = ap (λ z. length z.rows) ea ∙ length-rows n e in
+    let s : m ≡ n + width e = em ∙ ap (λ z. n + z) w in
+    rw (ea, eb, s) refl
+
+pub part-optional : (n : ℕ) (d : Core) (b : Part) → b ≡ part n d → one_or record { rows = []; first = []; may_be_empty = true } b ≡ part n (optional d)
+part-optional n d b eb = rw (eb, add-zero) refl
+
+pub part-repeated : (n : ℕ) (d : Core) (b : Part) → b ≡ part n d → repeated b ≡ part n (Loop d)
+part-repeated n d b eb = rw eb refl
+
+-- one item more
+pub one_of-more : (e : Core) (ds : List Core) (d : Core) → one_of e (ds ++ d ∷ []) ≡ Alt (one_of e ds) d
+one_of-more e [] d = refl
+one_of-more e (x ∷ ds) d = one_of-more (Alt e x) ds d
+
+pub in_turn-more : (e : Core) (ds : List Core) (d : Core) → in_turn e (ds ++ d ∷ []) ≡ Cat (in_turn e ds) d
+in_turn-more e [] d = refl
+in_turn-more e (x ∷ ds) d = in_turn-more (Cat e x) ds d
+
+pub copies-more : (n : ℕ) (e d : Core) → and_copies e (suc n) d ≡ Cat (and_copies e n d) d
+copies-more zero e d = refl
+copies-more (suc n) e d = copies-more n (Cat e d) d
+
+pub items-more : (xs : List Expr) (i : ℕ) (x : Expr) → i < length xs → x ≡ get_or xs i x → map expand (take (i + 1) xs) ≡ map expand (take i xs) ++ expand x ∷ []
+items-more xs i x l is = ap (map expand) (take_more xs i x l ∙ ap (λ y. take i xs ++ y ∷ []) (sym is)) ∙ map-append expand (take i xs) (x ∷ [])
+
+widths-append : (ds es : List Core) → widths (ds ++ es) ≡ widths ds + widths es
+widths-append [] es = omega arith
+widths-append (d ∷ ds) es = omega (arith, widths-append ds es)
+
+pub widths-part : (xs : List Expr) (i : ℕ) → widths (map expand (take i xs)) ≤ widths (map expand xs)
+widths-part [] zero = omega arith
+widths-part [] (suc i) = omega arith
+widths-part (x ∷ xs) zero = omega arith
+widths-part (x ∷ xs) (suc i) = omega (arith, widths-part xs i)
+
+-- the items before one and that one fit where all do
+pub widths-more : (xs : List Expr) (i : ℕ) (x : Expr) → i < length xs → x ≡ get_or xs i x → widths (map expand (take i xs)) + width (expand x) ≤ widths (map expand xs)
+widths-more xs i x l is =
+    let a = ap widths (items-more xs i x l is) ∙ widths-append (map expand (take i xs)) (expand x ∷ []) in
+    let b = widths-part xs (i + 1) in
+    omega (arith, a, b)
+
+-- an expression without places
+pub rows-none : (n : ℕ) (e : Core) → width e ≡ 0 → rows n e ≡ []
+rows-none n e h = empty (rows n e) (length-rows n e ∙ h)
+  where
+    empty : (rs : List Row) → length rs ≡ 0 → rs ≡ []
+    empty [] h = refl
+    empty (r ∷ rs) h = absurd (omega arith)
+
+pub firsts-none : (n : ℕ) (e : Core) → width e ≡ 0 → firsts n e ≡ []
+firsts-none n Never h = refl
+firsts-none n Empty h = refl
+firsts-none n (One k) h = absurd (omega (arith, h))
+firsts-none n (Alt a b) h = rw (firsts-none n a (omega (arith, h)), firsts-none (n + width a) b (omega (arith, h))) refl
+firsts-none n (Cat a b) h = rw (firsts-none n a (omega (arith, h)), firsts-none (n + width a) b (omega (arith, h))) (when-none (nullable a))
+  where
+    when-none : (c : Bool) → when {A = ℕ} c [] ≡ []
+    when-none true = refl
+    when-none false = refl
+firsts-none n (Loop a) h = firsts-none n a h
+
+pub nullable-copies : (n : ℕ) (e d : Core) → nullable (and_copies e n d) ≡ nullable e && (nat_eq n 0 || nullable d)
+nullable-copies zero e d = and-all (nullable e)
+  where
+    and-all : (b : Bool) → b ≡ b && true
+    and-all true = refl
+    and-all false = refl
+nullable-copies (suc n) e d = nullable-copies n (Cat e d) d ∙ twice (nullable e) (nat_eq n 0) (nullable d) ∙ ap (λ z. nullable e && (z || nullable d)) (sym (not-zero n))
+  where
+    twice : (a b c : Bool) → (a && c) && (b || c) ≡ a && (false || c)
+    twice true true true = refl
+    twice true false true = refl
+    twice true b false = refl
+    twice false b c = refl
+
+    not-zero : (n : ℕ) → nat_eq (suc n) 0 ≡ false
+    not-zero n = search (rules, arith)
+
+-- a repetition without places
+pub part-none : (n low : ℕ) (high : Option ℕ) (d : Core) → width d ≡ 0 → record { rows = []; first = []; may_be_empty = nat_eq low 0 || nullable d } ≡ part n (range d low high)
+part-none n low high d h =
+    let w : width (range d low high) ≡ 0 = width-range d low high ∙ rw h (omega arith) in
+    rw (rows-none n (range d low high) w, firsts-none n (range d low high) w) (ap (λ z. record { rows = []; first = []; may_be_empty = z }) (sym (may-end high)))
+  where
+    may-end : (high : Option ℕ) → nullable (range d low high) ≡ nat_eq low 0 || nullable d
+    may-end None = rw (nullable-copies low Empty d) (last (nat_eq low 0 || nullable d) (nullable d))
+      where
+        last : (a b : Bool) → (true && a) && (true || b) ≡ a
+        last true b = refl
+        last false b = refl
+    may-end (Some m) = rw (nullable-copies (m - low) (and_copies Empty low d) (optional d), nullable-copies low Empty d) (last (nat_eq low 0 || nullable d) (nat_eq (m - low) 0))
+      where
+        last : (a b : Bool) → (true && a) && (b || (true || nullable d)) ≡ a
+        last true true = refl
+        last true false = refl
+        last false b = refl
+
+length-part : (n : ℕ) (e : Core) (p : Part) → p ≡ part n e → length p.rows ≡ width e
+length-part n e p is = ap (λ z. length z.rows) is ∙ length-rows n e
+
+module _ (n : ℕ) (xs : List Expr) (i : ℕ) (x : Expr) (p : Part) (k : ℕ) (l : i < length xs) (is : x ≡ get_or xs i x) (ek : k ≡ length p.rows) where
+  pub room-choice : n + widths (map expand xs) ≤ 4096 → p ≡ part n (one_of Never (map expand (take i xs))) → n + k + width (expand x) ≤ 4096
+  room-choice r ep = omega (arith, r, ek, length-part n (one_of Never (map expand (take i xs))) p ep, width-one_of Never (map expand (take i xs)), widths-more xs i x l is)
+
+  pub room-turn : n + widths (map expand xs) ≤ 4096 → p ≡ part n (in_turn Empty (map expand (take i xs))) → n + k + width (expand x) ≤ 4096
+  room-turn r ep = omega (arith, r, ek, length-part n (in_turn Empty (map expand (take i xs))) p ep, width-in_turn Empty (map expand (take i xs)), widths-more xs i x l is)
+
+  pub step-choice : (q r : Part) → p ≡ part n (one_of Never (map expand (take i xs))) → q ≡ part (n + k) (expand x) → r ≡ one_or p q → r ≡ part n (one_of Never (map expand (take (i + 1) xs)))
+  step-choice q r ep eq er =
+      er ∙ part-or n (n + k) (one_of Never (map expand (take i xs))) (expand x) p q ep (ap (λ z. n + z) ek) eq
+      ∙ ap (part n) (sym (ap (one_of Never) (items-more xs i x l is) ∙ one_of-more Never (map expand (take i xs)) (expand x)))
+
+  pub step-turn : (q r : Part) → p ≡ part n (in_turn Empty (map expand (take i xs))) → q ≡ part (n + k) (expand x) → r ≡ one_then p q → r ≡ part n (in_turn Empty (map expand (take (i + 1) xs)))
+  step-turn q r ep eq er =
+      er ∙ part-then n (n + k) (in_turn Empty (map expand (take i xs))) (expand x) p q ep (ap (λ z. n + z) ek) eq
+      ∙ ap (part n) (sym (ap (in_turn Empty) (items-more xs i x l is) ∙ in_turn-more Empty (map expand (take i xs)) (expand x)))
+
+module _ (n i : ℕ) (e d : Core) (p : Part) (k : ℕ) (ek : k ≡ length p.rows) where
+  pub room-copies : (m : ℕ) → i < m → n + (width e + m * width d) ≤ 4096 → p ≡ part n (and_copies e i d) → n + k + width d ≤ 4096
+  room-copies m l r ep =
+      let a : suc i * width d ≤ m * width d = mul-le-mul_right (width d) (omega arith) in
+      omega (arith, r, ek, length-part n (and_copies e i d) p ep, width-and_copies i e d, a)
+
+  pub step-copies : (q r : Part) → p ≡ part n (and_copies e i d) → q ≡ part (n + k) d → r ≡ one_then p q → r ≡ part n (and_copies e (i + 1) d)
+  step-copies q r ep eq er =
+      er ∙ part-then n (n + k) (and_copies e i d) d p q ep (ap (λ z. n + z) ek) eq
+      ∙ (let g : i + 1 ≡ suc i = omega arith in ap (part n) (sym (ap (λ (z : ℕ). and_copies e z d) g ∙ copies-more i e d)))
+
+-- the two forms of a repetition
+module _ (n low : ℕ) (d : Core) where
+  pub room-low : (high : Option ℕ) → n + width (range d low high) ≤ 4096 → n + low * width d ≤ 4096
+  room-low None r = omega (arith, r, width-and_copies low Empty d)
+  room-low (Some m) r = omega (arith, r, width-and_copies low Empty d, width-and_copies (m - low) (and_copies Empty low d) (optional d))
+
+  pub room-more : (m : ℕ) → n + width (range d low (Some m)) ≤ 4096 → n + (low * width d + (m - low) * width d) ≤ 4096
+  room-more m r = omega (arith, r, width-and_copies low Empty d, width-and_copies (m - low) (and_copies Empty low d) (optional d))
+
+  pub room-last : (p : Part) (k : ℕ) → n + width (range d low None) ≤ 4096 → p ≡ part n (and_copies Empty low d) → k ≡ length p.rows → n + k + width d ≤ 4096
+  room-last p k r ep ek = omega (arith, r, ek, length-part n (and_copies Empty low d) p ep, width-and_copies low Empty d)
+
+  pub step-last : (p : Part) (k : ℕ) (q a b r : Part) → p ≡ part n (and_copies Empty low d) → k ≡ length p.rows → q ≡ part (n + k) d → a ≡ repeated q
+      → b ≡ one_or record { rows = []; first = []; may_be_empty = true } a → r ≡ one_then p b → r ≡ part n (range d low None)
+  step-last p k q a b r ep ek eq ea eb er =
+      er ∙ part-then n (n + k) (and_copies Empty low d) (optional (Loop d)) p b ep (ap (λ z. n + z) ek)
+      (eb ∙ part-optional (n + k) (Loop d) a (ea ∙ part-repeated (n + k) d q eq))
+
+pub low-none : (low : ℕ) (b x : Bool) → low ≡ 0 → b ≡ true → b ≡ nat_eq low 0 || x
+low-none zero b x e h = h
+low-none (suc low) b x e h = absurd (omega arith)
+
+pub low-some : (low : ℕ) (b x : Bool) → low ≢ 0 → b ≡ x → b ≡ nat_eq low 0 || x
+low-some zero b x e h = absurd (e refl)
+low-some (suc low) b x e h = h ∙ ap (λ z. z || x) (sym (not-zero low))
+  where
+    not-zero : (n : ℕ) → nat_eq (suc n) 0 ≡ false
+    not-zero n = search (rules, arith)
+
+pub none-is : (n low : ℕ) (high : Option ℕ) (d : Core) (b : Bool) (p : Part) → width d ≡ 0 → b ≡ nat_eq low 0 || nullable d → p ≡ record { rows = []; first = []; may_be_empty = b } → p ≡ part n (range d low high)
+none-is n low high d b p h eb ep = ep ∙ rw eb (part-none n low high d h)
+
+pub if_ok-map : {A E : Type 0} (P Q : A → Type 0) (r : Result A E) → ((x : A) → P x → Q x) → IfOk r P → IfOk r Q
+if_ok-map P Q (Ok x) f h = f x h
+if_ok-map P Q (Err e) f h = tt

@@ -1,0 +1,97 @@
+//! The states that can be reached, and their edges.
+ghost use Rattle.std.specs.Prelude.{◌≡◌, ◌<◌, Bool, true, false, length, IfOk, IfErr, OnOk, MatchOption};
+ghost use Rattle.pm_auto.specs.States.{Below, Apart, Edges_of, Too_many, set_at};
+ghost use Rattle.pm_auto.specs.Automata.{Is_automaton};
+ghost use Rattle.pm_auto.specs.Found.{Found, Grows, Placed, Only_wide};
+
+use crate::auto::{Auto, Edge, State};
+use crate::error::AutoError;
+use crate::places::Row;
+use crate::sets::{PlaceSet, after, types};
+use pm_list::Listed;
+use std::alloc::Global;
+
+/// The most states that an automaton may have.
+const MAX_STATES: usize = 1000;
+
+/// Whether the two are the same set.
+fn same(a: &PlaceSet, b: &PlaceSet) -> bool
+    ensures equal { result ≡ true → a.now ≡ b.now }
+    ensures different { result ≡ false → a.now ≡ b.now → ⊥ }
+{
+    a.ends == b.ends && a.places.as_slice() == b.places.as_slice()
+}
+
+/// The number of the state among those found, if it is one of them.
+fn find(sets: &[PlaceSet], set: &PlaceSet) -> Option<State>
+    ensures { MatchOption result (Apart set.now sets.now) (λ i. (i < length sets.now) × (set_at sets.now i ≡ set.now)) }
+{
+    for (i, other) in sets.iter().enumerate() {
+        if same(set, other) {
+            return Some(i);
+        }
+    }
+    None
+}
+
+/// The number of the state, which is put at the end where it is new.
+fn place(sets: &mut Listed<PlaceSet>, set: PlaceSet) -> Result<State, AutoError>
+    ensures ok { IfOk result (λ t. Placed sets.old set t sets.new) }
+    ensures err { IfErr result (λ e. Only_wide (Apart set sets.old × (999 < length sets.old)) e) }
+{
+    if let Some(state) = find(sets.as_slice(), &set) {
+        return Ok(state);
+    }
+    let state = sets.len();
+    if state >= MAX_STATES {
+        return Err(AutoError::TooWide);
+    }
+    sets.push(set)?;
+    Ok(state)
+}
+
+/// The edges of a state, one for each type at hand, in the order of their first places. The states that they lead to are put
+/// at the end where they are new.
+fn edges_of(
+    alloc: Global,
+    rows: &[Row],
+    sets: &mut Listed<PlaceSet>,
+    at: State,
+) -> Result<Listed<Edge>, AutoError>
+    requires found { Found rows.now sets.old }
+    requires within { at < length sets.old }
+    ensures edges { IfOk result (λ es. Edges_of rows.now sets.new (set_at sets.old at) es) }
+    ensures grows { OnOk result (Grows sets.old sets.new) }
+    ensures found { OnOk result (Found rows.now sets.new) }
+    ensures err { IfErr result (λ e. Only_wide (Too_many rows.now (set_at sets.old 0)) e) }
+{
+    let places = sets.as_slice()[at].places.as_slice();
+    let kinds = types(alloc, rows, places)?;
+    let mut edges = Listed::new(alloc);
+    for kind in kinds.as_slice() {
+        let next = after(alloc, rows, &sets.as_slice()[at], *kind)?;
+        let to = match place(sets, next) {
+            Ok(to) => to,
+            Err(error) => return Err(error),
+        };
+        edges.push(Edge { kind: *kind, to })?;
+    }
+    Ok(edges)
+}
+
+/// The automaton of these places and this start. `TooWide` where more than 1,000 states can be reached.
+pub fn explore(alloc: Global, rows: &[Row], start: PlaceSet) -> Result<Auto, AutoError>
+    requires { Below (length rows.now) start.places }
+    ensures ok { IfOk result (λ a. Is_automaton rows.now start a) }
+    ensures err { IfErr result (λ e. Only_wide (Too_many rows.now start) e) }
+{
+    let mut sets = Listed::new(alloc);
+    sets.push(start)?;
+    let mut edges: Listed<Listed<Edge>> = Listed::new(alloc);
+    'states: while edges.len() < sets.len() {
+        let at = edges.len();
+        let next = edges_of(alloc, rows, &mut sets, at)?;
+        edges.push(next)?;
+    }
+    Ok(Auto { sets, edges })
+}

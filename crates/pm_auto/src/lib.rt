@@ -1,0 +1,22 @@
+//! Content expressions, and the automata that run them over lists of node types.
+#![tactic(auto)]
+
+pub mod auto;
+mod edges;
+pub mod error;
+mod explore;
+pub mod expr;
+mod fills;
+mod layout;
+mod mixed;
+pub mod places;
+mod search;
+pub mod sets;
+#[cfg(test)]
+mod tests;
+mod width;
+mod wraps;
+
+pub use auto::{Auto, Edge, State};
+pub use error::AutoError;
+pub use expr::{Expr, TypeId};

@@ -1,0 +1,160 @@
+//! The places of an expression, and how they follow one another.
+ghost use Rattle.std.specs.Prelude.{◌≡◌, ◌++◌, ◌∷◌, [], map, true, false, IfOk, OnOk};
+ghost use Rattle.pm_auto.specs.Table.{onward, one_or, one_then, repeated};
+
+use crate::expr::TypeId;
+use pm_list::Listed;
+use std::alloc::{AllocError, Global};
+
+/// A place: an occurrence of a type in the expansion, with the numbers of the places that may come next, and whether the
+/// content may end behind it.
+#[derive(Drop, Debug)]
+pub struct Row {
+    pub kind: TypeId,
+    pub follow: Listed<usize>,
+    pub ends: bool,
+}
+
+/// The places of a part of the expansion, the numbers of those that may come first, and whether the part may be empty.
+#[derive(Drop, Debug)]
+pub struct Part {
+    pub rows: Listed<Row>,
+    pub first: Listed<usize>,
+    pub may_be_empty: bool,
+}
+
+/// A part without places.
+pub(crate) fn no_places(alloc: Global, may_be_empty: bool) -> Part
+    ensures { result ≡ record { rows = []; first = []; may_be_empty = may_be_empty } }
+{
+    Part {
+        rows: Listed::new(alloc),
+        first: Listed::new(alloc),
+        may_be_empty,
+    }
+}
+
+/// The part with the one place of this number and type.
+pub(crate) fn one_place(alloc: Global, number: usize, kind: TypeId) -> Result<Part, AllocError>
+    ensures { IfOk result (λ p. p ≡ record { rows = record { kind = kind; follow = []; ends = true } ∷ []; first = number ∷ []; may_be_empty = false }) }
+{
+    let mut rows = Listed::new(alloc);
+    rows.push(Row {
+        kind,
+        follow: Listed::new(alloc),
+        ends: true,
+    })?;
+    let mut first = Listed::new(alloc);
+    first.push(number)?;
+    Ok(Part {
+        rows,
+        first,
+        may_be_empty: false,
+    })
+}
+
+/// One part or the other.
+pub(crate) fn either(a: Part, b: Part) -> Result<Part, AllocError>
+    ensures { IfOk result (λ p. p ≡ one_or a b) }
+{
+    let Part {
+        mut rows,
+        mut first,
+        may_be_empty,
+    } = a;
+    rows.append(b.rows)?;
+    first.append(b.first)?;
+    Ok(Part {
+        rows,
+        first,
+        may_be_empty: may_be_empty || b.may_be_empty,
+    })
+}
+
+/// One part and then the other.
+pub(crate) fn then(alloc: Global, a: Part, b: Part) -> Result<Part, AllocError>
+    ensures { IfOk result (λ p. p ≡ one_then a b) }
+{
+    let Part {
+        rows,
+        mut first,
+        may_be_empty,
+    } = a;
+    let Part {
+        rows: others,
+        first: next,
+        may_be_empty: may_end,
+    } = b;
+    let mut rows = go_on(alloc, rows, next.as_slice(), may_end)?;
+    rows.append(others)?;
+    if may_be_empty {
+        first.append(next)?;
+    }
+    Ok(Part {
+        rows,
+        first,
+        may_be_empty: may_be_empty && may_end,
+    })
+}
+
+/// The part once or more often.
+pub(crate) fn repeat(alloc: Global, a: Part) -> Result<Part, AllocError>
+    ensures { IfOk result (λ p. p ≡ repeated a) }
+{
+    let Part {
+        rows,
+        first,
+        may_be_empty,
+    } = a;
+    let rows = go_on(alloc, rows, first.as_slice(), true)?;
+    Ok(Part {
+        rows,
+        first,
+        may_be_empty,
+    })
+}
+
+/// Each place that may be the last goes on with these places; it stays one that may be the last where `ends` says so.
+fn go_on(
+    alloc: Global,
+    rows: Listed<Row>,
+    first: &[usize],
+    ends: bool,
+) -> Result<Listed<Row>, AllocError>
+    ensures { IfOk result (λ rs. rs ≡ map (onward first.now ends) rows) }
+{
+    let mut all = Listed::new(alloc);
+    for row in rows.into_vec() {
+        all.push(go_on_from(row, first, ends)?)?;
+    }
+    Ok(all)
+}
+
+/// The same for one place.
+fn go_on_from(row: Row, first: &[usize], ends: bool) -> Result<Row, AllocError>
+    ensures { IfOk result (λ r. r ≡ onward first.now ends row) }
+{
+    let Row {
+        kind,
+        mut follow,
+        ends: may_end,
+    } = row;
+    if may_end {
+        extend(&mut follow, first)?;
+    }
+    Ok(Row {
+        kind,
+        follow,
+        ends: may_end && ends,
+    })
+}
+
+/// Puts the numbers behind the last one.
+fn extend(list: &mut Listed<usize>, more: &[usize]) -> Result<(), AllocError>
+    ensures { OnOk result (list.new ≡ list.old ++ more.now) }
+{
+    for number in more {
+        list.push(*number)?;
+    }
+    Ok(())
+}

@@ -1,0 +1,12 @@
+pub mod Moves
+pub mod Through
+pub mod Mirrors
+pub mod Fits
+pub mod Stills
+pub mod Firsts
+pub mod Laws
+pub mod Recovers
+pub mod Growths
+pub mod Rooms
+pub mod Sizes
+pub mod Backs

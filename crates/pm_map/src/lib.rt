@@ -1,0 +1,13 @@
+//! Step maps and mappings: where positions go over steps, and how deleted ones come back.
+#![tactic(auto)]
+
+pub mod laws;
+pub mod mapping;
+mod passing;
+mod ranges;
+pub mod step_map;
+#[cfg(test)]
+mod tests;
+
+pub use mapping::{Mapping, Mirrored};
+pub use step_map::{Moved, Recover, Span, StepMap};

@@ -1,0 +1,167 @@
+//! Tables of sets, with ample memory.
+ghost use Rattle.std.specs.Prelude.{◌==◌, ◌≡◌, true, ◌↔◌};
+ghost use Rattle.std.proofs.Common.{arith};
+ghost use Rattle.std.proofs.lemmas.Bool.Decides.{nat_tests};
+
+use crate::{Mark, MarkRules, MarkSet, Same, SetError};
+use std::alloc::{AllocError, Global};
+use std::test::Fail;
+
+impl Same for u32 {
+    ghost equal = { λ x y. x == y };
+
+    fn same(&self, other: &u32) -> bool {
+        *self == *other
+    }
+
+    fn copy(&self, _alloc: Global) -> Result<u32, AllocError> {
+        Ok(*self)
+    }
+
+    ghost is_equality = { λ x y. Prim.grind (arith, nat_tests) };
+}
+
+/// The types of a usual schema: a link, em and strong exclude their own type, and code excludes all.
+const LINK: usize = 0;
+
+const EM: usize = 1;
+
+const STRONG: usize = 2;
+
+const CODE: usize = 3;
+/// A comment excludes nothing, so a text may have many.
+const COMMENT: usize = 4;
+/// Up and down exclude each other and themselves.
+const UP: usize = 5;
+
+const DOWN: usize = 6;
+
+fn rules(alloc: Global) -> Result<MarkRules, AllocError> {
+    let table = [
+        [true, false, false, false, false, false, false],
+        [false, true, false, false, false, false, false],
+        [false, false, true, false, false, false, false],
+        [true, true, true, true, true, true, true],
+        [false, false, false, false, false, false, false],
+        [false, false, false, false, false, true, true],
+        [false, false, false, false, false, true, true],
+    ];
+    let mut rows = Vec::new(alloc);
+    for row in &table {
+        rows.push(row.to_vec(alloc)?)?;
+    }
+    Ok(MarkRules::new(rows))
+}
+
+fn marks(alloc: Global, list: &[(usize, u32)]) -> Result<Vec<Mark<u32>>, AllocError> {
+    let mut marks = Vec::new(alloc);
+    for (kind, attrs) in list {
+        marks.push(Mark {
+            kind: *kind,
+            attrs: *attrs,
+        })?;
+    }
+    Ok(marks)
+}
+
+/// Whether the set has these marks, each by its type and its attribute.
+fn is(set: &MarkSet<u32>, list: &[(usize, u32)]) -> bool {
+    set.marks().len() == list.len()
+        && set
+            .marks()
+            .iter()
+            .zip(list.iter())
+            .all(|(m, n)| m.kind == n.0 && m.attrs == n.1)
+}
+
+#[test]
+fn a_mark_is_added_by_the_rules(rt: HostRuntime) -> Result<(), Fail> {
+    let alloc = rt.alloc();
+    let rules = rules(alloc)?.copy(alloc)?;
+    let rows: [(&[(usize, u32)], (usize, u32), &[(usize, u32)]); 13] = [
+        (&[], (EM, 0), &[(EM, 0)]),
+        (&[(EM, 0)], (CODE, 0), &[(CODE, 0)]),
+        (&[(CODE, 0)], (EM, 0), &[(CODE, 0)]),
+        (&[(STRONG, 0)], (EM, 0), &[(EM, 0), (STRONG, 0)]),
+        (&[(EM, 0)], (STRONG, 0), &[(EM, 0), (STRONG, 0)]),
+        (
+            &[(EM, 0), (STRONG, 0)],
+            (STRONG, 0),
+            &[(EM, 0), (STRONG, 0)],
+        ),
+        (&[(LINK, 1), (EM, 0)], (LINK, 2), &[(LINK, 2), (EM, 0)]),
+        (&[(COMMENT, 1)], (COMMENT, 2), &[(COMMENT, 1), (COMMENT, 2)]),
+        (&[(COMMENT, 2)], (COMMENT, 1), &[(COMMENT, 2), (COMMENT, 1)]),
+        (
+            &[(COMMENT, 1), (UP, 0)],
+            (COMMENT, 2),
+            &[(COMMENT, 1), (COMMENT, 2), (UP, 0)],
+        ),
+        (&[(UP, 0)], (DOWN, 0), &[(DOWN, 0)]),
+        (&[(DOWN, 0)], (UP, 0), &[(UP, 0)]),
+        (&[(LINK, 1), (COMMENT, 1), (UP, 0)], (CODE, 0), &[(CODE, 0)]),
+    ];
+    for (before, (kind, attrs), after) in &rows {
+        let set = MarkSet::from_list(alloc, &rules, marks(alloc, before)?)?;
+        let mark = Mark {
+            kind: *kind,
+            attrs: *attrs,
+        };
+        assert!(rt; is(&set.add(alloc, &rules, &mark)?, after));
+    }
+    Ok(())
+}
+
+#[test]
+fn a_list_is_a_set_or_not(rt: HostRuntime) -> Result<(), Fail> {
+    let alloc = rt.alloc();
+    let rules = rules(alloc)?;
+    let sets: [&[(usize, u32)]; 4] = [
+        &[],
+        &[(EM, 0), (STRONG, 0)],
+        &[(LINK, 7), (COMMENT, 2), (COMMENT, 1), (DOWN, 0)],
+        &[(CODE, 0)],
+    ];
+    for list in &sets {
+        let set = MarkSet::from_list(alloc, &rules, marks(alloc, list)?)?;
+        assert!(rt; is(&set, list));
+        assert!(rt; set.same(&set.copy(alloc)?));
+    }
+    let others: [&[(usize, u32)]; 7] = [
+        &[(STRONG, 0), (EM, 0)],
+        &[(EM, 0), (EM, 0)],
+        &[(LINK, 1), (LINK, 2)],
+        &[(COMMENT, 1), (COMMENT, 1)],
+        &[(EM, 0), (CODE, 0)],
+        &[(CODE, 0), (UP, 0)],
+        &[(UP, 0), (DOWN, 0)],
+    ];
+    for list in &others {
+        assert!(rt;
+            MarkSet::from_list(alloc, &rules, marks(alloc, list)?).err() == Some(SetError::NotASet)
+        );
+    }
+    Ok(())
+}
+
+#[test]
+fn a_mark_is_found_and_taken_out_by_type_and_attributes(rt: HostRuntime) -> Result<(), Fail> {
+    let alloc = rt.alloc();
+    let rules = rules(alloc)?;
+    let empty: MarkSet<u32> = MarkSet::empty(alloc);
+    let link = Mark {
+        kind: LINK,
+        attrs: 1,
+    };
+    let other = Mark {
+        kind: LINK,
+        attrs: 2,
+    };
+    let set = empty.add(alloc, &rules, &link)?;
+    assert!(rt; set.has(&link) && !set.has(&other) && !empty.has(&link));
+    assert!(rt; is(&set.remove(alloc, &other)?, &[(LINK, 1)]));
+    assert!(rt; is(&set.remove(alloc, &link.copy(alloc)?)?, &[]));
+    assert!(rt; !link.same(&other) && !set.same(&empty));
+    assert!(rt; rules.excludes(CODE, EM) && !rules.excludes(EM, CODE) && !rules.excludes(9, EM));
+    Ok(())
+}

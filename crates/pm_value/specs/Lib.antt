@@ -1,0 +1,11 @@
+pub mod Plain
+pub mod Codes
+pub mod Views
+pub mod Falls
+pub mod Equal
+pub mod Answers
+pub mod Reading
+pub mod Writing
+pub mod Kept
+pub mod Told
+pub mod Lawful

@@ -1,0 +1,18 @@
+//! Values of attributes, and their JSON.
+#![tactic(auto)]
+
+mod copying;
+mod fault;
+mod reading;
+mod same;
+mod text;
+mod value;
+mod writing;
+
+pub use fault::ValueError;
+pub use reading::MAX_DEPTH;
+pub use text::Text;
+pub use value::{Field, Fields, Items, Value};
+
+#[cfg(test)]
+mod tests;
