@@ -1,5 +1,5 @@
 -- The answer that the definition gives is the one whose cause holds.
-use Rattle.std.specs.Prelude.{◌≡◌, ◌≢◌, ◌↔◌, ◌==◌, ℕ, ◌+◌, ◌⊎◌, Bool, true, false, if◌then◌else◌, zero, suc, List, [], ◌∷◌, length, take, Result, Ok, Err, IfOk, OnOk, refl}
+use Rattle.std.specs.Prelude.{◌≡◌, ◌≢◌, ◌↔◌, ◌==◌, ℕ, ◌+◌, ◌⊎◌, Bool, true, false, if◌then◌else◌, zero, suc, List, [], ◌∷◌, length, take, drop, Result, Ok, Err, IfOk, OnOk, refl}
 use Rattle.std.specs.declared.alloc.AllocError.{AllocError}
 use Rattle.std.proofs.Common.{ap, sym, subst, ◌∙◌, inl, inr, arith}
 use Rattle.std.proofs.lemmas.Bool.{eq-eqb, eqb-true}
@@ -8,9 +8,9 @@ use Rattle.pm_change.specs.Folds.{fold-cons}
 use Rattle.pm_authority.specs.declared.named.Named.{Named}
 use Rattle.pm_authority.specs.declared.running.Refusal.{Refusal}
 use Rattle.pm_authority.specs.declared.message.Message.{Message}
-use Rattle.pm_authority.specs.declared.message.Message.TheVariants.{Submit}
+use Rattle.pm_authority.specs.declared.message.Message.TheVariants.{Submit, Ask}
 use Rattle.pm_authority.specs.declared.message.Answer.{Answer}
-use Rattle.pm_authority.specs.declared.message.Answer.TheVariants.{Accepted, WrongVersion, StepRefused}
+use Rattle.pm_authority.specs.declared.message.Answer.TheVariants.{Accepted, WrongVersion, StepRefused, Entries}
 use Rattle.pm_authority.specs.declared.authority.Authority.{Authority}
 use Rattle.pm_authority.specs.Runs.{run, then_run, changes_of, StopsAt}
 use Rattle.pm_authority.specs.RunFolds.{run-fold, fold-run}
@@ -107,6 +107,7 @@ module _ {Rules Doc Reason C : Type 0} (m : Meaning Rules Doc Reason C) (rules :
           (if b then tried m rules a steps (run m rules a.doc 0 steps) else (WrongVersion (length a.log), a)).0
       from true e = tried-answer a version steps (eqb-true version (length a.log) e) (run m rules a.doc 0 steps) refl
       from false e = (λ same. absurd (let t = eq-eqb version (length a.log) same in cc), refl)
+  answer-right a (Ask version) = (refl, refl)
 
   -- the authority that the definition gives is what the answer leaves
   next-right : (a : Authority C Rules Doc Reason) (message : Message C)
@@ -119,6 +120,7 @@ module _ {Rules Doc Reason C : Type 0} (m : Meaning Rules Doc Reason C) (rules :
       from : (b : Bool) → IsNext m rules a (Submit version steps) (chosen b).0 (chosen b).1
       from true = tried-next a version steps (run m rules a.doc 0 steps) refl
       from false = refl
+  next-right a (Ask version) = refl
 
   current : (a : Authority C Rules Doc Reason) (version : ℕ) (steps : List (Named C)) → version ≡ length a.log
       → submitted m rules a version steps ≡ tried m rules a steps (run m rules a.doc 0 steps)
@@ -147,6 +149,11 @@ module _ {Rules Doc Reason C : Type 0} (m : Meaning Rules Doc Reason C) (rules :
       let ran = stopped-run a.doc 0 steps index reason h.1 in
       let at : 0 + index ≡ index = omega arith in
       ap (λ x. x.0) (current a version steps h.0) ∙ rw ran (ap (λ n. StepRefused n reason) at)
+  answer-only a (Submit version steps) (Entries since entries) h = absurd h
+  answer-only a (Ask version) (Entries since entries) h = ap (λ n. Entries n (drop version a.log)) (sym h.0) ∙ ap (λ l. Entries since l) (sym h.1)
+  answer-only a (Ask version) (Accepted from count) h = absurd h
+  answer-only a (Ask version) (WrongVersion size) h = absurd h
+  answer-only a (Ask version) (StepRefused index reason) h = absurd h
 
   -- each answer comes exactly where its cause holds
   pub present-causes : (r : Result (Answer C Rules Doc Reason) AllocError) (a : Authority C Rules Doc Reason) (message : Message C)

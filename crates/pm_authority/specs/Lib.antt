@@ -2,4 +2,5 @@ pub mod Runs
 pub mod Presents
 pub mod Kept
 pub mod Causes
+pub mod Requests
 pub mod RunFolds

@@ -1,6 +1,6 @@
 //! The authority.
 ghost use Rattle.std.specs.Prelude.{◌≡◌, ◌↔◌, [], IfOk, OnErr, OnOk};
-ghost use Rattle.pm_authority.specs.Presents.{presented, submitted};
+ghost use Rattle.pm_authority.specs.Presents.{presented, submitted, asked};
 ghost use Rattle.pm_authority.specs.Causes.{IsAnswer, IsNext};
 ghost use Rattle.pm_authority.specs.Kept.{IsKept};
 
@@ -56,8 +56,8 @@ impl<C: Change> Authority<C> {
 
     /// The answer to a message. A submission gets `WrongVersion` exactly where its version is not the log's length; else
     /// `StepRefused` exactly where one of its steps does not apply, by the first one's place, counted from 0, and its
-    /// reason. Both change nothing. Else the steps are appended to the log, and the answer is `Accepted`. Want of memory
-    /// changes nothing.
+    /// reason. Both change nothing. Else the steps are appended to the log, and the answer is `Accepted`. A request gets
+    /// `Entries`, the log from the place on that it names, and changes nothing. Want of memory changes nothing.
     ///
     /// `_client` is the client that presents the message. The answer does not depend on it; a history of calls records it.
     /// Under the rules that are lent, both documents must be good, and the log's steps must give the document. Each call
@@ -84,6 +84,7 @@ impl<C: Change> Authority<C> {
             Message::Submit { version, steps } => {
                 self.submit(alloc, rules, *version, steps.as_slice())
             }
+            Message::Ask { version } => self.entries(alloc, *version),
         }
     }
 
@@ -120,5 +121,22 @@ impl<C: Change> Authority<C> {
             }
             Err(Failed::NoMemory) => Err(AllocError),
         }
+    }
+
+    /// The log from place `since` on.
+    fn entries(&self, alloc: Global, since: u64) -> Result<Answer<C>, AllocError>
+        ensures { IfOk result (λ a. a ≡ (asked self.now since).0) }
+    {
+        let log = self.log.as_slice();
+        if since >= log.len() as u64 {
+            return Ok(Answer::Entries {
+                since,
+                entries: Listed::new(alloc),
+            });
+        }
+        Ok(Answer::Entries {
+            since,
+            entries: copy_steps(alloc, &log[since as usize..])?,
+        })
     }
 }

@@ -2,6 +2,7 @@
 #![tactic(auto)]
 
 pub mod authority;
+pub mod machine;
 pub mod message;
 pub mod named;
 pub mod running;
@@ -9,6 +10,7 @@ pub mod running;
 mod tests;
 
 pub use authority::Authority;
+pub use machine::Request;
 pub use message::{Answer, Message};
 pub use named::{Named, copy_steps};
 pub use pm_change::Name;

@@ -14,17 +14,34 @@ pub enum Message<C> {
         version: u64,
         steps: Listed<Named<C>>,
     },
+    /// A request for the log from place `version` on.
+    Ask {
+        version: u64,
+    },
 }
 
 /// What the authority answers. Versions, places and counts are numbers of steps.
 #[derive(Drop)]
 pub enum Answer<C: Change> {
     /// The steps are in the log: `count` of them, from place `from` on.
-    Accepted { from: u64, count: u64 },
+    Accepted {
+        from: u64,
+        count: u64,
+    },
     /// The version is not the log's length, which is `length`.
-    WrongVersion { length: u64 },
+    WrongVersion {
+        length: u64,
+    },
     /// Step `index` of the submission, counted from 0, is the first that does not apply, for this reason.
-    StepRefused { index: u64, reason: C::Reason },
+    StepRefused {
+        index: u64,
+        reason: C::Reason,
+    },
+    /// The steps of the log from place `since` on, the oldest first. There are none past the log's end.
+    Entries {
+        since: u64,
+        entries: Listed<Named<C>>,
+    },
 }
 
 impl<C: Change> Message<C> {
@@ -37,6 +54,7 @@ impl<C: Change> Message<C> {
                 version: *version,
                 steps: copy_steps(alloc, steps.as_slice())?,
             }),
+            Message::Ask { version } => Ok(Message::Ask { version: *version }),
         }
     }
 }

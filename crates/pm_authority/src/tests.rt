@@ -2,8 +2,8 @@
 ghost use Rattle.std.specs.Prelude.{◌≤◌, ◌<◌, ◌^◌, ◌+◌, ◌-◌, nat_lt, Ok, Err, if◌then◌else◌};
 ghost use Rattle.std.proofs.Common.{rules};
 
-use crate::{Answer, Authority, Message, Name, Named, apply_all, copy_steps};
-use pm_change::{Change, Failed};
+use crate::{Answer, Authority, Message, Name, Named, Request, apply_all, copy_steps};
+use pm_change::{Change, Failed, Machine};
 use pm_list::Listed;
 use std::alloc::{AllocError, Global};
 
@@ -79,6 +79,13 @@ fn state(authority: &Authority<Add>) -> (u64, u64, usize) {
     (*authority.first(), *authority.doc(), authority.log().len())
 }
 
+fn held(answer: &Answer<Add>) -> Option<(u64, usize)> {
+    match answer {
+        Answer::Entries { since, entries } => Some((*since, entries.len())),
+        _ => None,
+    }
+}
+
 #[test]
 fn a_submission_is_taken_whole_or_not_at_all(rt: HostRuntime) -> Result<(), AllocError> {
     let alloc = rt.alloc();
@@ -114,6 +121,13 @@ fn a_submission_is_taken_whole_or_not_at_all(rt: HostRuntime) -> Result<(), Allo
         );
     }
 
+    let request = Message::Ask { version: 1 }.copy(alloc)?;
+    let asked = authority.present(alloc, &limit, 8, &request)?;
+    assert_eq!(rt; held(&asked), Some((1, 1)));
+    let asked = authority.present(alloc, &limit, 8, &Message::Ask { version: 9 })?;
+    assert_eq!(rt; held(&asked), Some((9, 0)));
+    assert_eq!(rt; state(&authority), (40, 100, 2));
+
     let late = authority.present(alloc, &limit, 7, &message)?;
     assert!(rt; matches!(late, Answer::WrongVersion { length: 2 }));
     assert_eq!(rt; state(&authority), (40, 100, 2));
@@ -123,10 +137,29 @@ fn a_submission_is_taken_whole_or_not_at_all(rt: HostRuntime) -> Result<(), Allo
 #[test]
 fn steps_are_copied_and_run(rt: HostRuntime) -> Result<(), AllocError> {
     let alloc = rt.alloc();
-    let Message::Submit { version: _, steps } = submit(alloc, 0, &[5, 6])?;
+    let Message::Submit { version: _, steps } = submit(alloc, 0, &[5, 6])? else {
+        return Err(AllocError);
+    };
     let copies = copy_steps(alloc, steps.as_slice())?;
     assert!(rt; copies.len() == 2);
     let sum = apply_all(alloc, &100, &1, copies.as_slice());
     assert!(rt; matches!(sum, Ok(12)));
+    Ok(())
+}
+
+#[test]
+fn the_authority_answers_as_a_machine(rt: HostRuntime) -> Result<(), AllocError> {
+    let alloc = rt.alloc();
+    let mut authority: Authority<Add> = Authority::new(alloc, 40)?;
+    let request = Request {
+        client: 7,
+        message: submit(alloc, 0, &[10])?,
+    };
+    let accepted = authority.answer(alloc, &100, &request.copy(alloc)?)?;
+    assert!(rt; matches!(accepted, Answer::Accepted { from: 0, count: 1 }));
+    assert_eq!(rt; state(&authority), (40, 50, 1));
+    let again = authority.answer(alloc, &100, &request)?;
+    assert!(rt; matches!(again, Answer::WrongVersion { length: 1 }));
+    assert_eq!(rt; state(&authority), (40, 50, 1));
     Ok(())
 }

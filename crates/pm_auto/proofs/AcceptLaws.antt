@@ -172,11 +172,11 @@ run-dead : (rs : List Row) (k : ℕ) (s : PlaceSet) (w : List ℕ) → has k (ki
 run-dead rs k s w h = let r = step-none rs k s.places h in rw (r.0, r.1, order-none 0 rs) (run-none rs w)
 
 -- where an edge leads
-record Target (rs : List Row) (ss : List PlaceSet) (s : PlaceSet) (k : ℕ) (es : List Edge) : Type 0 where
-  to : ℕ
-  is : target k es ≡ Some to
-  inside : to < length ss
-  at : set_at ss to ≡ step rs k s
+pub record Target (rs : List Row) (ss : List PlaceSet) (s : PlaceSet) (k : ℕ) (es : List Edge) : Type 0 where
+  pub to : ℕ
+  pub is : target k es ≡ Some to
+  pub inside : to < length ss
+  pub at : set_at ss to ≡ step rs k s
 
 target-hit : (k : ℕ) (x : Edge) (es : List Edge) → eqb x.kind k ≡ true → target k (x ∷ es) ≡ Some x.to
 target-hit k x es q = rw q refl
@@ -184,7 +184,7 @@ target-hit k x es q = rw q refl
 target-skip : (k : ℕ) (x : Edge) (es : List Edge) → eqb x.kind k ≡ false → target k (x ∷ es) ≡ target k es
 target-skip k x es q = rw q refl
 
-lead-target : (rs : List Row) (ss : List PlaceSet) (s : PlaceSet) (k : ℕ) (es : List Edge) → Lead_on rs ss s es → has k (edge_kinds es) ≡ true → Target rs ss s k es
+pub lead-target : (rs : List Row) (ss : List PlaceSet) (s : PlaceSet) (k : ℕ) (es : List Edge) → Lead_on rs ss s es → has k (edge_kinds es) ≡ true → Target rs ss s k es
 lead-target rs ss s k [] h e = absurd (cc)
 lead-target rs ss s k (x ∷ es) h e = at (eqb x.kind k) refl (lead-target rs ss s k es h.1)
   where
@@ -200,7 +200,7 @@ no-target k (x ∷ es) e = at (eqb x.kind k) refl (no-target k es)
     at true q i = absurd (let t : true || has k (edge_kinds es) ≡ false = subst (λ (b : Bool). b || has k (edge_kinds es) ≡ false) q e in cc)
     at false q i = rw q (i (subst (λ (b : Bool). b || has k (edge_kinds es) ≡ false) q e))
 
-edges-of-at : (rs : List Row) (ss ts : List PlaceSet) (ess : List (List Edge)) (i : ℕ) → i < length ess → All_edges rs ss ts ess → Edges_of rs ss (set_at ts i) (edges_at ess i)
+pub edges-of-at : (rs : List Row) (ss ts : List PlaceSet) (ess : List (List Edge)) (i : ℕ) → i < length ess → All_edges rs ss ts ess → Edges_of rs ss (set_at ts i) (edges_at ess i)
 edges-of-at rs ss ts [] i l h = absurd (omega arith)
 edges-of-at rs ss [] (es ∷ ess) i l h = absurd h
 edges-of-at rs ss (t ∷ ts) (es ∷ ess) zero l h = h.0

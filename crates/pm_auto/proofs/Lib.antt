@@ -14,7 +14,9 @@ mod SetLaws
 mod OnceLaws
 mod StateLaws
 mod TypeLaws
+mod TreeLaws
 pub mod AcceptLaws
+mod FewLaws
 mod SearchLaws
 mod ShareLaws
 mod GraphLaws

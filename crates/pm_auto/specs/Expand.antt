@@ -13,6 +13,7 @@ abbrev pub in_turn : Core → List Core → Core
 in_turn e [] = e
 in_turn e (d ∷ ds) = in_turn (Cat e d) ds
 
+-- what comes before, or one of these
 abbrev pub one_of : Core → List Core → Core
 one_of e [] = e
 one_of e (d ∷ ds) = one_of (Alt e d) ds
@@ -33,6 +34,7 @@ written n None = n + 1
 written n (Some m) = max n m
 
 abbrev mutual
+  -- the expression with each repetition written out
   pub expand : Expr → Core
   expand Empty = core.Empty
   expand (One t) = core.One t
@@ -43,6 +45,7 @@ abbrev mutual
   expand (Opt' p e) = optional (expand e)
   expand (Range' p e n m) = range (expand e) n m
 
+  -- that of each part
   pub expand_all : {m : _} → Row_of-Expr m → List Core
   expand_all end_of-Expr = []
   expand_all (more_of-Expr e es) = expand e ∷ expand_all es

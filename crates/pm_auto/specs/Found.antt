@@ -11,6 +11,7 @@ abbrev pub All_below : ℕ → List PlaceSet → Type 0
 All_below n [] = Unit {0}
 All_below n (s ∷ ss) = Below n s.places × All_below n ss
 
+-- states that were found: each can be reached, no two are the same, and they are at most a thousand
 pub record Found (rs : List Row) (ss : List PlaceSet) : Type 0 where
   pub some : 0 < length ss
   pub reached : All_reached rs (set_at ss 0) ss

@@ -1,4 +1,5 @@
 pub mod Core
+pub mod Tree
 pub mod Lang
 pub mod Expand
 pub mod Table

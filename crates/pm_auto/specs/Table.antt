@@ -4,6 +4,7 @@ use Rattle.pm_auto.specs.declared.places.Row.{Row}
 use Rattle.pm_auto.specs.declared.places.Part.{Part}
 use Rattle.pm_auto.specs.Core.{Core, Never, Empty, One, Alt, Cat, Loop, nullable, when}
 
+-- how many places an expression has
 abbrev pub width : Core → ℕ
 width Never = 0
 width Empty = 0
@@ -12,6 +13,7 @@ width (Alt a b) = width a + width b
 width (Cat a b) = width a + width b
 width (Loop a) = width a
 
+-- the places that may come first, where the first of all has the number n
 abbrev pub firsts : ℕ → Core → List ℕ
 firsts n Never = []
 firsts n Empty = []
@@ -24,9 +26,11 @@ firsts n (Loop a) = firsts n a
 abbrev pub onward : List ℕ → Bool → Row → Row
 onward fs end r = record { kind = r.kind; follow = r.follow ++ when r.ends fs; ends = r.ends && end }
 
+-- a row whose content may begin again
 abbrev pub again : List ℕ → Row → Row
 again fs r = record { kind = r.kind; follow = r.follow ++ when r.ends fs; ends = r.ends }
 
+-- the row of each place, from the number n on
 abbrev pub rows : ℕ → Core → List Row
 rows n Never = []
 rows n Empty = []
@@ -35,6 +39,7 @@ rows n (Alt a b) = rows n a ++ rows (n + width a) b
 rows n (Cat a b) = map (onward (firsts (n + width a) b) (nullable b)) (rows n a) ++ rows (n + width a) b
 rows n (Loop a) = map (again (firsts n a)) (rows n a)
 
+-- how many places several expressions have together
 abbrev pub widths : List Core → ℕ
 widths [] = 0
 widths (e ∷ es) = width e + widths es
@@ -43,12 +48,14 @@ widths (e ∷ es) = width e + widths es
 abbrev pub part : ℕ → Core → Part
 part n e = record { rows = rows n e; first = firsts n e; may_be_empty = nullable e }
 
--- one part or the other, one and then the other, and one once or more often
+-- one part or the other
 abbrev pub one_or : Part → Part → Part
 one_or a b = record { rows = a.rows ++ b.rows; first = a.first ++ b.first; may_be_empty = a.may_be_empty || b.may_be_empty }
 
+-- one part and then the other
 abbrev pub one_then : Part → Part → Part
 one_then a b = record { rows = map (onward b.first b.may_be_empty) a.rows ++ b.rows; first = a.first ++ when a.may_be_empty b.first; may_be_empty = a.may_be_empty && b.may_be_empty }
 
+-- a part once or more often
 abbrev pub repeated : Part → Part
 repeated a = record { rows = map (again a.first) a.rows; first = a.first; may_be_empty = a.may_be_empty }

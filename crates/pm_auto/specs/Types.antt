@@ -3,6 +3,7 @@ use Rattle.std.specs.Prelude.{◌≡◌, ℕ, List, [], ◌∷◌, ◌++◌, Boo
 use Rattle.pm_auto.specs.declared.expr.Expr.{Expr, Empty, One, Choice', Seq', Plus', Star', Opt', Range', Row_of-Expr, end_of-Expr, more_of-Expr}
 
 abbrev mutual
+  -- the types that occur, from the left
   pub types : Expr → List ℕ
   types Empty = []
   types (One t) = t ∷ []
@@ -13,6 +14,7 @@ abbrev mutual
   types (Opt' p e) = types e
   types (Range' p e n m) = types e
 
+  -- those of all parts
   pub types_of_all : {m : _} → Row_of-Expr m → List ℕ
   types_of_all end_of-Expr = []
   types_of_all (more_of-Expr e es) = types e ++ types_of_all es
@@ -22,6 +24,7 @@ abbrev pub types_of_list : List Expr → List ℕ
 types_of_list [] = []
 types_of_list (e ∷ es) = types e ++ types_of_list es
 
+-- the two are equal
 abbrev pub same : Bool → Bool → Bool
 same true b = b
 same false true = false

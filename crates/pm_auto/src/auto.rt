@@ -3,6 +3,7 @@ ghost use Rattle.std.specs.Prelude.{◌≡◌, ◌<◌, ◌↔◌, ℕ, List, tr
 ghost use Rattle.pm_auto.specs.Graph.{Is_graph};
 ghost use Rattle.pm_auto.specs.GraphProps.{graph-prop};
 
+use crate::copies::{copy_edges, copy_sets};
 use crate::edges::{has_edge, links_of, may_end_at, share_type, target_of};
 use crate::error::AutoError;
 use crate::explore::explore;
@@ -47,7 +48,7 @@ impl Auto {
     ghost use Rattle.pm_auto.specs.Table.{width as places, rows};
     ghost use Rattle.pm_auto.specs.Runs.{fits};
     ghost use Rattle.pm_auto.specs.Automata.{Is_automaton};
-    ghost use Rattle.pm_auto.specs.States.{start_of};
+    ghost use Rattle.pm_auto.specs.States.{start_of, Too_many};
     ghost use Rattle.pm_auto.specs.Types.{Is_mixed};
     ghost use Rattle.pm_auto.specs.Walks.{accepted, target, edges_at, ends_at};
     ghost use Rattle.pm_auto.specs.Built.{Is_fault};
@@ -65,6 +66,7 @@ impl Auto {
         ensures automaton { IfOk result (λ a. Is_automaton (rows 0 (expand expr.now)) (start_of (expand expr.now)) a) }
         ensures language { IfOk result (λ a. (w : List ℕ) → (accepted a.sets a.edges 0 w ≡ true) ↔ In expr.now w) }
         ensures pure { IfOk result (λ _. (Is_mixed expr.now inline.now → ⊥) × (places (expand expr.now) < 4097)) }
+        ensures few { IfOk result (λ _. Too_many (rows 0 (expand expr.now)) (start_of (expand expr.now)) → ⊥) }
         ensures fault { IfErr result (λ e. Is_fault expr.now inline.now e) }
 
         // The test that definitions use for the language agrees with it.
@@ -84,6 +86,15 @@ impl Auto {
             ends: part.may_be_empty,
         };
         explore(alloc, rows, start)
+    }
+
+    /// An automaton equal to this one.
+    pub fn copy(&self, alloc: Global) -> Result<Auto, AllocError>
+        ensures { IfOk result (λ a. a ≡ self.now) }
+    {
+        let sets = copy_sets(alloc, self.sets.as_slice())?;
+        let edges = copy_edges(alloc, self.edges.as_slice())?;
+        Ok(Auto { sets, edges })
     }
 
     /// The state before any child.

@@ -2,6 +2,7 @@
 #![tactic(auto)]
 
 pub mod auto;
+mod copies;
 mod edges;
 pub mod error;
 mod explore;

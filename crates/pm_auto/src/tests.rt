@@ -173,3 +173,15 @@ fn the_small_schema_is_filled_and_wrapped(rt: HostRuntime) -> Result<(), Fail> {
     assert!(rt; !autos[2].compatible(&autos[4]));
     Ok(())
 }
+
+#[test]
+fn a_copy_accepts_the_same_lists(rt: HostRuntime) -> Result<(), Fail> {
+    let alloc = rt.alloc();
+    let blocks = plus(alloc, block(alloc)?)?;
+    let copied = blocks.copy(alloc)?;
+    let built = build(alloc, copied)?;
+    let auto = built.copy(alloc)?;
+    assert!(rt; accepts(&auto, auto.start(), [1, 4].as_slice()));
+    assert!(rt; !accepts(&auto, auto.start(), [].as_slice()));
+    Ok(())
+}

@@ -6,8 +6,10 @@
 
 pub mod change;
 pub mod failed;
+pub mod machine;
 pub mod name;
 
 pub use change::Change;
 pub use failed::Failed;
+pub use machine::Machine;
 pub use name::Name;

@@ -1,5 +1,5 @@
 -- The values of texts that are not empty, and lists that grow at their end.
-use Rattle.std.proofs.Common.{◌≡◌, ◌<◌, ◌+◌, ℕ, zero, suc, List, [], ◌∷◌, ◌++◌, length, take, map, get_or, refl, ap, ◌∙◌, sym, arith, codes}
+use Rattle.std.proofs.Common.{◌≡◌, ◌<◌, ℕ, List, [], ◌∷◌, ◌++◌, length, map, refl, ap, ◌∙◌, sym, arith, codes}
 use Rattle.std.proofs.lemmas.List.{map-append}
 use Rattle.serde_json.specs.Data.{Data, string, object, array, number, unsigned, Items, no_items, item, no_members, member}
 use Rattle.serde_json.specs.View.{items_of, items_view, view}
@@ -17,11 +17,6 @@ pub step_data-filled : (from to : ℕ) (text : List ℕ) → 0 < length text
     → step_data record { from = from; to = to; text = text } ≡ object (member (codes "from") (number (unsigned from)) (member (codes "slice") (object (member (codes "content") (array (item (text_data text) no_items)) no_members)) (member (codes "stepType") (string (codes "replace")) (member (codes "to") (number (unsigned to)) no_members))))
 step_data-filled from to [] h = absurd (omega arith)
 step_data-filled from to (c ∷ cs) h = refl
-
-pub map-take-more : {A B : Type 0} (f : A → B) (xs : List A) (i : ℕ) (x : A) → i < length xs → x ≡ get_or xs i x → map f (take (suc i) xs) ≡ map f (take i xs) ++ f x ∷ []
-map-take-more f [] i x h e = absurd (omega arith)
-map-take-more f (y ∷ ys) zero x h e = ap (λ z. f z ∷ []) (sym e)
-map-take-more f (y ∷ ys) (suc i) x h e = ap (λ l. f y ∷ l) (map-take-more f ys i x (omega arith) e)
 
 -- one item more at the end
 abbrev after : Items → Data → Items

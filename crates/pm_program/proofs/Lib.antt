@@ -5,3 +5,6 @@ pub mod Floats
 pub mod Filled
 pub mod Reports
 pub mod TooLong
+pub mod Names
+pub mod Tallies
+pub mod OpLists

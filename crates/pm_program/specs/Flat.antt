@@ -1,6 +1,6 @@
 -- The outcome of a step on a document of one paragraph, which is seen as the list of the paragraph's units.
-use Rattle.std.specs.Prelude.{◌≡◌, ℕ, ◌+◌, ◌-◌, ◌≤◌, ◌<◌, ◌^◌, ◌==◌, ◌&&◌, ◌||◌, Bool, true, false, nat_lt, nat_le, not, if◌then◌else◌, List, ◌++◌, length, take, drop, Result, Ok, Err}
-use Rattle.pm_change.specs.Changes.{Meaning, Laws}
+use Rattle.std.specs.Prelude.{ℕ, ◌+◌, ◌-◌, ◌≤◌, ◌==◌, ◌&&◌, ◌||◌, Bool, true, false, nat_lt, nat_le, not, if◌then◌else◌, List, ◌++◌, length, take, drop, Result, Ok, Err}
+use Rattle.pm_change.specs.Changes.{Meaning}
 use Rattle.pm_program.specs.declared.flat.Replace.{Replace}
 use Rattle.pm_program.specs.declared.flat.Reason.{Reason}
 use Rattle.pm_program.specs.declared.flat.Reason.TheVariants.{Range, Depth, Large, Content}

@@ -1,12 +1,11 @@
 -- The laws of a step on one paragraph.
-use Rattle.std.specs.Prelude.{◌≡◌, ℕ, ◌+◌, ◌-◌, ◌≤◌, ◌<◌, ◌^◌, Bool, true, false, nat_lt, nat_le, not, ◌&&◌, ◌||◌, if◌then◌else◌, List, ◌++◌, length, take, drop, Result, Ok, Err, refl}
+use Rattle.std.specs.Prelude.{◌≡◌, ℕ, ◌+◌, ◌-◌, ◌≤◌, Bool, true, false, nat_lt, not, ◌||◌, if◌then◌else◌, List, length, Ok, Err, refl}
 use Rattle.std.proofs.Common.{arith, subst, length-append, length-take, length-drop}
 use Rattle.std.proofs.lemmas.Bool.Decides.{nat_tests}
-use Rattle.pm_change.specs.Changes.{Meaning, Laws}
+use Rattle.pm_change.specs.Changes.{Laws}
 use Rattle.pm_program.specs.declared.flat.Replace.{Replace}
-use Rattle.pm_program.specs.declared.flat.Reason.{Reason}
 use Rattle.pm_program.specs.declared.flat.Reason.TheVariants.{Range, Depth, Large, Content}
-use Rattle.pm_program.specs.Flat.{meaning, size, max_size, outcome, is_inside, same, spliced, is_empty}
+use Rattle.pm_program.specs.Flat.{meaning, size, max_size, is_inside, same, spliced}
 
 spliced-size : (step : Replace) (doc : List ℕ) → step.from ≤ step.to → 1 ≤ step.from → step.to ≤ size doc - 1
     → size (spliced step doc) ≡ (size doc - (step.to - step.from)) + length step.text

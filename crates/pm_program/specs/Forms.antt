@@ -1,9 +1,9 @@
 -- The JSON values of a session's lines, and what each holds.
-use Rattle.std.specs.Prelude.{ℕ, suc, ◌+◌, ◌^◌, ◌==◌, ◌&&◌, ◌||◌, Bool, true, false, nat_lt, nat_le, nat_eq, if◌then◌else◌, List, [], ◌∷◌, length, codes, Option, Some, None, option_and_then, option_map, unwrap_or}
+use Rattle.std.specs.Prelude.{ℕ, suc, ◌^◌, ◌==◌, ◌&&◌, ◌||◌, Bool, true, false, not, is_some, nat_lt, nat_le, nat_eq, if◌then◌else◌, List, [], ◌∷◌, length, codes, Option, Some, None, option_and_then, option_map, unwrap_or}
 use Rattle.std.specs.Cmp.Lexicographic.{pointwise}
-use Rattle.std.specs.List.{list_all}
+use Rattle.std.specs.List.{list_all, list_any}
 use Rattle.serde_json.specs.Data.{Data, number, unsigned, string, array, object, Items, no_items, item, Members, no_members, member}
-use Rattle.serde_json.specs.Find.{get, as_str, as_array, as_object, as_number, as_u64}
+use Rattle.serde_json.specs.Find.{get, as_null, as_bool, as_str, as_array, as_object, as_number, as_u64}
 use Rattle.pm_program.specs.Letters.{all_printable}
 use Rattle.pm_program.specs.declared.flat.Replace.{Replace}
 
@@ -102,6 +102,27 @@ is_name_letter b = (nat_le 97 b && nat_le b 122) || (nat_le 48 b && nat_le b 57)
 abbrev pub as_name : List ℕ → Option (List ℕ)
 as_name text = if nat_lt 0 (length text) && nat_le (length text) 16 && list_all is_name_letter text then Some text else None
 
--- the name in a list of one client
-abbrev pub client_in : Data → Option (List ℕ)
-client_in d = option_and_then as_name (option_and_then as_str (only_item d))
+-- the names in a list of clients
+abbrev pub names_in : Items → Option (List (List ℕ))
+names_in no_items = Some []
+names_in (item d ds) = option_and_then (λ name. option_map (λ names. name ∷ names) (names_in ds)) (option_and_then as_name (as_str d))
+
+-- no name stands twice
+abbrev pub all_differ : List (List ℕ) → Bool
+all_differ [] = true
+all_differ (name ∷ names) = not (list_any (pointwise nat_eq name) names) && all_differ names
+
+-- from 1 to 32 names that differ
+abbrev pub as_clients : List (List ℕ) → Option (List (List ℕ))
+as_clients names = if nat_lt 0 (length names) && nat_le (length names) 32 && all_differ names then Some names else None
+
+abbrev pub clients_in : Data → Option (List (List ℕ))
+clients_in d = option_and_then as_clients (option_and_then names_in (as_array d))
+
+-- whether an answer is lost: a truth value, false where it is absent or null
+abbrev pub lost_of : Option Data → Option Bool
+lost_of None = Some false
+lost_of (Some d) = if is_some (as_null d) then Some false else as_bool d
+
+abbrev pub lost_at : Data → Option Bool
+lost_at d = lost_of (get (codes "lost") d)

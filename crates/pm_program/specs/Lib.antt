@@ -6,10 +6,12 @@ pub mod StepForms
 pub mod Lines
 pub mod Reading
 pub mod Answer
+pub mod NameViews
 pub mod SessionViews
 pub mod Making
 pub mod MakingLaws
 pub mod Report
+pub mod Sounds
 pub mod Words
 pub mod Output
 pub mod Headline

@@ -1,6 +1,5 @@
 -- An op makes its one step.
-use Rattle.std.proofs.Common.{◌≡◌, List, [], ◌∷◌, Result, Ok, Err}
-use Rattle.pm_session.specs.declared.maker.NoSteps.{NoSteps}
+use Rattle.std.proofs.Common.{◌≡◌, [], Ok, Err}
 use Rattle.pm_session.specs.declared.maker.NoSteps.TheVariants.{NoMemory}
 use Rattle.pm_program.specs.declared.flat.Replace.{Replace}
 use Rattle.pm_program.specs.Making.{makes}

@@ -1,21 +1,22 @@
 -- The session that an input is, or its least line that isn't of its form.
-use Rattle.std.specs.Prelude.{ℕ, ◌+◌, List, [], ◌∷◌, length, Option, Some, None, Result, Ok, Err, nat_lt, nat_le, nat_eq, ◌&&◌, if◌then◌else◌, option_and_then, option_map, codes}
+use Rattle.std.specs.Prelude.{ℕ, ◌+◌, Bool, true, List, [], ◌∷◌, ◌++◌, length, position, Option, Some, None, Result, Ok, Err, nat_lt, nat_le, nat_eq, ◌&&◌, if◌then◌else◌, option_and_then, option_map, codes}
 use Rattle.std.specs.Cmp.Lexicographic.{pointwise}
 use Rattle.serde_json.specs.Data.{Data}
 use Rattle.serde_json.specs.Find.{get}
 use Rattle.pm_list.specs.Readings.{◌>>=◌, or_fault}
 use Rattle.pm_session.specs.declared.line.Act.{Act}
-use Rattle.pm_session.specs.declared.line.Act.TheVariants.{Edit, Push}
+use Rattle.pm_session.specs.declared.line.Act.TheVariants.{Edit, Submit, Ask, Present, Take, Push, Pull}
 use Rattle.pm_session.specs.declared.line.Line.{Line}
+use Rattle.pm_session.specs.Suits.{composed_by, answered_by}
 use Rattle.pm_program.specs.declared.flat.Replace.{Replace}
 use Rattle.pm_program.specs.declared.schema_line.TheConstants.{SCHEMA_LINE}
-use Rattle.pm_program.specs.Forms.{has_members, has_text, doc_in, client_in, step_in}
+use Rattle.pm_program.specs.Forms.{has_members, has_text, text_at, position_at, doc_in, clients_in, step_in, lost_at}
 use Rattle.pm_program.specs.Lines.{lines_of, value_of}
 
--- what a session holds: the text of its first document, its client's name, and its op lines
+-- what a session holds: the text of its first document, its clients' names, and its op lines
 pub record SessionOf : Type 0 where
   pub text : List ℕ
-  pub client : List ℕ
+  pub clients : List (List ℕ)
   pub lines : List (Line Replace)
 
 -- ---- limits
@@ -46,30 +47,68 @@ within used text = if nat_le (used + length text) max_letters then Some text els
 unfoldable pub doc_line : List ℕ → Option (List ℕ)
 doc_line line = option_and_then (within 0) (option_and_then doc_in (value_of line))
 
--- line 3 is a list of one client
-unfoldable pub client_line : List ℕ → Option (List ℕ)
-client_line line = option_and_then client_in (value_of line)
+-- line 3 is a list of clients
+unfoldable pub clients_line : List ℕ → Option (List (List ℕ))
+clients_line line = option_and_then clients_in (value_of line)
 
 -- the text that an act puts in
 abbrev pub letters_of : Act Replace → List ℕ
 letters_of (Edit step) = step.text
-letters_of Push = []
+letters_of Submit = []
+letters_of Ask = []
+letters_of (Present j) = []
+letters_of (Take n) = []
+letters_of (Push lost) = []
+letters_of (Pull lost) = []
 
--- an op line is of its client, and its members are `c` and `op`, and `step` where it makes one
-unfoldable pub act_in : List ℕ → Data → Option (Act Replace)
-act_in client d =
-    if has_text (codes "c") client d
-    then (if has_members 2 d && has_text (codes "op") (codes "push") d then Some Push
-    else (if has_members 3 d && has_text (codes "op") (codes "step") d then option_map Edit (option_and_then step_in (get (codes "step") d))
-    else None))
-    else None
+-- an op line that composes, presents or takes; further members are ignored
+abbrev pub exchange_in : Data → Option (Act Replace)
+exchange_in d =
+    if has_text (codes "op") (codes "submit") d then Some Submit
+    else (if has_text (codes "op") (codes "ask") d then Some Ask
+    else (if has_text (codes "op") (codes "present") d then option_map Present (position_at (codes "message") d)
+    else (if has_text (codes "op") (codes "take") d then option_map Take (position_at (codes "answer") d)
+    else (if has_text (codes "op") (codes "push") d then option_map Push (lost_at d)
+    else (if has_text (codes "op") (codes "pull") d then option_map Pull (lost_at d)
+    else None)))))
 
-abbrev pub act_within : ℕ → Act Replace → Option (Act Replace)
-act_within used act = option_map (λ text. act) (within used (letters_of act))
+-- an op line that makes a step; it has no members beside `c`, `op` and `step`
+abbrev pub edit_in : Data → Option (Act Replace)
+edit_in d = if has_members 3 d then option_map Edit (option_and_then step_in (get (codes "step") d)) else None
+
+-- what an op line does, by its `op`
+abbrev pub act_in : Data → Option (Act Replace)
+act_in d = if has_text (codes "op") (codes "step") d then edit_in d else exchange_in d
+
+-- the place of the client's name
+abbrev pub client_at : List (List ℕ) → Data → Option ℕ
+client_at names d = option_and_then (λ name. position (pointwise nat_eq name) names) (text_at (codes "c") d)
+
+-- an act that names a message or an answer names one that was composed or got on an earlier line
+abbrev pub names_one_of : ℕ → ℕ → Act Replace → Bool
+names_one_of messages answers (Present j) = nat_lt 0 j && nat_le j messages
+names_one_of messages answers (Take n) = nat_lt 0 n && nat_le n answers
+names_one_of messages answers (Edit step) = true
+names_one_of messages answers Submit = true
+names_one_of messages answers Ask = true
+names_one_of messages answers (Push lost) = true
+names_one_of messages answers (Pull lost) = true
+
+abbrev pub suited : List (Line Replace) → ℕ → ℕ → Act Replace → Option (Line Replace)
+suited earlier n client act =
+    if names_one_of (composed_by client earlier) (answered_by client earlier) act then Some (record { number = n; client = client; act = act }) else None
+
+-- an op line of one of the clients, after these earlier ones
+unfoldable pub op_in : List (List ℕ) → List (Line Replace) → ℕ → Data → Option (Line Replace)
+op_in names earlier n d = option_and_then (λ client. option_and_then (suited earlier n client) (act_in d)) (client_at names d)
+
+abbrev pub line_within : ℕ → Line Replace → Option (Line Replace)
+line_within used line = option_map (λ text. line) (within used (letters_of line.act))
 
 -- an op line after so many characters, where there may be another line
-unfoldable pub act_line : List ℕ → ℕ → ℕ → List ℕ → Option (Act Replace)
-act_line client used n line = if nat_lt last_line n then None else option_and_then (act_within used) (option_and_then (act_in client) (value_of line))
+unfoldable pub op_line : List (List ℕ) → List (Line Replace) → ℕ → ℕ → List ℕ → Option (Line Replace)
+op_line names earlier used n line =
+    if nat_lt last_line n then None else option_and_then (line_within used) (option_and_then (op_in names earlier n) (value_of line))
 
 -- ---- all lines
 
@@ -82,13 +121,13 @@ abbrev pub head : ℕ → List (List ℕ) → Result (List ℕ × List (List ℕ
 head n [] = Err (refused n)
 head n (line ∷ rest) = Ok (line, rest)
 
--- the op lines from number n on, after so many characters
-unfoldable pub acts_of : List ℕ → ℕ → ℕ → List (List ℕ) → Result (List (Line Replace)) (ℕ × ℕ)
-acts_of client used n [] = Ok []
-acts_of client used n (line ∷ rest) = do
-  act ← or_fault (refused n) (act_line client used n line)
-  later ← acts_of client (used + length (letters_of act)) (n + 1) rest
-  Ok (record { number = n; client = 0; act = act } ∷ later)
+-- the op lines from number n on, after these earlier ones and so many characters
+unfoldable pub ops_of : List (List ℕ) → List (Line Replace) → ℕ → ℕ → List (List ℕ) → Result (List (Line Replace)) (ℕ × ℕ)
+ops_of names earlier used n [] = Ok []
+ops_of names earlier used n (line ∷ rest) = do
+  op ← or_fault (refused n) (op_line names earlier used n line)
+  later ← ops_of names (earlier ++ op ∷ []) (used + length (letters_of op.act)) (n + 1) rest
+  Ok (op ∷ later)
 
 unfoldable pub session_in : List (List ℕ) → Result SessionOf (ℕ × ℕ)
 session_in lines = do
@@ -97,9 +136,9 @@ session_in lines = do
   second ← head 2 first.1
   text ← or_fault (refused 2) (doc_line second.0)
   third ← head 3 second.1
-  client ← or_fault (refused 3) (client_line third.0)
-  acts ← acts_of client (length text) 4 third.1
-  Ok (record { text = text; client = client; lines = acts })
+  clients ← or_fault (refused 3) (clients_line third.0)
+  ops ← ops_of clients [] (length text) 4 third.1
+  Ok (record { text = text; clients = clients; lines = ops })
 
 -- too long an input is refused at line 0 with code 1
 unfoldable pub session_of : List ℕ → Result SessionOf (ℕ × ℕ)

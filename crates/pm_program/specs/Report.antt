@@ -1,19 +1,18 @@
 -- The report of a session: what became of each line, how the editor stood, the log, and how all stands in the end.
-use Rattle.std.specs.Prelude.{ℕ, ◌+◌, List, [], ◌∷◌, ◌++◌, length, map, codes, decimal, Result}
-use Rattle.serde_json.specs.Data.{Data, number, unsigned, array, Items, no_items, item}
+use Rattle.std.specs.Prelude.{ℕ, ◌+◌, List, [], ◌∷◌, ◌++◌, length, map, codes, decimal, Option, Some, None, slice_get, unwrap_or}
+use Rattle.serde_json.specs.Data.{number, unsigned, array, Items, no_items, item}
 use Rattle.serde_json.specs.Written.{compact_text}
 use Rattle.pm_authority.specs.declared.named.Named.{Named}
-use Rattle.pm_session.specs.declared.client.Client.{Client}
+use Rattle.pm_client.specs.declared.client.Client.{Client}
 use Rattle.pm_session.specs.declared.line.Line.{Line}
 use Rattle.pm_session.specs.declared.outcome.Told.{Told}
-use Rattle.pm_session.specs.declared.outcome.Told.TheVariants.{Accepted, Version, Refused as ToldRefused}
-use Rattle.pm_session.specs.declared.outcome.Taken.{Taken}
-use Rattle.pm_session.specs.declared.outcome.Taken.TheVariants.{Confirmed, Stale, Refused as TakenRefused}
+use Rattle.pm_session.specs.declared.outcome.Told.TheVariants.{Accepted, Version, Refused as ToldRefused, Entries}
+use Rattle.pm_client.specs.declared.taken.Taken.{Taken}
+use Rattle.pm_client.specs.declared.taken.Taken.TheVariants.{Confirmed, Rebased, Stale, Refused as TakenRefused, Unbuilt}
 use Rattle.pm_session.specs.declared.outcome.Outcome.{Outcome}
-use Rattle.pm_session.specs.declared.outcome.Outcome.TheVariants.{Made, NoRange, NoPlace, NoFit, Refused, Exchanged}
-use Rattle.pm_session.specs.declared.room.Room.{Room}
-use Rattle.pm_session.specs.Rooms.{opened, settled}
-use Rattle.pm_session.specs.Sessions.{session}
+use Rattle.pm_session.specs.declared.outcome.Outcome.TheVariants.{Made, NoRange, NoPlace, NoFit, Refused, Composed, Answered, Took, Exchanged}
+use Rattle.pm_session.specs.Events.{State}
+use Rattle.pm_session.specs.Sessions.{opened, session, settled}
 use Rattle.pm_program.specs.declared.flat.Replace.{Replace}
 use Rattle.pm_program.specs.declared.flat.Reason.{Reason}
 use Rattle.pm_program.specs.declared.flat.Reason.TheVariants.{Range, Depth, Large, Content}
@@ -59,11 +58,19 @@ abbrev pub told_text : Told Replace (Unit {0}) (List ℕ) Reason → List ℕ
 told_text (Accepted from count) = codes "accepted" & decimal from & decimal count
 told_text (Version n) = codes "version" & decimal n
 told_text (ToldRefused index reason) = codes "refused" & decimal index & reason_text reason
+told_text (Entries since count) = codes "entries" & decimal since & decimal count
 
 abbrev pub taken_text : Taken → List ℕ
 taken_text (Confirmed own) = codes "confirmed" & decimal own
+taken_text (Rebased own foreign dropped) = codes "rebased" & decimal own & decimal foreign & decimal dropped
 taken_text Stale = codes "stale"
 taken_text TakenRefused = codes "kept"
+taken_text Unbuilt = codes "unbuilt"
+
+-- what became of an exchange's answer, where it was not lost
+abbrev pub end_text : Option Taken → List ℕ
+end_text None = codes "lost"
+end_text (Some taken) = taken_text taken
 
 abbrev pub outcome_text : Outcome Replace (Unit {0}) (List ℕ) Reason → List ℕ
 outcome_text (Made count) = codes "made" & decimal count
@@ -71,7 +78,10 @@ outcome_text NoRange = codes "no range"
 outcome_text NoPlace = codes "no place"
 outcome_text NoFit = codes "no fit"
 outcome_text (Refused index reason) = codes "refused" & decimal index & reason_text reason
-outcome_text (Exchanged told taken) = told_text told ++ codes ";" & taken_text taken
+outcome_text (Composed n) = codes "composed" & decimal n
+outcome_text (Answered told) = told_text told
+outcome_text (Took taken) = taken_text taken
+outcome_text (Exchanged told taken) = told_text told ++ codes ";" & end_text taken
 
 -- for each line its number and its outcome
 abbrev pub outcome_lines : List (Line Replace) → List (Outcome Replace (Unit {0}) (List ℕ) Reason) → List ℕ
@@ -79,40 +89,53 @@ outcome_lines [] outcomes = []
 outcome_lines (l ∷ lines) [] = []
 outcome_lines (l ∷ lines) (o ∷ outcomes) = line (decimal l.number & outcome_text o) ++ outcome_lines lines outcomes
 
--- ---- how the editor and the authority stand
+-- ---- how the clients and the authority stand
 
 abbrev pub serial_of : Named Replace → ℕ
 serial_of step = step.name.serial
 
--- name, version, pending serials, dropped serials, cursors and document; none is dropped and there is no cursor
+-- the name of client i
+abbrev pub name_at : List (List ℕ) → ℕ → List ℕ
+name_at names i = unwrap_or (slice_get names i) []
+
+-- name, version, pending serials, dropped serials, cursors and document; there is no cursor
 abbrev pub client_line : List ℕ → Client Replace (Unit {0}) (List ℕ) Reason → List ℕ
-client_line name c = line (codes "client" & name & decimal c.version & list_text (map serial_of c.pending) & codes "[]" & codes "[]" & doc_text c.doc)
+client_line name c = line (codes "client" & name & decimal c.version & list_text (map serial_of c.pending) & list_text c.dropped & codes "[]" & doc_text c.doc)
+
+-- a line for each client, in order from client i on
+abbrev pub client_lines : List (List ℕ) → ℕ → List (Client Replace (Unit {0}) (List ℕ) Reason) → List ℕ
+client_lines names i [] = []
+client_lines names i (c ∷ clients) = client_line (name_at names i) c ++ client_lines names (i + 1) clients
 
 -- each entry of the log, counted from 1, with the name of the client that made it
-abbrev pub entry_lines : List ℕ → ℕ → List (Named Replace) → List ℕ
-entry_lines name i [] = []
-entry_lines name i (n ∷ log) = line (decimal i & name & decimal n.name.serial & step_text n.change) ++ entry_lines name (i + 1) log
+abbrev pub entry_lines : List (List ℕ) → ℕ → List (Named Replace) → List ℕ
+entry_lines names i [] = []
+entry_lines names i (n ∷ log) = line (decimal i & name_at names n.name.client & decimal n.name.serial & step_text n.change) ++ entry_lines names (i + 1) log
 
 -- name, version, dropped serials and cursors
 abbrev pub settled_line : List ℕ → Client Replace (Unit {0}) (List ℕ) Reason → List ℕ
-settled_line name c = line (codes "settled" & name & decimal c.version & codes "[]" & codes "[]")
+settled_line name c = line (codes "settled" & name & decimal c.version & list_text c.dropped & codes "[]")
+
+abbrev pub settled_lines : List (List ℕ) → ℕ → List (Client Replace (Unit {0}) (List ℕ) Reason) → List ℕ
+settled_lines names i [] = []
+settled_lines names i (c ∷ clients) = settled_line (name_at names i) c ++ settled_lines names (i + 1) clients
 
 -- ---- the whole
 
--- the outcomes, the editor before it settles, the log after that, the editor again, and the authority's document
-abbrev pub report : List ℕ → List (Line Replace) → List (Outcome Replace (Unit {0}) (List ℕ) Reason)
-    → Room Replace (Unit {0}) (List ℕ) Reason → Room Replace (Unit {0}) (List ℕ) Reason → List ℕ
-report name lines outcomes before after =
+-- the outcomes, the clients before they settle, the log after that, the clients again, and the authority's document
+abbrev pub report : List (List ℕ) → List (Line Replace) → List (Outcome Replace (Unit {0}) (List ℕ) Reason)
+    → State Replace (Unit {0}) (List ℕ) Reason → State Replace (Unit {0}) (List ℕ) Reason → List ℕ
+report names lines outcomes before after =
     outcome_lines lines outcomes
-    ++ client_line name before.editor
+    ++ client_lines names 0 before.clients
     ++ line (codes "log" & decimal (length after.authority.log))
-    ++ entry_lines name 1 after.authority.log
-    ++ settled_line name after.editor
+    ++ entry_lines names 1 after.authority.log
+    ++ settled_lines names 0 after.clients
     ++ line (codes "final" & doc_text after.authority.doc)
 
 -- what arises by playing the session's lines in file order in a room opened at its document
-abbrev pub playing : SessionOf → List (Outcome Replace (Unit {0}) (List ℕ) Reason) × Room Replace (Unit {0}) (List ℕ) Reason
-playing s = session meaning tt (makes tt) (opened s.text) s.lines
+abbrev pub playing : SessionOf → List (Outcome Replace (Unit {0}) (List ℕ) Reason) × State Replace (Unit {0}) (List ℕ) Reason
+playing s = session meaning tt (makes tt) (opened s.text (length s.clients)) s.lines
 
 abbrev pub report_of : SessionOf → List ℕ
-report_of s = report s.client s.lines (playing s).0 (playing s).1 (settled meaning tt (playing s).1)
+report_of s = report s.clients s.lines (playing s).0 (playing s).1 (settled meaning tt (playing s).1)

@@ -1,8 +1,14 @@
 //! What is written for an input.
-ghost use Rattle.std.specs.Prelude.{◌≡◌, ◌≤◌, ℕ, List, codes, decimal, length, string_bytes, true, false, All, IfOk, IsErrOf, Some};
+ghost use Rattle.std.specs.Prelude.{◌≡◌, ◌≤◌, ℕ, List, codes, decimal, length, string_bytes, true, false, map, vec_len, [], IfOk, IsErrOf, Some};
 ghost use Rattle.pm_io.specs.Faults.{Rose};
+ghost use Rattle.pm_session.specs.Events.{state_of};
+ghost use Rattle.pm_session.specs.Sessions.{opened};
+ghost use Rattle.pm_session.specs.Sounds.{Sound};
+ghost use Rattle.pm_session.specs.Suits.{AllSuit};
+ghost use Rattle.pm_program.specs.Flat.{meaning};
 ghost use Rattle.pm_program.specs.Output.{text_of, status_for};
 ghost use Rattle.pm_program.specs.Reading.{session_of};
+ghost use Rattle.pm_program.specs.Sounds.{RoomsSound, AllSound};
 ghost use Rattle.pm_program.specs.Report.{◌&◌, line, report_of};
 ghost use Rattle.pm_program.specs.SessionViews.{session_view};
 
@@ -10,7 +16,7 @@ use crate::call::Status;
 use crate::fault::SessionError;
 use crate::flat::Replace;
 use crate::making::StepMaker;
-use crate::report::{client_line, report};
+use crate::report::{client_lines, report};
 use crate::session::{Session, read_session};
 use pm_io::{ReadError, Source, read_all};
 use pm_session::Room;
@@ -33,6 +39,7 @@ pub fn replay_answer<R: Source>(alloc: Global, source: &mut R) -> Result<Answer,
     ensures status { IfOk result (λ a. (input : List ℕ) → R.left source.old ≡ Some input
         → a.status ≡ status_for (session_of input)) }
     ensures answers { IfOk result (λ a. IsAnswer a.status) }
+    ensures sound { IfOk result (λ a. (input : List ℕ) → R.left source.old ≡ Some input → AllSound (session_of input)) }
     ensures fault { IsErrOf result ReadError.ReadFault → Rose (R.faults source.old) (R.faults source.new) }
     ensures read { IsErrOf result ReadError.TooLong → ⊥ }
 {
@@ -48,6 +55,7 @@ ghost use Rattle.pm_program.specs.Output.{IsAnswer};
 fn answer_to(alloc: Global, input: &[u8]) -> Result<Answer, AllocError>
     ensures text { IfOk result (λ a. string_bytes a.text ≡ text_of (session_of input.now)) }
     ensures status { IfOk result (λ a. a.status ≡ status_for (session_of input.now)) }
+    ensures sound { IfOk result (λ a. AllSound (session_of input.now)) }
 {
     match read_session(alloc, input) {
         Ok(session) => Ok(Answer {
@@ -61,24 +69,36 @@ fn answer_to(alloc: Global, input: &[u8]) -> Result<Answer, AllocError>
 
 /// The report of a session, whose lines are played in file order.
 fn replay(alloc: Global, session: &Session) -> Result<String, AllocError>
-    requires clients { All (λ line. line.client ≡ 0) session.now.lines.items }
-    requires few { length session.now.text ≤ 400000 }
-    ensures { IfOk result (λ s. string_bytes s ≡ report_of (session_view session.now)) }
+    requires few { vec_len session.now.clients ≤ 32 }
+    requires suit { AllSuit (vec_len session.now.clients) [] session.now.lines.items }
+    requires text { length session.now.text ≤ 400000 }
+    ensures report { IfOk result (λ s. string_bytes s ≡ report_of (session_view session.now)) }
+    ensures sound { IfOk result (λ s. RoomsSound (session_view session.now)) }
 {
-    let name = session.client.as_str();
-    let doc = session.text.copy(alloc)?;
-    let mut room: Room<Replace> = Room::new(alloc, &(), doc, &[false])?;
+    let mut room = open(alloc, session)?;
     let outcomes = room.play_all(alloc, &(), &StepMaker, &session.lines)?;
-    let standing = client_line(alloc, name, room.editor())?;
+    let standing = client_lines(alloc, &session.clients, room.clients())?;
     room.settle(alloc, &())?;
     report(
         alloc,
-        name,
+        &session.clients,
         &session.lines,
         &outcomes,
         standing.as_str(),
         &room,
     )
+}
+
+/// A room at the session's first document, with a client for each name.
+fn open(alloc: Global, session: &Session) -> Result<Room<Replace>, AllocError>
+    requires few { vec_len session.now.clients ≤ 32 }
+    requires text { length session.now.text ≤ 400000 }
+    ensures opens { IfOk result (λ r. state_of r ≡ opened session.now.text (length (map string_bytes session.now.clients.items))) }
+    ensures sound { IfOk result (λ r. Sound meaning tt (state_of r)) }
+{
+    let doc = session.text.copy(alloc)?;
+    let raw = vec![in alloc; false; session.clients.len()]?;
+    Room::new(alloc, &(), doc, &raw)
 }
 
 fn refused(alloc: Global, number: u32, code: u32) -> Result<Answer, AllocError>

@@ -4,6 +4,8 @@ ghost use Rattle.pm_io.specs.Faults.{Rose};
 ghost use Rattle.pm_program.specs.Words.{command_of};
 ghost use Rattle.pm_program.specs.declared.words.Command.{Command};
 ghost use Rattle.pm_program.specs.Output.{output_of, status_of, IsAnswer};
+ghost use Rattle.pm_program.specs.Reading.{session_of};
+ghost use Rattle.pm_program.specs.Sounds.{AllSound};
 ghost use Rattle.pm_program.specs.Headline.{Writes, Agrees, Silent};
 
 use crate::answer::{Answer, replay_answer};
@@ -46,6 +48,7 @@ pub fn run<R: Source, W: Sink, G: Gate + Sync>(
         → Writes result (W.written sink.old) (W.written sink.new) (output_of asked input) }
     ensures status { (asked : Command) (input : List ℕ) → command_of (map string_bytes words.now) ≡ Some asked
         → R.left source.old ≡ Some input → Agrees result (status_of asked input) }
+    ensures sound { (input : List ℕ) → R.left source.old ≡ Some input → result ≡ Status.Done → AllSound (session_of input) }
     ensures read_fault { result ≡ Status.ReadFault → Rose (R.faults source.old) (R.faults source.new) }
     ensures write_fault { result ≡ Status.WriteFault → Rose (W.faults sink.old) (W.faults sink.new) }
     ensures complete { (asked : Command) (input : List ℕ) → command_of (map string_bytes words.now) ≡ Some asked
@@ -78,6 +81,8 @@ pub fn plain<R: Source, W: Sink>(
     // The status says whether the input is a session.
     ensures status { (asked : Command) (input : List ℕ) → command_of (map string_bytes words.now) ≡ Some asked
         → R.left source.old ≡ Some input → Agrees result (status_of asked input) }
+    // Where the report was written, every room of the session is sound.
+    ensures sound { (input : List ℕ) → R.left source.old ≡ Some input → result ≡ Status.Done → AllSound (session_of input) }
     // Faults only where they rose.
     ensures read_fault { result ≡ Status.ReadFault → Rose (R.faults source.old) (R.faults source.new) }
     ensures write_fault { result ≡ Status.WriteFault → Rose (W.faults sink.old) (W.faults sink.new) }

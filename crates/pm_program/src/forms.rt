@@ -1,11 +1,15 @@
 //! The JSON values of a session's lines, and what each holds.
-ghost use Rattle.std.specs.Prelude.{◌≡◌, codes, option_map, true, IfSome};
+ghost use Rattle.std.specs.Prelude.{◌≡◌, ◌++◌, ◌∷◌, [], codes, map, nat_eq, option_map, option_and_then, string_bytes, true, IfSome, IfOk, OnOk};
+ghost use Rattle.std.specs.Cmp.Lexicographic.{pointwise};
+ghost use Rattle.serde_json.specs.Find.{as_str};
 ghost use Rattle.serde_json.specs.View.{view, items_view};
+ghost use Rattle.pm_program.specs.NameViews.{names_view};
 ghost use Rattle.pm_program.specs.Letters.{all_printable};
-ghost use Rattle.pm_program.specs.Forms.{has_members, has_text, text_at, single, only_item, only_child, some_letters, text_in, paragraph_in, doc_in, position_at, slice_in, inserted, step_in, as_name, is_name_letter, client_in};
+ghost use Rattle.pm_program.specs.Forms.{has_members, has_text, text_at, single, only_item, only_child, some_letters, text_in, paragraph_in, doc_in, position_at, slice_in, inserted, step_in, as_name, is_name_letter, names_in, all_differ, clients_in, lost_at};
 
 use crate::letters::all_printable;
 use serde_json::Value;
+use std::alloc::{AllocError, Global};
 
 /// Whether the value is an object of exactly so many members.
 #[tactic(auto, using(crate::proofs::Counts::counts))]
@@ -18,7 +22,7 @@ pub fn has_members(json: &Value, count: usize) -> bool
     }
 }
 
-fn text_at<'a>(json: &'a Value, key: &str) -> Option<&'a str>
+pub fn text_at<'a>(json: &'a Value, key: &str) -> Option<&'a str>
     ensures { option_map (λ s. s.now) result ≡ text_at key.now (view json.now) }
 {
     match json.get(key) {
@@ -129,7 +133,7 @@ pub fn doc_in(json: &Value) -> Option<&str>
 }
 
 /// A whole number below 2^32.
-fn position_at(json: &Value, key: &str) -> Option<u32>
+pub fn position_at(json: &Value, key: &str) -> Option<u32>
     ensures { result ≡ position_at key.now (view json.now) }
 {
     match json.get(key) {
@@ -225,7 +229,7 @@ fn all_name_letters(text: &str) -> bool
     text.as_bytes().iter().all(|b| is_name_letter(*b))
 }
 
-ghost use Rattle.std.specs.List.{list_all};
+ghost use Rattle.std.specs.List.{list_all, list_any};
 
 fn is_name_letter(byte: u8) -> bool
     ensures { result ≡ is_name_letter byte }
@@ -233,15 +237,81 @@ fn is_name_letter(byte: u8) -> bool
     (97 <= byte && byte <= 122) || (48 <= byte && byte <= 57)
 }
 
-/// The name in a list of one client.
-pub fn client_in(json: &Value) -> Option<&str>
-    ensures { option_map (λ s. s.now) result ≡ client_in (view json.now) }
+/// The names in a list of clients.
+#[tactic(auto, using(crate::proofs::Names::names))]
+fn names_in(alloc: Global, items: &[Value]) -> Result<Option<Vec<String>>, AllocError>
+    ensures { IfOk result (λ o. option_map names_view o ≡ names_in (items_view items.now)) }
 {
-    match only_item(json) {
-        Some(item) => match item.as_str() {
-            Some(name) => as_name(name),
-            None => None,
-        },
+    let mut names = Vec::new(alloc);
+    for item in items {
+        match name_in(item) {
+            Some(name) => push_name(alloc, &mut names, name)?,
+            None => return Ok(None),
+        }
+    }
+    Ok(Some(names))
+}
+
+fn name_in(json: &Value) -> Option<&str>
+    ensures { option_map (λ s. s.now) result ≡ option_and_then as_name (as_str (view json.now)) }
+{
+    match json.as_str() {
+        Some(text) => as_name(text),
         None => None,
+    }
+}
+
+fn push_name(alloc: Global, names: &mut Vec<String>, name: &str) -> Result<(), AllocError>
+    ensures { OnOk result (names_view names.new ≡ names_view names.old ++ name.now ∷ []) }
+{
+    names.push(String::from_str(alloc, name)?)?;
+    Ok(())
+}
+
+/// Whether no name stands twice.
+#[tactic(auto, using(crate::proofs::Names::names))]
+fn all_differ(names: &[String]) -> bool
+    ensures { result ≡ all_differ (map string_bytes names.now) }
+{
+    for (i, name) in names.iter().enumerate() {
+        if stands_in(name.as_str(), &names[i + 1..]) {
+            return false;
+        }
+    }
+    true
+}
+
+fn stands_in(name: &str, names: &[String]) -> bool
+    ensures { result ≡ list_any (λ other. pointwise nat_eq name.now (string_bytes other)) names.now }
+{
+    names.iter().any(|other| name == other.as_str())
+}
+
+/// From 1 to 32 names of clients, which differ.
+pub fn clients_in(alloc: Global, json: &Value) -> Result<Option<Vec<String>>, AllocError>
+    ensures { IfOk result (λ o. option_map names_view o ≡ clients_in (view json.now)) }
+{
+    let Some(items) = json.as_array() else {
+        return Ok(None);
+    };
+    match names_in(alloc, items)? {
+        Some(names) if !names.is_empty() && names.len() <= 32 && all_differ(&names) => {
+            Ok(Some(names))
+        }
+        _ => Ok(None),
+    }
+}
+
+/// Whether an answer is lost: a truth value, false where it is absent or null.
+pub fn lost_at(json: &Value) -> Option<bool>
+    ensures { result ≡ lost_at (view json.now) }
+{
+    match json.get("lost") {
+        None => Some(false),
+        Some(value) => if value.is_null() {
+            Some(false)
+        } else {
+            value.as_bool()
+        },
     }
 }

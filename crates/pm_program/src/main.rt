@@ -3,15 +3,19 @@
 
 mod answer;
 mod call;
+mod earlier;
 mod fault;
 mod flat;
 mod forms;
 mod letters;
 mod lines;
 mod making;
+mod ops;
 mod report;
 mod schema_line;
 mod session;
+#[cfg(test)]
+mod several_tests;
 #[cfg(test)]
 mod tests;
 mod words;

@@ -1,19 +1,20 @@
 //! The report of a session.
-ghost use Rattle.std.specs.Prelude.{◌≡◌, ◌++◌, ℕ, ◌+◌, ◌<◌, ◌≤◌, ◌^◌, List, [], length, codes, decimal, IfOk, OnOk, string_bytes};
-ghost use Rattle.pm_program.specs.Report.{◌&◌, line, reason_text, told_text, taken_text, outcome_text, outcome_lines, client_line, entry_lines, settled_line, doc_text, report};
+ghost use Rattle.std.specs.Prelude.{◌≡◌, ◌++◌, length, map, codes, decimal, IfOk, OnOk, string_bytes};
+ghost use Rattle.pm_program.specs.Report.{◌&◌, line, reason_text, told_text, taken_text, end_text, outcome_text, outcome_lines, name_at, client_line, client_lines, entry_lines, settled_line, settled_lines, doc_text};
 
 use crate::flat::{Reason, Replace};
 use crate::letters::Letters;
-use crate::written::{doc_text, serials_text, step_text};
+use crate::written::{doc_text, numbers_text, serials_text, step_text};
 use pm_authority::Named;
-use pm_session::{Client, Line, Outcome, Room, Taken, Told};
+use pm_client::{Client, Taken};
+use pm_session::{Line, Outcome, Room, Told};
 use std::alloc::{AllocError, Global};
 
-/// The report: what became of each line, how the editor stood before it settled, the log after that,
-/// how the editor stands then, and the authority's document.
+/// The report: what became of each line, how the clients stood before they settled, the log after
+/// that, how the clients stand then, and the authority's document.
 pub fn report(
     alloc: Global,
-    name: &str,
+    names: &[String],
     lines: &[Line<Replace>],
     outcomes: &[Outcome<Replace>],
     standing: &str,
@@ -22,34 +23,56 @@ pub fn report(
     requires { length outcomes.now ≡ length lines.now }
     ensures { IfOk result (λ s. string_bytes s ≡ outcome_lines lines.now outcomes.now ++ standing.now
         ++ line (codes "log" & decimal (length settled.now.authority.log))
-        ++ entry_lines name.now 1 settled.now.authority.log
-        ++ settled_line name.now settled.now.editor
+        ++ entry_lines (map string_bytes names.now) 1 settled.now.authority.log
+        ++ settled_lines (map string_bytes names.now) 0 settled.now.clients.items
         ++ line (codes "final" & doc_text settled.now.authority.doc)) }
 {
     let mut text = String::new(alloc);
     push_outcomes(alloc, &mut text, lines, outcomes)?;
     text.push_str(standing)?;
-    push_log(alloc, &mut text, name, settled.authority().log())?;
-    text.push_str(settled_line(alloc, name, settled.editor())?.as_str())?;
+    push_log(alloc, &mut text, names, settled.authority().log())?;
+    push_settled(alloc, &mut text, names, settled.clients())?;
     text.push_str(final_line(alloc, settled.authority().doc())?.as_str())?;
     Ok(text)
 }
 
-/// How the editor stands.
-pub fn client_line(
+/// How the clients stand.
+pub fn client_lines(
     alloc: Global,
-    name: &str,
-    client: &Client<Replace>,
+    names: &[String],
+    clients: &[Client<Replace>],
 ) -> Result<String, AllocError>
+    ensures { IfOk result (λ s. string_bytes s ≡ client_lines (map string_bytes names.now) 0 clients.now) }
+{
+    let mut text = String::new(alloc);
+    for (i, client) in clients.iter().enumerate() {
+        text.push_str(client_line(alloc, name_at(names, i), client)?.as_str())?;
+    }
+    Ok(text)
+}
+
+/// The name of client i.
+fn name_at(names: &[String], i: usize) -> &str
+    ensures { result.now ≡ name_at (map string_bytes names.now) i }
+{
+    match names.get(i) {
+        Some(name) => name.as_str(),
+        None => "",
+    }
+}
+
+fn client_line(alloc: Global, name: &str, client: &Client<Replace>) -> Result<String, AllocError>
     ensures { IfOk result (λ s. string_bytes s ≡ client_line name.now client.now) }
 {
     let pending = serials_text(alloc, client.pending())?;
+    let dropped = numbers_text(alloc, client.dropped())?;
     let doc = doc_text(alloc, client.doc())?;
     client_words(
         alloc,
         name,
         client.version(),
         pending.as_str(),
+        dropped.as_str(),
         doc.as_str(),
     )
 }
@@ -59,23 +82,45 @@ fn client_words(
     name: &str,
     version: u64,
     pending: &str,
+    dropped: &str,
     doc: &str,
 ) -> Result<String, AllocError>
-    ensures { IfOk result (λ s. string_bytes s ≡ line (codes "client" & name.now & decimal version & pending.now & codes "[]" & codes "[]" & doc.now)) }
+    ensures { IfOk result (λ s. string_bytes s ≡ line (codes "client" & name.now & decimal version & pending.now & dropped.now & codes "[]" & doc.now)) }
 {
-    format!(in alloc; "client {name} {version} {pending} [] [] {doc}\n")
+    format!(in alloc; "client {name} {version} {pending} {dropped} [] {doc}\n")
+}
+
+/// How the clients stand in the end.
+fn push_settled(
+    alloc: Global,
+    text: &mut String,
+    names: &[String],
+    clients: &[Client<Replace>],
+) -> Result<(), AllocError>
+    ensures { OnOk result (string_bytes text.new ≡ string_bytes text.old ++ settled_lines (map string_bytes names.now) 0 clients.now) }
+{
+    for (i, client) in clients.iter().enumerate() {
+        text.push_str(settled_line(alloc, name_at(names, i), client)?.as_str())?;
+    }
+    Ok(())
 }
 
 fn settled_line(alloc: Global, name: &str, client: &Client<Replace>) -> Result<String, AllocError>
     ensures { IfOk result (λ s. string_bytes s ≡ settled_line name.now client.now) }
 {
-    settled_words(alloc, name, client.version())
+    let dropped = numbers_text(alloc, client.dropped())?;
+    settled_words(alloc, name, client.version(), dropped.as_str())
 }
 
-fn settled_words(alloc: Global, name: &str, version: u64) -> Result<String, AllocError>
-    ensures { IfOk result (λ s. string_bytes s ≡ line (codes "settled" & name.now & decimal version & codes "[]" & codes "[]")) }
+fn settled_words(
+    alloc: Global,
+    name: &str,
+    version: u64,
+    dropped: &str,
+) -> Result<String, AllocError>
+    ensures { IfOk result (λ s. string_bytes s ≡ line (codes "settled" & name.now & decimal version & dropped.now & codes "[]")) }
 {
-    format!(in alloc; "settled {name} {version} [] []\n")
+    format!(in alloc; "settled {name} {version} {dropped} []\n")
 }
 
 fn final_line(alloc: Global, doc: &Letters) -> Result<String, AllocError>
@@ -122,13 +167,13 @@ fn outcome_words(alloc: Global, number: u32, outcome: &str) -> Result<String, Al
 fn push_log(
     alloc: Global,
     text: &mut String,
-    name: &str,
+    names: &[String],
     log: &[Named<Replace>],
 ) -> Result<(), AllocError>
-    ensures { OnOk result (string_bytes text.new ≡ string_bytes text.old ++ line (codes "log" & decimal (length log.now)) ++ entry_lines name.now 1 log.now) }
+    ensures { OnOk result (string_bytes text.new ≡ string_bytes text.old ++ line (codes "log" & decimal (length log.now)) ++ entry_lines (map string_bytes names.now) 1 log.now) }
 {
     text.push_str(log_line(alloc, log.len())?.as_str())?;
-    push_entries(alloc, text, name, log)
+    push_entries(alloc, text, names, log)
 }
 
 fn log_line(alloc: Global, length: usize) -> Result<String, AllocError>
@@ -140,26 +185,27 @@ fn log_line(alloc: Global, length: usize) -> Result<String, AllocError>
 fn push_entries(
     alloc: Global,
     text: &mut String,
-    name: &str,
+    names: &[String],
     log: &[Named<Replace>],
 ) -> Result<(), AllocError>
-    ensures { OnOk result (string_bytes text.new ≡ string_bytes text.old ++ entry_lines name.now 1 log.now) }
+    ensures { OnOk result (string_bytes text.new ≡ string_bytes text.old ++ entry_lines (map string_bytes names.now) 1 log.now) }
 {
     for (i, entry) in log.iter().enumerate() {
-        text.push_str(entry_line(alloc, name, i + 1, entry)?.as_str())?;
+        text.push_str(entry_line(alloc, names, i + 1, entry)?.as_str())?;
     }
     Ok(())
 }
 
 fn entry_line(
     alloc: Global,
-    name: &str,
+    names: &[String],
     place: usize,
     entry: &Named<Replace>,
 ) -> Result<String, AllocError>
-    ensures { IfOk result (λ s. string_bytes s ≡ line (decimal place & name.now & decimal entry.now.name.serial & step_text entry.now.change)) }
+    ensures { IfOk result (λ s. string_bytes s ≡ line (decimal place & name_at (map string_bytes names.now) entry.now.name.client & decimal entry.now.name.serial & step_text entry.now.change)) }
 {
     let step = step_text(alloc, &entry.change)?;
+    let name = name_at(names, entry.name.client as usize);
     entry_words(alloc, place, name, entry.name.serial, step.as_str())
 }
 
@@ -187,16 +233,23 @@ fn outcome_text(alloc: Global, outcome: &Outcome<Replace>) -> Result<String, All
         Outcome::NoPlace => String::from_str(alloc, "no place"),
         Outcome::NoFit => String::from_str(alloc, "no fit"),
         Outcome::Refused { index, reason } => refused_text(alloc, *index, reason),
+        Outcome::Composed { number } => format!(in alloc; "composed {number}"),
+        Outcome::Answered { told } => told_text(alloc, told),
+        Outcome::Took { taken } => taken_text(alloc, *taken),
         Outcome::Exchanged { told, taken } => exchanged_text(alloc, told, *taken),
     }
 }
 
-fn exchanged_text(alloc: Global, told: &Told<Replace>, taken: Taken) -> Result<String, AllocError>
-    ensures { IfOk result (λ s. string_bytes s ≡ told_text told.now ++ codes ";" & taken_text taken) }
+fn exchanged_text(
+    alloc: Global,
+    told: &Told<Replace>,
+    taken: Option<Taken>,
+) -> Result<String, AllocError>
+    ensures { IfOk result (λ s. string_bytes s ≡ told_text told.now ++ codes ";" & end_text taken) }
 {
     let told = told_text(alloc, told)?;
-    let taken = taken_text(alloc, taken)?;
-    exchanged_words(alloc, told.as_str(), taken.as_str())
+    let end = end_text(alloc, taken)?;
+    exchanged_words(alloc, told.as_str(), end.as_str())
 }
 
 fn exchanged_words(alloc: Global, told: &str, taken: &str) -> Result<String, AllocError>
@@ -212,6 +265,17 @@ fn told_text(alloc: Global, told: &Told<Replace>) -> Result<String, AllocError>
         Told::Accepted { from, count } => format!(in alloc; "accepted {from} {count}"),
         Told::Version { length } => format!(in alloc; "version {length}"),
         Told::Refused { index, reason } => refused_text(alloc, *index, reason),
+        Told::Entries { since, count } => format!(in alloc; "entries {since} {count}"),
+    }
+}
+
+/// What became of an exchange's answer.
+fn end_text(alloc: Global, taken: Option<Taken>) -> Result<String, AllocError>
+    ensures { IfOk result (λ s. string_bytes s ≡ end_text taken) }
+{
+    match taken {
+        None => String::from_str(alloc, "lost"),
+        Some(taken) => taken_text(alloc, taken),
     }
 }
 
@@ -220,8 +284,14 @@ fn taken_text(alloc: Global, taken: Taken) -> Result<String, AllocError>
 {
     match taken {
         Taken::Confirmed { own } => format!(in alloc; "confirmed {own}"),
+        Taken::Rebased {
+            own,
+            foreign,
+            dropped,
+        } => format!(in alloc; "rebased {own} {foreign} {dropped}"),
         Taken::Stale => String::from_str(alloc, "stale"),
         Taken::Refused => String::from_str(alloc, "kept"),
+        Taken::Unbuilt => String::from_str(alloc, "unbuilt"),
     }
 }
 

@@ -1,27 +1,26 @@
 //! The session that an input is.
-ghost use Rattle.std.specs.Prelude.{◌≡◌, ◌≤◌, ◌+◌, [], All, IfOk, IfSome, length, option_map, string_bytes, true};
+ghost use Rattle.std.specs.Prelude.{◌≡◌, ◌≤◌, [], IfOk, length, map, vec_len, string_bytes};
 ghost use Rattle.pm_list.specs.Readings.{or_fault};
-ghost use Rattle.serde_json.specs.View.{view};
+ghost use Rattle.pm_session.specs.Suits.{AllSuit};
 ghost use Rattle.pm_program.specs.Answer.{Gives};
 ghost use Rattle.pm_program.specs.Lines.{lines_of};
-ghost use Rattle.pm_program.specs.Reading.{schema_line, doc_line, client_line, letters_of, within, act_in, act_line, acts_of, head, refused, session_in, session_of};
+ghost use Rattle.pm_program.specs.Reading.{doc_line, clients_line, ops_of, head, refused, session_in, session_of};
+ghost use Rattle.pm_program.specs.NameViews.{names_view};
 ghost use Rattle.pm_program.specs.SessionViews.{session_view};
 
+use crate::earlier::Earlier;
 use crate::fault::{SessionError, not_built};
 use crate::flat::Replace;
-use crate::forms::{client_in, doc_in, has_members, has_text, step_in};
+use crate::forms::{clients_in, doc_in};
 use crate::letters::Letters;
 use crate::lines::{first_line, value_of};
+use crate::ops::{letters_of, op_line};
 use crate::schema_line::SCHEMA_LINE;
-use pm_session::{Act, Line};
-use serde_json::Value;
-use std::alloc::{AllocError, Global};
+use pm_session::Line;
+use std::alloc::Global;
 
 /// The greatest number of bytes of an input.
 const MAX_INPUT: usize = 67_108_864;
-
-/// The number of the last line that may be there.
-const LAST_LINE: u32 = 100_003;
 
 /// The greatest number of characters of the first document and of all steps together.
 const MAX_LETTERS: usize = 400_000;
@@ -31,8 +30,8 @@ const MAX_LETTERS: usize = 400_000;
 pub struct Session {
     /// The text of the first document's paragraph.
     pub text: Letters,
-    /// The client's name.
-    pub client: String,
+    /// The clients' names, from 1 to 32 of them.
+    pub clients: Vec<String>,
     /// The op lines in file order.
     pub lines: Vec<Line<Replace>>,
 }
@@ -42,7 +41,8 @@ pub struct Session {
 #[tactic(auto, unfolding(crate::specs::Reading::session_of))]
 pub fn read_session(alloc: Global, input: &[u8]) -> Result<Session, SessionError>
     ensures read { Gives session_view result (session_of input.now) }
-    ensures clients { IfOk result (λ s. All (λ line. line.client ≡ 0) s.lines.items) }
+    ensures few { IfOk result (λ s. vec_len s.clients ≤ 32) }
+    ensures suit { IfOk result (λ s. AllSuit (vec_len s.clients) [] s.lines.items) }
     ensures text { IfOk result (λ s. length s.text ≤ 400000) }
 {
     if input.len() > MAX_INPUT {
@@ -54,7 +54,8 @@ pub fn read_session(alloc: Global, input: &[u8]) -> Result<Session, SessionError
 #[tactic(auto, unfolding(crate::specs::Reading::session_in))]
 fn session_in(alloc: Global, input: &[u8]) -> Result<Session, SessionError>
     ensures read { Gives session_view result (session_in (lines_of input.now)) }
-    ensures clients { IfOk result (λ s. All (λ line. line.client ≡ 0) s.lines.items) }
+    ensures few { IfOk result (λ s. vec_len s.clients ≤ 32) }
+    ensures suit { IfOk result (λ s. AllSuit (vec_len s.clients) [] s.lines.items) }
     ensures text { IfOk result (λ s. length s.text ≤ 400000) }
 {
     let (line, rest) = head(1, input)?;
@@ -64,11 +65,11 @@ fn session_in(alloc: Global, input: &[u8]) -> Result<Session, SessionError>
     let (line, rest) = head(2, rest)?;
     let text = doc_line(alloc, line)?;
     let (line, rest) = head(3, rest)?;
-    let client = client_line(alloc, line)?;
-    let lines = lines_from(alloc, client.as_str(), text.len(), rest)?;
+    let clients = clients_line(alloc, line)?;
+    let lines = ops_from(alloc, &clients, text.len(), rest)?;
     Ok(Session {
         text,
-        client,
+        clients,
         lines,
     })
 }
@@ -99,123 +100,51 @@ fn doc_line(alloc: Global, line: &[u8]) -> Result<Letters, SessionError>
     }
 }
 
-/// The client's name.
-#[tactic(auto, unfolding(crate::specs::Reading::client_line))]
-fn client_line(alloc: Global, line: &[u8]) -> Result<String, SessionError>
-    ensures { Gives string_bytes result (or_fault (refused 3) (client_line line.now)) }
+/// The clients' names.
+#[tactic(auto, unfolding(crate::specs::Reading::clients_line))]
+fn clients_line(alloc: Global, line: &[u8]) -> Result<Vec<String>, SessionError>
+    ensures read { Gives names_view result (or_fault (refused 3) (clients_line line.now)) }
+    ensures few { IfOk result (λ v. vec_len v ≤ 32) }
 {
     let Some(json) = value_of(alloc, line)? else {
         return Err(not_built(3));
     };
-    match client_in(&json) {
-        Some(name) => Ok(String::from_str(alloc, name)?),
+    match clients_in(alloc, &json)? {
+        Some(names) => Ok(names),
         None => Err(not_built(3)),
     }
 }
 
-/// What an op line of this client does.
-#[tactic(auto, unfolding(crate::specs::Reading::act_in))]
-fn act_in(alloc: Global, client: &str, json: &Value) -> Result<Option<Act<Replace>>, AllocError>
-    ensures { IfOk result (λ o. o ≡ act_in client.now (view json.now)) }
-{
-    if !has_text(json, "c", client) {
-        return Ok(None);
-    }
-    if has_members(json, 2) && has_text(json, "op", "push") {
-        return Ok(Some(Act::Push));
-    }
-    if !(has_members(json, 3) && has_text(json, "op", "step")) {
-        return Ok(None);
-    }
-    match json.get("step") {
-        Some(step) => edit_in(alloc, step),
-        None => Ok(None),
-    }
-}
-
-/// The edit that makes a step.
-fn edit_in(alloc: Global, json: &Value) -> Result<Option<Act<Replace>>, AllocError>
-    ensures { IfOk result (λ o. o ≡ option_map Edit (step_in (view json.now))) }
-{
-    match step_in(json) {
-        Some(form) => {
-            let text = Letters::new(alloc, form.text)?;
-            let op = Replace {
-                from: form.from,
-                to: form.to,
-                text,
-            };
-            Ok(Some(Act::Edit { op }))
-        }
-        None => Ok(None),
-    }
-}
-
-ghost use Rattle.pm_program.specs.Forms.{step_in};
-ghost use Rattle.pm_session.specs.declared.line.Act.TheVariants.{Edit};
-
-/// How many characters an act puts in.
-fn letters_of(act: &Act<Replace>) -> usize
-    ensures { result ≡ length (letters_of act.now) }
-{
-    match act {
-        Act::Edit { op } => op.text.len(),
-        Act::Push => 0,
-    }
-}
-
-/// What op line n does, after so many characters.
-#[tactic(auto, unfolding(crate::specs::Reading::act_line))]
-fn act_line(
-    alloc: Global,
-    client: &str,
-    used: usize,
-    n: u32,
-    line: &[u8],
-) -> Result<Act<Replace>, SessionError>
-    requires { used ≤ 400000 }
-    ensures read { Gives (λ a. a) result (or_fault (refused n) (act_line client.now used n line.now)) }
-    ensures few { IfOk result (λ a. used + length (letters_of a) ≤ 400000) }
-    ensures number { IfOk result (λ a. n ≤ 100003) }
-{
-    if n > LAST_LINE {
-        return Err(not_built(n));
-    }
-    let Some(json) = value_of(alloc, line)? else {
-        return Err(not_built(n));
-    };
-    match act_in(alloc, client, &json)? {
-        Some(act) if letters_of(&act) <= MAX_LETTERS - used => Ok(act),
-        _ => Err(not_built(n)),
-    }
-}
-
 /// The op lines, after so many characters.
-#[tactic(auto, using(pm_list::specs::Readings::fronts), unfolding(crate::specs::Reading::acts_of, crate::specs::Lines::lines_of))]
-fn lines_from(
+#[tactic(auto, using(pm_list::specs::Readings::fronts), unfolding(crate::specs::Reading::ops_of, crate::specs::Lines::lines_of))]
+fn ops_from(
     alloc: Global,
-    client: &str,
+    names: &[String],
     used: usize,
     bytes: &[u8],
 ) -> Result<Vec<Line<Replace>>, SessionError>
-    requires { used ≤ 400000 }
-    ensures read { Gives (λ v. v.items) result (acts_of client.now used 4 (lines_of bytes.now)) }
-    ensures clients { IfOk result (λ v. All (λ line. line.client ≡ 0) v.items) }
+    requires used { used ≤ 400000 }
+    requires few { length names.now ≤ 32 }
+    ensures read { Gives (λ v. v.items) result (ops_of (map string_bytes names.now) [] used 4 (lines_of bytes.now)) }
+    ensures suit { IfOk result (λ v. AllSuit (length names.now) [] v.items) }
 {
-    let mut lines = Vec::new(alloc);
+    let mut earlier = Earlier::new(alloc, names.len())?;
     let mut used = used;
     let mut rest = bytes;
     let mut number = 4;
     while let Some((line, after)) = first_line(rest) {
-        let act = act_line(alloc, client, used, number, line)?;
-        used += letters_of(&act);
-        lines.push(Line {
-            number,
-            client: 0,
-            act,
-        })?;
+        let op = op_line(alloc, names, &earlier, used, number, line)?;
+        used += letters_of(&op.act);
+        earlier.add(op)?;
         rest = after;
         number += 1;
     }
+    let Earlier {
+        lines,
+        composed,
+        answered,
+    } = earlier;
+    drop(composed);
+    drop(answered);
     Ok(lines)
 }

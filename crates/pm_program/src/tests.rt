@@ -63,7 +63,7 @@ fn words(rt: &impl AllocGlobal, text: &str) -> Result<Vec<String>, Fail> {
 }
 
 // Plays an input in ample memory, and gives the status and what was written.
-fn replay(rt: &impl AllocGlobal, input: Vec<u8>) -> Result<(Status, String), Fail> {
+pub fn replay(rt: &impl AllocGlobal, input: Vec<u8>) -> Result<(Status, String), Fail> {
     let alloc = rt.alloc();
     let words = words(rt, "replay")?;
     let mut source = SureSource::new(input);
@@ -73,7 +73,7 @@ fn replay(rt: &impl AllocGlobal, input: Vec<u8>) -> Result<(Status, String), Fai
     Ok((status, String::from_utf8_lossy(alloc, written)?))
 }
 
-fn input(rt: &impl AllocGlobal, first: &str, rest: &[&str]) -> Result<Vec<u8>, Fail> {
+pub fn input(rt: &impl AllocGlobal, first: &str, rest: &[&str]) -> Result<Vec<u8>, Fail> {
     let mut bytes = Vec::new(rt.alloc());
     for part in [first, "\n"] {
         bytes.extend_from_slice(part.as_bytes())?;
@@ -143,7 +143,7 @@ fn inputs_of_another_form_are_refused(rt: HostRuntime) -> Result<(), Fail> {
         ),
         (
             SCHEMA_LINE,
-            "{\"content\":[{\"type\":\"paragraph\"}],\"type\":\"doc\"}\n[\"a\",\"b\"]\n",
+            "{\"content\":[{\"type\":\"paragraph\"}],\"type\":\"doc\"}\n[\"a\",\"a\"]\n",
             "refused 3 99\n",
         ),
     ] {
@@ -155,10 +155,18 @@ fn inputs_of_another_form_are_refused(rt: HostRuntime) -> Result<(), Fail> {
         ("{\"c\":\"a\",\"op\":\"undo\"}\n", "refused 4 99\n"),
         ("{\"c\":\"z\",\"op\":\"push\"}\n", "refused 4 99\n"),
         (
-            "{\"c\":\"a\",\"op\":\"push\",\"lost\":false}\n",
+            "{\"c\":\"a\",\"op\":\"push\",\"lost\":1}\n",
             "refused 4 99\n",
         ),
         ("\n", "refused 4 99\n"),
+        (
+            "{\"c\":\"a\",\"message\":1,\"op\":\"present\"}\n",
+            "refused 4 99\n",
+        ),
+        (
+            "{\"c\":\"a\",\"op\":\"ask\"}\n{\"answer\":1,\"c\":\"a\",\"op\":\"take\"}\n",
+            "refused 5 99\n",
+        ),
         (
             "{\"c\":\"a\",\"op\":\"step\",\"step\":{\"from\":1.0,\"stepType\":\"replace\",\"to\":1}}\n",
             "refused 4 99\n",
@@ -189,11 +197,6 @@ fn limits_refuse_the_line_that_passes_them(rt: HostRuntime) -> Result<(), Fail> 
     let mut long = input(&rt, SCHEMA_LINE, &[EMPTY])?;
     long.extend_from_slice(&vec![in rt.alloc(); b' '; 1_048_577]?)?;
     assert_eq!(rt; replay(&rt, long)?.1.as_str(), "refused 4 99\n");
-    let mut many = input(&rt, SCHEMA_LINE, &[EMPTY])?;
-    for _ in 0..100_001u32 {
-        many.extend_from_slice(PUSH.as_bytes())?;
-    }
-    assert_eq!(rt; replay(&rt, many)?.1.as_str(), "refused 100004 99\n");
     let letters = String::from_utf8(vec![in rt.alloc(); b'x'; 200_001]?)
         .ok()
         .ok_or("no text")?;
@@ -202,6 +205,16 @@ fn limits_refuse_the_line_that_passes_them(rt: HostRuntime) -> Result<(), Fail> 
     )?;
     let large = input(&rt, SCHEMA_LINE, &[EMPTY, step.as_str(), step.as_str()])?;
     assert_eq!(rt; replay(&rt, large)?.1.as_str(), "refused 5 99\n");
+    Ok(())
+}
+
+#[test]
+fn a_line_past_the_last_is_refused(rt: HostRuntime) -> Result<(), Fail> {
+    let mut many = input(&rt, SCHEMA_LINE, &[EMPTY])?;
+    for _ in 0..100_001u32 {
+        many.extend_from_slice(PUSH.as_bytes())?;
+    }
+    assert_eq!(rt; replay(&rt, many)?.1.as_str(), "refused 100004 99\n");
     Ok(())
 }
 

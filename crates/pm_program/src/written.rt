@@ -30,11 +30,25 @@ pub fn step_text(alloc: Global, step: &Replace) -> Result<String, AllocError>
 }
 
 /// The serials of steps, as a list.
-#[tactic(auto, using(crate::proofs::Floats::written))]
 pub fn serials_text(alloc: Global, steps: &[Named<Replace>]) -> Result<String, AllocError>
     ensures { IfOk result (λ s. string_bytes s ≡ list_text (map serial_of steps.now)) }
 {
-    let value = serials_json(alloc, steps)?;
+    let serials = serials_of(alloc, steps)?;
+    numbers_text(alloc, &serials)
+}
+
+fn serials_of(alloc: Global, steps: &[Named<Replace>]) -> Result<Vec<u64>, AllocError>
+    ensures { IfOk result (λ v. v.items ≡ map serial_of steps.now) }
+{
+    steps.iter().map(|step| step.name.serial).collect(alloc)
+}
+
+/// Numbers, as a list.
+#[tactic(auto, using(crate::proofs::Floats::written))]
+pub fn numbers_text(alloc: Global, numbers: &[u64]) -> Result<String, AllocError>
+    ensures { IfOk result (λ s. string_bytes s ≡ list_text numbers.now) }
+{
+    let value = numbers_json(alloc, numbers)?;
     value.to_string(alloc)
 }
 
@@ -109,18 +123,18 @@ fn insertion_of(alloc: Global, from: u32, to: u32, node: &Value) -> Result<Value
 }
 
 #[tactic(auto, using(crate::proofs::Filled::views))]
-fn serials_json(alloc: Global, steps: &[Named<Replace>]) -> Result<Value, AllocError>
-    ensures { IfOk result (λ v. view v ≡ array (number_items (map serial_of steps.now))) }
+fn numbers_json(alloc: Global, numbers: &[u64]) -> Result<Value, AllocError>
+    ensures { IfOk result (λ v. view v ≡ array (number_items numbers.now)) }
 {
-    Ok(Value::Array(serials(alloc, steps)?))
+    Ok(Value::Array(number_values(alloc, numbers)?))
 }
 
-fn serials(alloc: Global, steps: &[Named<Replace>]) -> Result<Vec<Value>, AllocError>
-    ensures { IfOk result (λ v. items_view v.items ≡ number_items (map serial_of steps.now)) }
+fn number_values(alloc: Global, numbers: &[u64]) -> Result<Vec<Value>, AllocError>
+    ensures { IfOk result (λ v. items_view v.items ≡ number_items numbers.now) }
 {
     let mut items = Vec::new(alloc);
-    for step in steps {
-        items.push(Value::from(step.name.serial))?;
+    for number in numbers {
+        items.push(Value::from(*number))?;
     }
     Ok(items)
 }

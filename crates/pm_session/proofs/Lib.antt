@@ -1,2 +1,9 @@
-pub mod Names
-pub mod Sounds
+pub mod Keeping
+pub mod SoundLaws
+pub mod LogNames
+pub mod Moves
+pub mod Exchanges
+pub mod Lefts
+pub mod Opening
+pub mod Playing
+pub mod Turns

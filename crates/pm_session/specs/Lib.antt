@@ -1,4 +1,8 @@
 pub mod Makes
-pub mod Clients
-pub mod Rooms
+pub mod Events
+pub mod Refusals
+pub mod Left
 pub mod Sessions
+pub mod Suits
+pub mod Sounds
+pub mod Openings

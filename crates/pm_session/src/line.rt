@@ -5,8 +5,18 @@
 pub enum Act<O> {
     /// Makes the steps of this op.
     Edit { op: O },
-    /// Submits what is pending, and takes the answer.
-    Push,
+    /// Composes a submission of all pending steps.
+    Submit,
+    /// Composes an ask for the entries from the client's version on.
+    Ask,
+    /// Presents the client's message of this number, counted from 1, and keeps the answer.
+    Present { message: u64 },
+    /// Takes the client's answer of this number, counted from 1.
+    Take { answer: u64 },
+    /// Composes a submission, presents it, keeps the answer, and takes it unless it is lost.
+    Push { lost: bool },
+    /// Composes an ask, presents it, keeps the answer, and takes it unless it is lost.
+    Pull { lost: bool },
 }
 
 /// One event of a session.

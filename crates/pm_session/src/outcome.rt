@@ -1,5 +1,6 @@
 //! What became of a line.
 use pm_change::Change;
+use pm_client::Taken;
 
 /// The authority's answer, as an outcome tells it.
 #[derive(Drop)]
@@ -10,17 +11,8 @@ pub enum Told<C: Change> {
     Version { length: u64 },
     /// Step `index`, counted from 0, does not apply, for this reason.
     Refused { index: u64, reason: C::Reason },
-}
-
-/// What taking an answer did.
-#[derive(Clone, Copy, Debug, PartialEq, Eq)]
-pub enum Taken {
-    /// The first `own` pending steps are confirmed.
-    Confirmed { own: u64 },
-    /// The answer holds nothing past the version. Nothing changed.
-    Stale,
-    /// The answer is a refusal. Nothing changed.
-    Refused,
+    /// So many entries of the log came, from place `since` on.
+    Entries { since: u64, count: u64 },
 }
 
 /// What became of a line.
@@ -36,6 +28,12 @@ pub enum Outcome<C: Change> {
     NoFit,
     /// Step `index`, counted from 0, does not apply, for this reason. Nothing changed.
     Refused { index: u64, reason: C::Reason },
-    /// A message was presented, and its answer taken.
-    Exchanged { told: Told<C>, taken: Taken },
+    /// The message of this number was composed.
+    Composed { number: u64 },
+    /// A message was presented, and its answer kept.
+    Answered { told: Told<C> },
+    /// An answer was taken.
+    Took { taken: Taken },
+    /// A message was composed and presented, and its answer kept, and taken unless it was lost.
+    Exchanged { told: Told<C>, taken: Option<Taken> },
 }

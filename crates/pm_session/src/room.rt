@@ -1,26 +1,32 @@
-//! A room: an authority and its editor.
-ghost use Rattle.std.specs.Prelude.{◌≡◌, ◌∷◌, [], false, length, vec_len, All, IfOk, OnErr, OnOk};
-ghost use Rattle.pm_session.specs.Sessions.{session};
-ghost use Rattle.pm_session.specs.Rooms.{opened, played, settled, made, pushed, told, IsSound};
+//! A room: an authority and its clients.
+ghost use Rattle.std.specs.Prelude.{◌≡◌, ◌≤◌, ◌<◌, false, length, vec_len, All, IfOk, OnErr, OnOk};
+ghost use Rattle.pm_client.specs.declared.taken.Kind.TheVariants.{Ask};
+ghost use Rattle.pm_session.specs.Events.{state_of, played};
+ghost use Rattle.pm_session.specs.Left.{LeftByLine};
+ghost use Rattle.pm_session.specs.Sessions.{opened, session, exchanged, brought_up, in_turn, settled};
+ghost use Rattle.pm_session.specs.Sounds.{Sound, NamesDiffer};
+ghost use Rattle.pm_session.specs.Suits.{SuitsRoom, LinesSuit};
 
-use crate::client::Client;
-use crate::line::{Act, Line};
-use crate::maker::{Maker, NoSteps};
-use crate::outcome::{Outcome, Told};
-use pm_authority::{Answer, Authority};
+use crate::act::act;
+use crate::exchange::exchange;
+use crate::line::Line;
+use crate::maker::Maker;
+use crate::outcome::Outcome;
+use pm_authority::Authority;
 use pm_change::Change;
+use pm_client::{Client, Kind};
 use std::alloc::{AllocError, Global};
 
-/// An authority and its one editor, client 0.
+/// An authority and its clients, client i at place i.
 #[derive(Drop)]
 pub struct Room<C: Change> {
     authority: Authority<C>,
-    editor: Client<C>,
+    clients: Vec<Client<C>>,
 }
 
 impl<C: Change> Room<C> {
-    /// A room at this document, with an empty log and one editor at version 0. `raw` says of each
-    /// client whether it is no editor.
+    /// A room at this document, with an empty log and as many clients at version 0 as `raw` has places. `raw` says of each
+    /// client whether it is no editor; so far each must be one.
     pub fn new(
         alloc: Global,
         rules: &C::Rules,
@@ -28,16 +34,20 @@ impl<C: Change> Room<C> {
         raw: &[bool],
     ) -> Result<Room<C>, AllocError>
         requires good { C.means.is_good rules.now doc }
-        requires one { raw.now ≡ false ∷ [] }
-        ensures opens { IfOk result (λ r. r ≡ opened doc) }
-        ensures sound { IfOk result (λ r. IsSound C.means rules.now r) }
+        requires few { length raw.now ≤ 32 }
+        requires editors { All (λ r. r ≡ false) raw.now }
+        ensures opens { IfOk result (λ r. state_of r ≡ opened doc (length raw.now)) }
+        ensures sound { IfOk result (λ r. Sound C.means rules.now (state_of r)) }
     {
         let _rules = rules;
-        let _raw = raw;
-        let editor = Client::new(alloc, 0, C::copy_doc(alloc, &doc)?);
+        let mut clients = Vec::new(alloc);
+        for _raw in raw {
+            let name = clients.len() as u32;
+            clients.push(Client::new(alloc, name, C::copy_doc(alloc, &doc)?)?)?;
+        }
         Ok(Room {
             authority: Authority::new(alloc, doc)?,
-            editor,
+            clients,
         })
     }
 
@@ -48,14 +58,15 @@ impl<C: Change> Room<C> {
         &self.authority
     }
 
-    /// The editor.
-    pub fn editor(&self) -> &Client<C>
-        ensures { result.now ≡ self.now.editor }
+    /// The clients, client i at place i.
+    pub fn clients(&self) -> &[Client<C>]
+        ensures { result.now ≡ self.now.clients.items }
     {
-        &self.editor
+        self.clients.as_slice()
     }
 
-    /// Plays a line. Want of memory leaves the room as before.
+    /// Plays a line, which must suit the room: its client is there, and so is the message or the answer that it names.
+    /// Want of memory leaves the first parts of its act done and the others not.
     pub fn play<K: Maker<C>>(
         &mut self,
         alloc: Global,
@@ -63,20 +74,19 @@ impl<C: Change> Room<C> {
         maker: &K,
         line: &Line<K::Op>,
     ) -> Result<Outcome<C>, AllocError>
-        requires sound { IsSound C.means rules.now self.old }
-        requires suits { line.now.client ≡ 0 }
-        ensures plays { IfOk result (λ o. (o, self.new) ≡ played C.means rules.now (K.makes maker.now rules.now) self.old line.now) }
-        ensures err { OnErr result (self.new ≡ self.old) }
-        ensures sound { IsSound C.means rules.now self.new }
+        requires sound { Sound C.means rules.now (state_of self.old) }
+        requires suits { SuitsRoom (state_of self.old) line.now }
+        ensures plays { IfOk result (λ o. (o, state_of self.new) ≡ played C.means rules.now (K.makes maker.now rules.now) (state_of self.old) line.now) }
+        ensures left { OnErr result (LeftByLine C.means rules.now (state_of self.old) line.now (state_of self.new)) }
+        ensures sound { Sound C.means rules.now (state_of self.new) }
+        ensures names { NamesDiffer self.new.authority.log }
     {
-        match &line.act {
-            Act::Edit { op } => self.edit(alloc, rules, maker, op),
-            Act::Push => self.push(alloc, rules),
-        }
+        let client = &mut self.clients[line.client as usize];
+        act(alloc, rules, maker, &mut self.authority, client, &line.act)
     }
 
-    /// Plays lines in order, and tells what became of each. Want of memory leaves the room after the
-    /// lines that were played.
+    /// Plays lines in order, and tells what became of each. Each must suit the room as the lines before it leave it. Want
+    /// of memory leaves the room after the lines that were played, and after the first parts of the next.
     pub fn play_all<K: Maker<C>>(
         &mut self,
         alloc: Global,
@@ -84,12 +94,13 @@ impl<C: Change> Room<C> {
         maker: &K,
         lines: &[Line<K::Op>],
     ) -> Result<Vec<Outcome<C>>, AllocError>
-        requires sound { IsSound C.means rules.now self.old }
-        requires suits { All (λ line. line.client ≡ 0) lines.now }
-        ensures outcomes { IfOk result (λ v. v.items ≡ (session C.means rules.now (K.makes maker.now rules.now) self.old lines.now).0) }
+        requires sound { Sound C.means rules.now (state_of self.old) }
+        requires suit { LinesSuit (state_of self.old) lines.now }
+        ensures outcomes { IfOk result (λ v. v.items ≡ (session C.means rules.now (K.makes maker.now rules.now) (state_of self.old) lines.now).0) }
         ensures each { IfOk result (λ v. vec_len v ≡ length lines.now) }
-        ensures room { OnOk result (self.new ≡ (session C.means rules.now (K.makes maker.now rules.now) self.old lines.now).1) }
-        ensures sound { IsSound C.means rules.now self.new }
+        ensures room { OnOk result (state_of self.new ≡ (session C.means rules.now (K.makes maker.now rules.now) (state_of self.old) lines.now).1) }
+        ensures sound { Sound C.means rules.now (state_of self.new) }
+        ensures names { NamesDiffer self.new.authority.log }
     {
         let mut outcomes = Vec::new(alloc);
         for line in lines {
@@ -98,65 +109,60 @@ impl<C: Change> Room<C> {
         Ok(outcomes)
     }
 
-    /// The editor pulls and pushes. What it pulls is its own alone, so that only the push does something.
+    /// Each client in turn asks for what is past its version and submits what is pending; then each asks again. Want of
+    /// memory leaves the room after the first parts of this.
     pub fn settle(&mut self, alloc: Global, rules: &C::Rules) -> Result<(), AllocError>
-        requires { IsSound C.means rules.now self.old }
-        ensures settles { OnOk result (self.new ≡ settled C.means rules.now self.old) }
-        ensures err { OnErr result (self.new ≡ self.old) }
-        ensures sound { IsSound C.means rules.now self.new }
+        requires { Sound C.means rules.now (state_of self.old) }
+        ensures settles { OnOk result (state_of self.new ≡ settled C.means rules.now (state_of self.old)) }
+        ensures sound { Sound C.means rules.now (state_of self.new) }
+        ensures names { NamesDiffer self.new.authority.log }
     {
-        let _outcome = self.push(alloc, rules)?;
+        self.bring_up_all(alloc, rules)?;
+        self.pull_all(alloc, rules)
+    }
+
+    /// Each client in turn asks and submits.
+    fn bring_up_all(&mut self, alloc: Global, rules: &C::Rules) -> Result<(), AllocError>
+        requires { Sound C.means rules.now (state_of self.old) }
+        ensures brings { OnOk result (state_of self.new ≡ in_turn (brought_up C.means rules.now) 0 (length self.old.clients.items) (state_of self.old)) }
+        ensures clients { length self.new.clients.items ≡ length self.old.clients.items }
+        ensures sound { Sound C.means rules.now (state_of self.new) }
+    {
+        for client in 0..self.clients.len() {
+            self.exchange(alloc, rules, client, Kind::Ask)?;
+            self.exchange(alloc, rules, client, Kind::Submit)?;
+        }
         Ok(())
     }
 
-    fn edit<K: Maker<C>>(
+    /// Each client in turn asks.
+    fn pull_all(&mut self, alloc: Global, rules: &C::Rules) -> Result<(), AllocError>
+        requires { Sound C.means rules.now (state_of self.old) }
+        ensures pulls { OnOk result (state_of self.new ≡ in_turn (exchanged C.means rules.now Ask) 0 (length self.old.clients.items) (state_of self.old)) }
+        ensures sound { Sound C.means rules.now (state_of self.new) }
+    {
+        for client in 0..self.clients.len() {
+            self.exchange(alloc, rules, client, Kind::Ask)?;
+        }
+        Ok(())
+    }
+
+    /// The client at this place exchanges a message of this kind, and takes the answer.
+    fn exchange(
         &mut self,
         alloc: Global,
         rules: &C::Rules,
-        maker: &K,
-        op: &K::Op,
-    ) -> Result<Outcome<C>, AllocError>
-        requires sound { IsSound C.means rules.now self.old }
-        ensures made { IfOk result (λ o. (o, self.new) ≡ made C.means rules.now self.old (K.makes maker.now rules.now self.old.editor.doc op.now)) }
-        ensures err { OnErr result (self.new ≡ self.old) }
-        ensures sound { IsSound C.means rules.now self.new }
+        client: usize,
+        kind: Kind,
+    ) -> Result<(), AllocError>
+        requires sound { Sound C.means rules.now (state_of self.old) }
+        requires within { client < length self.old.clients.items }
+        ensures exchanges { OnOk result (state_of self.new ≡ exchanged C.means rules.now kind client (state_of self.old)) }
+        ensures clients { length self.new.clients.items ≡ length self.old.clients.items }
+        ensures sound { Sound C.means rules.now (state_of self.new) }
     {
-        match maker.steps(alloc, rules, self.editor.doc(), op) {
-            Ok(steps) => {
-                let outcome = self.editor.edit(alloc, rules, steps)?;
-                Ok(outcome)
-            }
-            Err(NoSteps::Range) => Ok(Outcome::NoRange),
-            Err(NoSteps::NotThere) => Ok(Outcome::NoPlace),
-            Err(NoSteps::NoFit) => Ok(Outcome::NoFit),
-            Err(NoSteps::NoMemory) => Err(AllocError),
-        }
-    }
-
-    fn push(&mut self, alloc: Global, rules: &C::Rules) -> Result<Outcome<C>, AllocError>
-        requires { IsSound C.means rules.now self.old }
-        ensures pushes { IfOk result (λ o. (o, self.new) ≡ pushed C.means rules.now self.old) }
-        ensures err { OnErr result (self.new ≡ self.old) }
-        ensures sound { IsSound C.means rules.now self.new }
-    {
-        let message = self.editor.submission(alloc)?;
-        let answer = self.authority.present(alloc, rules, 0, &message)?;
-        let _length = self.authority.log().len();
-        let taken = self.editor.take(&answer);
-        Ok(Outcome::Exchanged {
-            told: told(answer),
-            taken,
-        })
-    }
-}
-
-/// The answer, as an outcome tells it.
-fn told<C: Change>(answer: Answer<C>) -> Told<C>
-    ensures { result ≡ told answer }
-{
-    match answer {
-        Answer::Accepted { from, count } => Told::Accepted { from, count },
-        Answer::WrongVersion { length } => Told::Version { length },
-        Answer::StepRefused { index, reason } => Told::Refused { index, reason },
+        let client = &mut self.clients[client];
+        let _outcome = exchange(alloc, rules, &mut self.authority, client, kind, false)?;
+        Ok(())
     }
 }

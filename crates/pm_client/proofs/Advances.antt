@@ -1,0 +1,79 @@
+-- Steps that are known to apply.
+use Rattle.std.proofs.Common.{◌≡◌, ℕ, ◌+◌, ◌-◌, ◌<◌, ◌≤◌, ◌⊎◌, ◌^◌, List, ◌++◌, length, take, drop, ap, sym, ◌∙◌, arith, subst, append_assoc, Some, Ok, Err, length-append, inl, inr}
+use Rattle.std.proofs.lemmas.List.{take-append-drop}
+use Rattle.pm_change.specs.Changes.{Meaning, Laws, fold}
+use Rattle.pm_change.specs.Folds.{fold-append, fold-good}
+use Rattle.pm_change.specs.Failing.{Answers}
+use Rattle.pm_change.specs.declared.failed.Failed.{Failed}
+use Rattle.pm_change.specs.declared.failed.Failed.TheVariants.{Reason as FailedFor}
+use Rattle.pm_authority.specs.declared.named.Named.{Named}
+use Rattle.pm_authority.specs.declared.running.Refusal.{Refusal}
+use Rattle.pm_authority.specs.declared.message.Answer.TheVariants.{Accepted, Entries}
+use Rattle.pm_authority.specs.Runs.{run, changes_of, AllApply}
+use Rattle.pm_authority.specs.RunFolds.{changes-append, fold-run}
+use Rattle.pm_client.specs.declared.client.Client.{Client}
+use Rattle.pm_client.specs.Takings.{rest-of}
+use Rattle.pm_client.specs.Plans.{Meets, MayConfirm, Fits}
+use Rattle.pm_client.specs.Prefixes.{front-applies}
+
+module _ {Rules Doc Reason C : Type 0} (m : Meaning Rules Doc Reason C) (rules : Rules) where
+  no-refusal : (doc : Doc) (ns : List (Named C)) (r : Refusal Reason) → (end : Doc) × AllApply m rules doc ns end → run m rules doc 0 ns ≡ Err r → ⊥
+  no-refusal doc ns r h e = let o : run m rules doc 0 ns ≡ Ok h.0 = fold-run m rules doc h.0 0 ns h.1 in cc
+
+  -- steps that apply are not refused
+  pub never-refused : (doc : Doc) (ns : List (Named C)) (e : Failed (Refusal Reason)) (r : Refusal Reason) → (end : Doc) × AllApply m rules doc ns end
+      → e ≡ FailedFor r → Answers (run m rules doc 0 ns) (Err e) → ⊥
+  never-refused doc ns e r h is a = no-refusal doc ns r h (subst (λ (x : Failed (Refusal Reason)). Answers (run m rules doc 0 ns) (Err x)) is a)
+
+  -- the first pending steps apply to the base
+  pub confirm-applies : (c : Client C Rules Doc Reason) (own : ℕ) → MayConfirm m rules c own → (end : Doc) × AllApply m rules c.base (take own c.pending) end
+  confirm-applies c own h =
+      front-applies m rules c.base c.doc (take own c.pending) (drop own c.pending)
+      (ap (λ l. fold m rules c.base (changes_of l)) (take-append-drop own c.pending) ∙ h.applies)
+
+  -- an accepted submission that ends past the version may be confirmed
+  pub accepted-may : Laws m → (c : Client C Rules Doc Reason) (from count : ℕ) → Meets m rules c (Accepted from count) → c.version - from < count
+      → MayConfirm m rules c count
+  accepted-may laws c from count h past =
+      let s = h.kin.stands in
+      let same = is h.stands in
+      record {
+        good = fold-good m rules laws h.first c.base (changes_of h.kin.before) h.kin.first_good h.kin.base_is;
+        applies = h.kin.doc_is;
+        within = omega (arith, same, s.counted, ap length s.pending_is, length-append s.standing s.later);
+        short = omega (arith, same, s.counted, h.kin.version_is, ap length h.kin.log_is, length-append h.kin.before h.kin.past, ap length s.past_is, length-append s.standing s.foreign, h.short);
+      }
+    where
+      is : (from + count ≤ c.version) ⊎ ((from ≡ c.version) × (count ≡ h.kin.standing)) → count ≡ h.kin.standing
+      is (inl l) = absurd (omega (arith, l, past))
+      is (inr e) = e.1
+
+  -- the entries past the version fit
+  pub entries-fit : Laws m → (c : Client C Rules Doc Reason) (since : ℕ) (entries : List (Named C)) → Meets m rules c (Entries since entries)
+      → c.version - since < length entries → Fits m rules c (drop (c.version - since) entries)
+  entries-fit laws c since entries h past =
+      let kin = h.kin in
+      let first = h.first in
+      let s = kin.stands in
+      let rest : List (Named C) = drop (c.version - since) entries in
+      let low = h.stands.0 in
+      let r = rest-of m rules first h.log c kin since entries h.stands (omega (arith, low, past)) in
+      let whole : kin.past ≡ rest ++ r.after =
+      s.past_is ∙ ap (λ l. s.standing ++ l) r.foreign_is ∙ sym (append_assoc s.standing r.front r.after) ∙ ap (λ l. l ++ r.after) (sym r.rest_is) in
+      let all : fold m rules first (changes_of (kin.before ++ kin.past)) ≡ Some kin.log_applies.0 =
+      ap (λ l. fold m rules first (changes_of l)) (sym kin.log_is) ∙ kin.log_applies.1 in
+      let after_base : fold m rules c.base (changes_of kin.past) ≡ Some kin.log_applies.0 =
+      sym (fold-append m rules first c.base (changes_of kin.before) (changes_of kin.past) kin.base_is)
+      ∙ ap (fold m rules first) (sym (changes-append kin.before kin.past)) ∙ all in
+      let long : c.version + length rest < 2 ^ 64 =
+      omega (arith, kin.version_is, ap length kin.log_is, length-append kin.before kin.past, ap length whole, length-append rest r.after, h.short) in
+      record {
+        leading = record {
+          good = fold-good m rules laws first c.base (changes_of kin.before) kin.first_good kin.base_is;
+          applies = kin.doc_is;
+          within = omega (arith, r.own_is, s.counted, ap length s.pending_is, length-append s.standing s.later);
+          short = omega (arith, long, r.own_is, s.counted, ap length r.rest_is, length-append s.standing r.front);
+        };
+        applies = front-applies m rules c.base kin.log_applies.0 rest r.after (rw whole at after_base);
+        short = long;
+      }

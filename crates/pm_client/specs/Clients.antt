@@ -1,0 +1,129 @@
+-- What a client's calls make of it. Each is a function of the client's state.
+use Rattle.std.specs.Prelude.{ℕ, ◌+◌, ◌-◌, ◌≡◌, ◌==◌, nat_le, if◌then◌else◌, List, [], ◌∷◌, ◌++◌, length, take, drop, slice_get, Option, Some, None, Result, Ok, Err}
+use Rattle.pm_change.specs.Changes.{Meaning, fold}
+use Rattle.pm_authority.specs.declared.named.Named.{Named}
+use Rattle.pm_authority.specs.declared.running.Refusal.{Refusal}
+use Rattle.pm_authority.specs.declared.message.Message.{Message}
+use Rattle.pm_authority.specs.declared.message.Message.TheVariants.{Submit, Ask}
+use Rattle.pm_authority.specs.declared.message.Answer.{Answer}
+use Rattle.pm_authority.specs.declared.message.Answer.TheVariants.{Accepted, WrongVersion, StepRefused, Entries}
+use Rattle.pm_authority.specs.Runs.{run, changes_of}
+use Rattle.pm_client.specs.declared.client.Client.{Client}
+use Rattle.pm_client.specs.declared.failing.EditError.{EditError}
+use Rattle.pm_client.specs.declared.failing.EditError.TheVariants.{Refused as RefusedAt, NoMemory}
+use Rattle.pm_client.specs.declared.taken.Kind.{Kind}
+use Rattle.pm_client.specs.declared.taken.Kind.TheVariants.{Submit as ToSubmit, Ask as ToAsk}
+use Rattle.pm_client.specs.declared.taken.Taken.{Taken}
+use Rattle.pm_client.specs.declared.taken.Taken.TheVariants.{Confirmed, Rebased, Stale, Refused, Unbuilt}
+
+-- the steps under names of this client, with serials from this one on
+abbrev pub named : {C : Type 0} → ℕ → ℕ → List C → List (Named C)
+named client serial [] = []
+named client serial (c ∷ cs) = record { name = record { client = client; serial = serial }; change = c } ∷ named client (serial + 1) cs
+
+-- how many steps at the front are this client's
+abbrev pub own_run : {C : Type 0} → ℕ → List (Named C) → ℕ
+own_run client [] = 0
+own_run client (n ∷ ns) = if n.name.client == client then own_run client ns + 1 else 0
+
+module _ {Rules Doc Reason C : Type 0} where
+  -- a client of this name at version 0, with this document and nothing pending
+  abbrev pub new_client : ℕ → Doc → Client C Rules Doc Reason
+  new_client name doc = record {
+    name = name;
+    version = 0;
+    base = doc;
+    doc = doc;
+    pending = [];
+    messages = [];
+    answers = [];
+    serials = 0;
+    dropped = [];
+  }
+
+  -- the message of this kind: all pending steps at the client's version, or a request for what is past it
+  abbrev pub message_of : Client C Rules Doc Reason → Kind → Message C
+  message_of c ToSubmit = Submit c.version c.pending
+  message_of c ToAsk = Ask c.version
+
+  -- a message was composed
+  abbrev pub composed : Client C Rules Doc Reason → Kind → Client C Rules Doc Reason
+  composed c kind = record c { messages = c.messages ++ message_of c kind ∷ [] }
+
+  -- an answer was kept
+  abbrev pub kept : Client C Rules Doc Reason → Answer C Rules Doc Reason → Client C Rules Doc Reason
+  kept c answer = record c { answers = c.answers ++ answer ∷ [] }
+
+  -- the message of this number, counted from 1
+  abbrev pub message_at : Client C Rules Doc Reason → ℕ → Option (Message C)
+  message_at c j = slice_get c.messages (j - 1)
+
+  -- the answer of this number, counted from 1
+  abbrev pub answer_at : Client C Rules Doc Reason → ℕ → Option (Answer C Rules Doc Reason)
+  answer_at c i = slice_get c.answers (i - 1)
+
+  -- the first k pending steps are confirmed, and give this base
+  abbrev pub confirmed : Client C Rules Doc Reason → ℕ → Doc → Client C Rules Doc Reason
+  confirmed c k base = record c { version = c.version + k; base = base; pending = drop k c.pending }
+
+  -- k entries more, which give this base, and nothing is pending
+  abbrev pub updated : Client C Rules Doc Reason → ℕ → Doc → Client C Rules Doc Reason
+  updated c k base = record c { version = c.version + k; base = base; doc = base; pending = [] }
+
+  -- The client that this document gives. Without a document the client is as it was; steps that stand in a log always
+  -- give one.
+  abbrev pub given : Client C Rules Doc Reason → Option Doc → (Doc → Client C Rules Doc Reason) → Client C Rules Doc Reason
+  given c None next = c
+  given c (Some base) next = next base
+
+module _ {Rules Doc Reason C : Type 0} (m : Meaning Rules Doc Reason C) (rules : Rules) where
+  -- what steps get that were tried on the client's document: they are pending under the next serials, or one is refused
+  abbrev pub tried : Client C Rules Doc Reason → List C → Result Doc (Refusal Reason) → Result (Client C Rules Doc Reason) (Refusal Reason)
+  tried c cs (Ok doc) = Ok (record c { doc = doc; pending = c.pending ++ named c.name (c.serials + 1) cs; serials = c.serials + length cs })
+  tried c cs (Err e) = Err e
+
+  -- The client once these steps were made, one after another, or the first of them that does not apply to the document
+  -- that the ones before it give.
+  abbrev pub edited : Client C Rules Doc Reason → List C → Result (Client C Rules Doc Reason) (Refusal Reason)
+  edited c cs = tried c cs (run m rules c.doc 0 (named c.name (c.serials + 1) cs))
+
+  -- an edit's error is the refusal, or want of memory
+  abbrev pub IsRefusal : Result (Client C Rules Doc Reason) (Refusal Reason) → EditError Reason → Type 0
+  IsRefusal r (RefusedAt index reason) = r ≡ Err (record { index = index; reason = reason })
+  IsRefusal r NoMemory = Unit {0}
+
+  -- the first k pending steps are in the log, and nothing else past the version
+  abbrev pub confirmed_first : Client C Rules Doc Reason → ℕ → Taken × Client C Rules Doc Reason
+  confirmed_first c k = (Confirmed k, given c (fold m rules c.base (changes_of (take k c.pending))) (confirmed c k))
+
+  -- These entries past the version have so many own ones in front, and others after them. Where nothing else is pending,
+  -- the client goes on to what all these entries give. Else nothing is done.
+  abbrev pub others_taken : Client C Rules Doc Reason → List (Named C) → ℕ → Taken × Client C Rules Doc Reason
+  others_taken c rest own =
+      if nat_le (length c.pending) own
+      then (Rebased own (length rest - own) 0, given c (fold m rules c.base (changes_of rest)) (updated c (length rest)))
+      else (Unbuilt, c)
+
+  -- These entries past the version have so many own ones in front, which are the first pending steps. Where there are no
+  -- others, they are confirmed.
+  abbrev pub rest_taken : Client C Rules Doc Reason → List (Named C) → ℕ → Taken × Client C Rules Doc Reason
+  rest_taken c rest own = if own == length rest then confirmed_first c own else others_taken c rest own
+
+  -- What taking an answer tells, and the client after it. An answer that holds nothing past the version is stale.
+  abbrev pub taken : Client C Rules Doc Reason → Answer C Rules Doc Reason → Taken × Client C Rules Doc Reason
+  taken c (Accepted from count) = if nat_le (from + count) c.version then (Stale, c) else confirmed_first c count
+  taken c (WrongVersion size) = (Refused, c)
+  taken c (StepRefused index reason) = (Refused, c)
+  taken c (Entries since entries) =
+      if nat_le (since + length entries) c.version
+      then (Stale, c)
+      else (let rest = drop (c.version - since) entries in rest_taken c rest (own_run c.name rest))
+
+  -- an answer that was never kept holds nothing
+  abbrev pub taken_if : Client C Rules Doc Reason → Option (Answer C Rules Doc Reason) → Taken × Client C Rules Doc Reason
+  taken_if c None = (Stale, c)
+  taken_if c (Some answer) = taken c answer
+
+  -- what taking the answer of this number tells, and the client after it
+  abbrev pub taken_at : Client C Rules Doc Reason → ℕ → Taken × Client C Rules Doc Reason
+  taken_at c i = taken_if c (answer_at c i)

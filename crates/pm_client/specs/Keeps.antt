@@ -1,0 +1,305 @@
+-- Each call keeps how its client stands to the log, and each growth of the log keeps it too.
+use Rattle.std.specs.Prelude.{◌≡◌, ℕ, ◌+◌, ◌≤◌, ◌<◌, ◌⊎◌, true, false, nat_lt, List, [], ◌∷◌, ◌++◌, length, drop, Some, Result, Ok, Err, refl}
+use Rattle.std.proofs.Common.{sym, subst, ap, ◌∙◌, inl, inr, arith, length-append, append_assoc, append-nil}
+use Rattle.std.proofs.Math.Seq.{drop-append_seam}
+use Rattle.std.proofs.lemmas.List.Elements.{All-from_recursion}
+use Rattle.std.proofs.lemmas.Bool.{ltb-true, ltb-false}
+use Rattle.std.specs.List.{AllByRecursion as Each}
+use Rattle.pm_change.specs.Changes.{Meaning, fold}
+use Rattle.pm_change.specs.Folds.{fold-append}
+use Rattle.pm_authority.specs.declared.named.Named.{Named}
+use Rattle.pm_authority.specs.declared.running.Refusal.{Refusal}
+use Rattle.pm_authority.specs.declared.message.Message.{Message}
+use Rattle.pm_authority.specs.declared.message.Message.TheVariants.{Submit, Ask}
+use Rattle.pm_authority.specs.declared.message.Answer.{Answer}
+use Rattle.pm_authority.specs.declared.message.Answer.TheVariants.{Accepted, WrongVersion, StepRefused, Entries}
+use Rattle.pm_authority.specs.Runs.{run, changes_of}
+use Rattle.pm_authority.specs.RunFolds.{changes-append, run-fold}
+use Rattle.pm_client.specs.declared.client.Client.{Client}
+use Rattle.pm_client.specs.declared.taken.Kind.{Kind}
+use Rattle.pm_client.specs.declared.taken.Kind.TheVariants.{Submit as ToSubmit, Ask as ToAsk}
+use Rattle.pm_client.specs.Clients.{named, new_client, tried, edited, message_of, composed, kept, confirmed, updated}
+use Rattle.pm_client.specs.Kins.{IsOwn, IsForeign, IsPrefix, IsPart, MessageStands, AnswerStands, Past, Kin}
+use Rattle.pm_client.specs.Lists.{All-more, All-push, Each-append, Each-front, Each-back, nothing}
+use Rattle.pm_client.specs.Serials.{Parted}
+use Rattle.pm_client.specs.Partings.{parted-edited, parted-confirmed, parted-foreign}
+
+named-own : {C : Type 0} (client serial : ℕ) (cs : List C) → Each (IsOwn client) (named client serial cs)
+named-own client serial [] = tt
+named-own client serial (c ∷ cs) = (refl, named-own client (serial + 1) cs)
+
+prefix-append : {C : Type 0} (xs ys zs : List (Named C)) → IsPrefix xs ys → IsPrefix xs (ys ++ zs)
+prefix-append xs ys zs h = (h.0 ++ zs, sym (append_assoc xs h.0 zs) ∙ ap (λ l. l ++ zs) h.1)
+
+message-grows : {C : Type 0} (v : ℕ) (pending more : List (Named C)) (x : Message C) → MessageStands v pending x → MessageStands v (pending ++ more) x
+message-grows v pending more (Submit w steps) h = (h.0, λ e. prefix-append steps pending more (h.1 e))
+message-grows v pending more (Ask w) h = h
+
+-- a message of a lower version says nothing of the pending steps
+message-passed : {C : Type 0} (v w : ℕ) (pending more : List (Named C)) (x : Message C) → v < w → MessageStands v pending x → MessageStands w more x
+message-passed v w pending more (Submit u steps) l h = (omega (arith, h.0), λ e. absurd (omega (arith, h.0, e)))
+message-passed v w pending more (Ask u) l h = omega (arith, h)
+
+part-grows : {C : Type 0} (log more : List (Named C)) (since : ℕ) (entries : List (Named C)) → IsPart log since entries → IsPart (log ++ more) since entries
+part-grows log more since entries h = (h.0, h.1 ++ more, h.2, sym (append_assoc (h.0 ++ entries) h.1 more) ∙ ap (λ l. l ++ more) h.3)
+
+module _ {Rules Doc Reason C : Type 0} where
+  answer-grows : (log more : List (Named C)) (v k : ℕ) (x : Answer C Rules Doc Reason) → AnswerStands log v k x → AnswerStands (log ++ more) v k x
+  answer-grows log more v k (Accepted from count) h = h
+  answer-grows log more v k (WrongVersion n) h = tt
+  answer-grows log more v k (StepRefused index reason) h = tt
+  answer-grows log more v k (Entries since entries) h = (h.0, part-grows log more since entries h.1, h.2)
+
+pub part-length : {C : Type 0} (log : List (Named C)) (since : ℕ) (entries : List (Named C)) → IsPart log since entries → since + length entries ≤ length log
+part-length log since entries h =
+    let e : length (h.0 ++ entries ++ h.1) ≡ length log = ap length h.3 in
+    omega (arith, e, h.2, length-append (h.0 ++ entries) h.1, length-append h.0 entries)
+
+le-or : (a b : ℕ) → (a ≤ b) ⊎ (b ≤ a)
+le-or a b = elim (nat_lt a b) as (λ t. nat_lt a b ≡ t → (a ≤ b) ⊎ (b ≤ a)) [ true ↦ λ e. inl (omega (arith, ltb-true a b e)) | false ↦ λ e. inr (omega (arith, ltb-false a b e)) ] refl
+
+module _ {Rules Doc Reason C : Type 0} where
+  -- the client went on by its k standing steps and f more
+  answer-passed : (log : List (Named C)) (v k f w : ℕ) (x : Answer C Rules Doc Reason) → w ≡ v + k + f → AnswerStands log v k x → AnswerStands log w 0 x
+  answer-passed log v k f w (Accepted from count) e (inl h) = inl (omega arith)
+  answer-passed log v k f w (Accepted from count) e (inr h) = inl (omega (arith, h.0, h.1))
+  answer-passed log v k f w (WrongVersion n) e h = tt
+  answer-passed log v k f w (StepRefused index reason) e h = tt
+  answer-passed log v k f w (Entries since entries) e (s, p, o) = (omega arith, p, either (le-or (since + length entries) w))
+    where
+      either : (since + length entries ≤ w) ⊎ (w ≤ since + length entries) → (since + length entries ≤ w) ⊎ (w + 0 ≤ since + length entries)
+      either (inl h) = inl h
+      either (inr h) = inr (omega arith)
+
+  -- the client's own steps were accepted at the end of the log
+  answer-accepted : (log steps : List (Named C)) (v k : ℕ) (x : Answer C Rules Doc Reason) → v ≡ length log → AnswerStands log v 0 x → AnswerStands (log ++ steps) v k x
+  answer-accepted log steps v k (Accepted from count) e (inl h) = inl h
+  answer-accepted log steps v k (Accepted from count) e (inr h) = inl (omega (arith, h.0, h.1))
+  answer-accepted log steps v k (WrongVersion n) e h = tt
+  answer-accepted log steps v k (StepRefused index reason) e h = tt
+  answer-accepted log steps v k (Entries since entries) e h =
+      (h.0, part-grows log steps since entries h.1, inl (omega (arith, e, part-length log since entries h.1)))
+
+module _ {Rules Doc Reason C : Type 0} (m : Meaning Rules Doc Reason C) (rules : Rules) (first : Doc) (log : List (Named C)) (c : Client C Rules Doc Reason) (kin : Kin m rules first log c) where
+  past-grows : (more : List (Named C)) → Past c.name c.pending kin.past kin.standing → Past c.name (c.pending ++ more) kin.past kin.standing
+  past-grows more h = record {
+    foreign = h.foreign;
+    later = h.later ++ more;
+    standing = h.standing;
+    counted = h.counted;
+    past_is = h.past_is;
+    pending_is = ap (λ l. l ++ more) h.pending_is ∙ append_assoc h.standing h.later more;
+    are_foreign = h.are_foreign;
+  }
+
+  -- steps that were tried on the client's document
+  kin-tried : (cs : List C) (next : Client C Rules Doc Reason) (r : Result Doc (Refusal Reason))
+      → run m rules c.doc 0 (named c.name (c.serials + 1) cs) ≡ r → tried m rules c cs r ≡ Ok next → Kin m rules first log next
+  kin-tried cs next (Err e) ran h = absurd (cc)
+  kin-tried cs next (Ok doc) ran h =
+      let new : List (Named C) = named c.name (c.serials + 1) cs in
+      let is : record c { doc = doc; pending = c.pending ++ new; serials = c.serials + length cs } ≡ next = cc in
+      subst (Kin m rules first log) is
+      record {
+        before = kin.before;
+        past = kin.past;
+        standing = kin.standing;
+        log_is = kin.log_is;
+        version_is = kin.version_is;
+        base_is = kin.base_is;
+        doc_is = ap (fold m rules c.base) (changes-append c.pending new)
+            ∙ fold-append m rules c.base c.doc (changes_of c.pending) (changes_of new) kin.doc_is ∙ run-fold m rules c.doc doc 0 new ran;
+        first_good = kin.first_good;
+        log_applies = kin.log_applies;
+        own = Each-append (IsOwn c.name) c.pending new kin.own (named-own c.name (c.serials + 1) cs);
+        parted = parted-edited c.name kin.before c.pending c.dropped c.serials kin.parted cs;
+        stands = past-grows new kin.stands;
+        messages = All-more _ _ c.messages (message-grows c.version c.pending new) kin.messages;
+        answers = kin.answers;
+      }
+
+  -- steps made
+  pub kin-edited : (cs : List C) (next : Client C Rules Doc Reason) → edited m rules c cs ≡ Ok next → Kin m rules first log next
+  kin-edited cs next h = kin-tried cs next (run m rules c.doc 0 (named c.name (c.serials + 1) cs)) refl h
+
+  -- a message composed
+  pub kin-composed : (kind : Kind) → Kin m rules first log (composed c kind)
+  kin-composed kind = record {
+    before = kin.before;
+    past = kin.past;
+    standing = kin.standing;
+    log_is = kin.log_is;
+    version_is = kin.version_is;
+    base_is = kin.base_is;
+    doc_is = kin.doc_is;
+    first_good = kin.first_good;
+    log_applies = kin.log_applies;
+    own = kin.own;
+    parted = kin.parted;
+    stands = kin.stands;
+    messages = All-push (MessageStands c.version c.pending) c.messages (message_of c kind) kin.messages (new kind);
+    answers = kin.answers;
+  }
+    where
+      new : (kind : Kind) → MessageStands c.version c.pending (message_of c kind)
+      new ToSubmit = (omega arith, λ e. ([], append-nil c.pending))
+      new ToAsk = omega arith
+
+  -- an answer kept
+  pub kin-kept : (a : Answer C Rules Doc Reason) → AnswerStands log c.version kin.standing a → Kin m rules first log (kept c a)
+  kin-kept a h = record {
+    before = kin.before;
+    past = kin.past;
+    standing = kin.standing;
+    log_is = kin.log_is;
+    version_is = kin.version_is;
+    base_is = kin.base_is;
+    doc_is = kin.doc_is;
+    first_good = kin.first_good;
+    log_applies = kin.log_applies;
+    own = kin.own;
+    parted = kin.parted;
+    stands = kin.stands;
+    messages = kin.messages;
+    answers = All-push (AnswerStands log c.version kin.standing) c.answers a kin.answers h;
+  }
+
+  -- entries that others named
+  pub kin-foreign : (more : List (Named C)) (end : Doc) → Each (IsForeign c.name) more → fold m rules first (changes_of (log ++ more)) ≡ Some end
+      → Kin m rules first (log ++ more) c
+  kin-foreign more end far applies = record {
+    before = kin.before;
+    past = kin.past ++ more;
+    standing = kin.standing;
+    log_is = ap (λ l. l ++ more) kin.log_is ∙ append_assoc kin.before kin.past more;
+    version_is = kin.version_is;
+    base_is = kin.base_is;
+    doc_is = kin.doc_is;
+    first_good = kin.first_good;
+    log_applies = (end, applies);
+    own = kin.own;
+    parted = kin.parted;
+    stands = record {
+      foreign = kin.stands.foreign ++ more;
+      later = kin.stands.later;
+      standing = kin.stands.standing;
+      counted = kin.stands.counted;
+      past_is = ap (λ l. l ++ more) kin.stands.past_is ∙ append_assoc kin.stands.standing kin.stands.foreign more;
+      pending_is = kin.stands.pending_is;
+      are_foreign = Each-append (IsForeign c.name) kin.stands.foreign more kin.stands.are_foreign far;
+    };
+    messages = kin.messages;
+    answers = All-more _ _ c.answers (answer-grows log more c.version kin.standing) kin.answers;
+  }
+
+  -- the standing steps confirmed
+  pub kin-confirmed : (base : Doc) → 0 < kin.standing → fold m rules c.base (changes_of kin.stands.standing) ≡ Some base
+      → Kin m rules first log (confirmed c kin.standing base)
+  kin-confirmed base some h =
+      let s = kin.stands in
+      let rest : drop kin.standing c.pending ≡ s.later =
+      rw (s.pending_is, ← s.counted) (drop-append_seam s.standing s.later) in
+      record {
+        before = kin.before ++ s.standing;
+        past = s.foreign;
+        standing = 0;
+        log_is = kin.log_is ∙ ap (λ l. kin.before ++ l) s.past_is ∙ sym (append_assoc kin.before s.standing s.foreign);
+        version_is = omega (arith, kin.version_is, s.counted, length-append kin.before s.standing);
+        base_is = ap (fold m rules first) (changes-append kin.before s.standing)
+            ∙ fold-append m rules first c.base (changes_of kin.before) (changes_of s.standing) kin.base_is ∙ h;
+        doc_is = ap (λ l. fold m rules base (changes_of l)) rest
+            ∙ sym (fold-append m rules c.base base (changes_of s.standing) (changes_of s.later) h)
+            ∙ ap (fold m rules c.base) (sym (changes-append s.standing s.later))
+            ∙ ap (λ l. fold m rules c.base (changes_of l)) (sym s.pending_is) ∙ kin.doc_is;
+        first_good = kin.first_good;
+        log_applies = kin.log_applies;
+        own = rw rest (Each-back (IsOwn c.name) s.standing s.later (rw s.pending_is at kin.own));
+        parted = rw rest (parted-confirmed c.name kin.before s.standing s.later c.dropped c.serials (Each-front (IsOwn c.name) s.standing s.later (rw s.pending_is at kin.own)) (rw s.pending_is at kin.parted));
+        stands = record { foreign = s.foreign; later = s.later; standing = []; counted = refl; past_is = refl; pending_is = rest; are_foreign = s.are_foreign };
+        messages = All-more _ _ c.messages (λ x a. message-passed c.version (c.version + kin.standing) c.pending (drop kin.standing c.pending) x (omega arith) a) kin.messages;
+        answers = All-more _ _ c.answers (λ x a. answer-passed log c.version kin.standing 0 (c.version + kin.standing) x (omega arith) a) kin.answers;
+      }
+
+  -- the standing steps and some foreign ones taken, with nothing else pending
+  pub kin-updated : (base : Doc) (front back : List (Named C)) → kin.stands.later ≡ [] → 0 < length front → kin.stands.foreign ≡ front ++ back
+      → fold m rules c.base (changes_of (kin.stands.standing ++ front)) ≡ Some base
+      → Kin m rules first log (updated c (length (kin.stands.standing ++ front)) base)
+  kin-updated base front back none some split h =
+      let s = kin.stands in
+      let taken : List (Named C) = s.standing ++ front in
+      let n : length taken ≡ kin.standing + length front = omega (arith, s.counted, length-append s.standing front) in
+      let own : Each (IsOwn c.name) (s.standing ++ s.later) = rw s.pending_is at kin.own in
+      let far : Each (IsForeign c.name) front = Each-front (IsForeign c.name) front back (rw split at s.are_foreign) in
+      let seam : Parted c.name (kin.before ++ s.standing) s.later c.dropped c.serials =
+      parted-confirmed c.name kin.before s.standing s.later c.dropped c.serials (Each-front (IsOwn c.name) s.standing s.later own) (rw s.pending_is at kin.parted) in
+      let reached : Parted c.name (kin.before ++ s.standing ++ front) [] c.dropped c.serials =
+      parted-foreign c.name (kin.before ++ s.standing) [] c.dropped c.serials (rw none at seam) front far in
+      record {
+        before = kin.before ++ taken;
+        past = back;
+        standing = 0;
+        log_is = kin.log_is ∙ ap (λ l. kin.before ++ l) (s.past_is ∙ ap (λ l. s.standing ++ l) split ∙ sym (append_assoc s.standing front back)) ∙ sym (append_assoc kin.before taken back);
+        version_is = omega (arith, kin.version_is, length-append kin.before taken);
+        base_is = ap (fold m rules first) (changes-append kin.before taken)
+            ∙ fold-append m rules first c.base (changes_of kin.before) (changes_of taken) kin.base_is ∙ h;
+        doc_is = refl;
+        first_good = kin.first_good;
+        log_applies = kin.log_applies;
+        own = tt;
+        parted = subst (λ l. Parted c.name l [] c.dropped c.serials) (append_assoc kin.before s.standing front) reached;
+        stands = record { foreign = back; later = []; standing = []; counted = refl; past_is = refl; pending_is = refl; are_foreign = Each-back (IsForeign c.name) front back (rw split at s.are_foreign) };
+        messages = All-more _ _ c.messages (λ x a. message-passed c.version (c.version + length taken) c.pending [] x (omega (arith, n)) a) kin.messages;
+        answers = All-more _ _ c.answers (λ x a. answer-passed log c.version kin.standing (length front) (c.version + length taken) x (omega (arith, n)) a) kin.answers;
+      }
+
+  -- the client's own submission accepted
+  pub kin-accepted : (steps : List (Named C)) (end : Doc) → c.version ≡ length log → IsPrefix steps c.pending → fold m rules first (changes_of (log ++ steps)) ≡ Some end
+      → Kin m rules first (log ++ steps) c
+  kin-accepted steps end at pre applies =
+      let s = kin.stands in
+      let none : kin.past ≡ [] = nothing kin.past (omega (arith, at, kin.version_is, ap length kin.log_is, length-append kin.before kin.past)) in
+      let zero_standing : kin.standing ≡ 0 = omega (arith, s.counted, ap length s.past_is, ap length none, length-append s.standing s.foreign) in
+      record {
+        before = kin.before;
+        past = steps;
+        standing = length steps;
+        log_is = ap (λ l. l ++ steps) (kin.log_is ∙ ap (λ l. kin.before ++ l) none ∙ append-nil kin.before);
+        version_is = kin.version_is;
+        base_is = kin.base_is;
+        doc_is = kin.doc_is;
+        first_good = kin.first_good;
+        log_applies = (end, applies);
+        own = kin.own;
+        parted = kin.parted;
+        stands = record { foreign = []; later = pre.0; standing = steps; counted = refl; past_is = sym (append-nil steps); pending_is = sym pre.1; are_foreign = tt };
+        messages = kin.messages;
+        answers = All-more (AnswerStands log c.version kin.standing) _ c.answers (λ x a. answer-accepted log steps c.version (length steps) x at (rw zero_standing at a)) kin.answers;
+      }
+
+module _ {Rules Doc Reason C : Type 0} (m : Meaning Rules Doc Reason C) (rules : Rules) (first : Doc) (log : List (Named C)) (c : Client C Rules Doc Reason) (kin : Kin m rules first log c) where
+  -- the client's own submission accepted, and the answer kept
+  pub kin-accepted-kept : (steps : List (Named C)) (end : Doc) → c.version ≡ length log → IsPrefix steps c.pending → fold m rules first (changes_of (log ++ steps)) ≡ Some end
+      → Kin m rules first (log ++ steps) (kept c (Accepted (length log) (length steps)))
+  unfolding kin-accepted
+  kin-accepted-kept steps end at pre applies =
+      kin-kept m rules first (log ++ steps) c (kin-accepted m rules first log c kin steps end at pre applies) (Accepted (length log) (length steps)) (inr (sym at, refl))
+
+-- a new client stands to the empty log
+pub kin-new : {Rules Doc Reason C : Type 0} (m : Meaning Rules Doc Reason C) (rules : Rules) (name : ℕ) (doc : Doc) → m.is_good rules doc
+    → Kin m rules doc [] (new_client name doc)
+kin-new m rules name doc good = record {
+  before = [];
+  past = [];
+  standing = 0;
+  log_is = refl;
+  version_is = refl;
+  base_is = refl;
+  doc_is = refl;
+  first_good = good;
+  log_applies = (doc, refl);
+  own = tt;
+  parted = record { parts = λ s. omega arith; rise = tt; dropped_rise = tt };
+  stands = record { foreign = []; later = []; standing = []; counted = refl; past_is = refl; pending_is = refl; are_foreign = tt };
+  messages = All-from_recursion _ [] tt;
+  answers = All-from_recursion _ [] tt;
+}

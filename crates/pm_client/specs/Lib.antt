@@ -1,0 +1,12 @@
+pub mod Clients
+pub mod Serials
+pub mod Kins
+pub mod Plans
+pub mod Lists
+pub mod Prefixes
+pub mod SerialLists
+pub mod Partings
+pub mod Keeps
+pub mod Takings
+pub mod Answering
+pub mod LogNames

@@ -1,0 +1,33 @@
+//! Why steps were not made.
+ghost use Rattle.std.specs.Prelude.{◌≡◌};
+ghost use Rattle.pm_client.specs.declared.failing.EditError.TheVariants.{NoMemory};
+
+use std::alloc::{AllocError, AllocFailed};
+use thiserror::Error;
+
+/// Why an edit made no step.
+#[derive(Drop, Debug, Error)]
+pub enum EditError<R> {
+    /// Step `index`, counted from 0, is the first that does not apply, for this reason.
+    #[error("step {index} does not apply")]
+    Refused { index: u64, reason: R },
+    /// Memory ran out, or the serials did.
+    #[error("out of memory")]
+    NoMemory,
+}
+
+impl<R> From<AllocError> for EditError<R> {
+    ghost from_gives = { λ _ e. e ≡ NoMemory };
+
+    fn from(_error: AllocError) -> EditError<R> {
+        EditError::NoMemory
+    }
+}
+
+impl<R, T: Drop> From<AllocFailed<T>> for EditError<R> {
+    ghost from_gives = { λ _ e. e ≡ NoMemory };
+
+    fn from(_error: AllocFailed<T>) -> EditError<R> {
+        EditError::NoMemory
+    }
+}

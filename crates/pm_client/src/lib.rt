@@ -1,0 +1,14 @@
+//! A client of the authority: what the authority has of it, what is pending, and what it shows.
+#![tactic(auto)]
+
+pub mod client;
+pub mod failing;
+pub mod naming;
+pub mod plan;
+pub mod taken;
+#[cfg(test)]
+mod tests;
+
+pub use client::Client;
+pub use failing::EditError;
+pub use taken::{Kind, Taken};

@@ -1,0 +1,5 @@
+pub mod Calls
+pub mod Histories
+pub mod Looks
+pub mod Moves
+pub mod Seats

@@ -1,0 +1,190 @@
+-- What an act of a client makes of it and of the authority: both stand as before, and the log grows by the client's own.
+use Rattle.std.specs.List.{AllByRecursion as Each}
+use Rattle.std.specs.Prelude.{◌≡◌, ℕ, zero, suc, ◌+◌, ◌-◌, ◌<◌, Bool, true, false, List, [], ◌∷◌, ◌++◌, length, slice_get, Option, Some, None, Result, Ok, Err, refl}
+use Rattle.std.proofs.Common.{cond, sym, ap, ◌∙◌, subst, arith, append-nil, length-append}
+use Rattle.pm_change.specs.Changes.{Meaning, Laws}
+use Rattle.pm_authority.specs.declared.authority.Authority.{Authority}
+use Rattle.pm_authority.specs.declared.named.Named.{Named}
+use Rattle.pm_authority.specs.declared.running.Refusal.{Refusal}
+use Rattle.pm_authority.specs.declared.message.Message.{Message}
+use Rattle.pm_authority.specs.Kept.{IsKept}
+use Rattle.pm_authority.specs.Presents.{presented}
+use Rattle.pm_client.specs.declared.client.Client.{Client}
+use Rattle.pm_client.specs.declared.taken.Kind.{Kind}
+use Rattle.pm_client.specs.declared.taken.Kind.TheVariants.{Submit as Submission, Ask as Asking}
+use Rattle.pm_client.specs.Clients.{edited, message_of, composed, kept, taken, taken_at, message_at}
+use Rattle.pm_client.specs.Kins.{IsOwn, MessageStands, Kin}
+use Rattle.pm_client.specs.Takings.{kin-taken_at}
+use Rattle.pm_client.specs.Keeps.{kin-edited, kin-composed}
+use Rattle.pm_client.specs.Answering.{After, presented-kept, presented-only}
+use Rattle.pm_session.specs.declared.line.Act.{Act}
+use Rattle.pm_session.specs.declared.line.Act.TheVariants.{Edit, Submit, Ask, Present, Take, Push, Pull}
+use Rattle.pm_session.specs.declared.maker.NoSteps.{NoSteps}
+use Rattle.pm_session.specs.declared.maker.NoSteps.TheVariants.{Range, NotThere, NoFit as FitsNowhere, NoMemory}
+use Rattle.pm_session.specs.Events.{edits, made, presents, exchanges, acted}
+use Rattle.pm_session.specs.Suits.{composes_one, gets_one, NamesOneOf}
+use Rattle.pm_session.proofs.SoundLaws.{message-stands, new-stands, presented-own}
+use Rattle.pm_session.proofs.Keeping.{KeepsBox, edited-keeps, taken-keeps, taken_at-keeps, taken-last}
+
+module _ {Rules Doc Reason C : Type 0} (m : Meaning Rules Doc Reason C) (rules : Rules) where
+  -- Client c became the next one, and the authority became the new one. `composes` and `gets` say whether the client has
+  -- one message or one answer more.
+  pub record Moved (a : Authority C Rules Doc Reason) (c : Client C Rules Doc Reason) (composes gets : Bool)
+      (new : Authority C Rules Doc Reason) (next : Client C Rules Doc Reason) : Type 0 where
+    pub name : next.name ≡ c.name
+    pub messages : length next.messages ≡ length c.messages + cond composes 1 0
+    pub answers : length next.answers ≡ length c.answers + cond gets 1 0
+    pub after : After m rules a c new next
+    pub more : List (Named C)
+    pub log_is : new.log ≡ a.log ++ more
+    pub own : Each (IsOwn c.name) more
+
+module _ {Rules Doc Reason C : Type 0} (m : Meaning Rules Doc Reason C) (rules : Rules) (laws : Laws m) (a : Authority C Rules Doc Reason) (stood : IsKept m rules a)
+    (c : Client C Rules Doc Reason) (kin : Kin m rules a.first a.log c) where
+  -- the client alone became another
+  moved-alone : (composes gets : Bool) (next : Client C Rules Doc Reason) → next.name ≡ c.name → length next.messages ≡ length c.messages + cond composes 1 0
+      → length next.answers ≡ length c.answers + cond gets 1 0 → Kin m rules a.first a.log next → Moved m rules a c composes gets a next
+  moved-alone composes gets next name messages answers k = record {
+    name = name;
+    messages = messages;
+    answers = answers;
+    after = record { authority = stood; own = k; other = λ d apart h. h };
+    more = [];
+    log_is = sym (append-nil a.log);
+    own = tt;
+  }
+
+  -- it has the same messages and answers
+  moved-box : (next : Client C Rules Doc Reason) → KeepsBox c next → Kin m rules a.first a.log next → Moved m rules a c false false a next
+  moved-box next box k = moved-alone false false next box.name (omega (arith, ap length box.messages)) (omega (arith, ap length box.answers)) k
+
+  pub unmoved : Moved m rules a c false false a c
+  unmoved = moved-box c (record { name = refl; messages = refl; answers = refl }) kin
+
+  pub edits-moved : (r : Result (List C) NoSteps) → Moved m rules a c false false a (edits m rules c r).1
+  edits-moved (Err Range) = unmoved
+  edits-moved (Err NotThere) = unmoved
+  edits-moved (Err FitsNowhere) = unmoved
+  edits-moved (Err NoMemory) = unmoved
+  edits-moved (Ok steps) = from (edited m rules c steps) refl
+    where
+      from : (r : Result (Client C Rules Doc Reason) (Refusal Reason)) → edited m rules c steps ≡ r → Moved m rules a c false false a (made c steps r).1
+      from (Ok next) e = moved-box next (edited-keeps m rules c steps next e) (kin-edited m rules a.first a.log c kin steps next e)
+      from (Err r) e = unmoved
+
+  pub takes-moved : (n : ℕ) → Moved m rules a c false false a (taken_at m rules c n).1
+  takes-moved n = moved-box (taken_at m rules c n).1 (taken_at-keeps m rules c n) (kin-taken_at m rules a.first a.log c kin n)
+
+  pub composes-moved : (kind : Kind) → Moved m rules a c true false a (composed c kind)
+  composes-moved kind =
+      moved-alone true false (composed c kind) refl (length-append c.messages (message_of c kind ∷ [])) (omega arith) (kin-composed m rules a.first a.log c kin kind)
+
+  -- the client presented a message that stands
+  pub presented-moved : (message : Message C) → MessageStands c.version c.pending message → Moved m rules a c false false (presented m rules a message).1 c
+  presented-moved message stands =
+      let own = presented-own m rules laws a c kin message stands in
+      record {
+        name = refl;
+        messages = omega arith;
+        answers = omega arith;
+        after = presented-only m rules laws a c stood kin message stands;
+        more = own.0;
+        log_is = own.1;
+        own = own.2;
+      }
+
+  -- and kept the answer
+  pub kept-moved : (message : Message C) → MessageStands c.version c.pending message
+      → Moved m rules a c false true (presented m rules a message).1 (kept c (presented m rules a message).0)
+  kept-moved message stands =
+      let own = presented-own m rules laws a c kin message stands in
+      record {
+        name = refl;
+        messages = omega arith;
+        answers = length-append c.answers ((presented m rules a message).0 ∷ []);
+        after = presented-kept m rules laws a c stood kin message stands;
+        more = own.0;
+        log_is = own.1;
+        own = own.2;
+      }
+
+-- what was moved by one and then by another
+pub moved-twice : {Rules Doc Reason C : Type 0} (m : Meaning Rules Doc Reason C) (rules : Rules) (a : Authority C Rules Doc Reason) (c mid : Client C Rules Doc Reason)
+    (gets : Bool) (new : Authority C Rules Doc Reason) (next : Client C Rules Doc Reason) → Moved m rules a c true false a mid → Moved m rules a mid false gets new next
+    → Moved m rules a c true gets new next
+moved-twice m rules a c mid gets new next one two = record {
+  name = two.name ∙ one.name;
+  messages = omega (arith, one.messages, two.messages);
+  answers = omega (arith, one.answers, two.answers);
+  after = record {
+    authority = two.after.authority;
+    own = two.after.own;
+    other = λ d apart k. two.after.other d (λ e. apart (sym one.name ∙ e)) k;
+  };
+  more = two.more;
+  log_is = two.log_is;
+  own = subst (λ (n : ℕ). Each (IsOwn n) two.more) one.name two.own;
+}
+
+module _ {Rules Doc Reason C : Type 0} (m : Meaning Rules Doc Reason C) (rules : Rules) (laws : Laws m) (a : Authority C Rules Doc Reason) (stood : IsKept m rules a)
+    (c : Client C Rules Doc Reason) (kin : Kin m rules a.first a.log c) where
+  -- the client composed a message and presented it
+  pub sent-moved : (kind : Kind) → Moved m rules a c true false (presented m rules a (message_of c kind)).1 (composed c kind)
+  sent-moved kind =
+      let k = kin-composed m rules a.first a.log c kin kind in
+      moved-twice m rules a c (composed c kind) false (presented m rules a (message_of c kind)).1 (composed c kind) (composes-moved m rules laws a stood c kin kind)
+      (presented-moved m rules laws a stood (composed c kind) k (message_of c kind) (new-stands m rules laws c kind))
+
+  -- and kept the answer
+  pub given-moved : (kind : Kind)
+      → Moved m rules a c true true (presented m rules a (message_of c kind)).1 (kept (composed c kind) (presented m rules a (message_of c kind)).0)
+  given-moved kind =
+      let k = kin-composed m rules a.first a.log c kin kind in
+      let p = presented m rules a (message_of c kind) in
+      moved-twice m rules a c (composed c kind) true p.1 (kept (composed c kind) p.0) (composes-moved m rules laws a stood c kin kind)
+      (kept-moved m rules laws a stood (composed c kind) k (message_of c kind) (new-stands m rules laws c kind))
+
+  pub exchanges-moved : (kind : Kind) (lost : Bool) → Moved m rules a c true true (exchanges m rules a c kind lost).1 (exchanges m rules a c kind lost).2
+  exchanges-moved kind true = given-moved kind
+  exchanges-moved kind false =
+      let p = presented m rules a (message_of c kind) in
+      let keeper = kept (composed c kind) p.0 in
+      let one = given-moved kind in
+      let last = taken-last m rules (composed c kind) p.0 (length c.answers + 1) refl in
+      let k : Kin m rules p.1.first p.1.log (taken m rules keeper p.0).1 =
+      rw last at (kin-taken_at m rules p.1.first p.1.log keeper one.after.own (length c.answers + 1)) in
+      let box = taken-keeps m rules keeper p.0 in
+      record {
+        name = box.name;
+        messages = ap length box.messages ∙ one.messages;
+        answers = ap length box.answers ∙ one.answers;
+        after = record { authority = one.after.authority; own = k; other = one.after.other };
+        more = one.more;
+        log_is = one.log_is;
+        own = one.own;
+      }
+
+  module _ {Op : Type 0} (makes : Doc → Op → Result (List C) NoSteps) where
+    -- an act that suits the client
+    pub acted-moved : (act : Act Op) → NamesOneOf (length c.messages) (length c.answers) act
+        → Moved m rules a c (composes_one act) (gets_one act) (acted m rules makes a act c).1 (acted m rules makes a act c).2
+    acted-moved (Edit op) h = edits-moved m rules laws a stood c kin (makes c.doc op)
+    acted-moved Submit h = composes-moved m rules laws a stood c kin Submission
+    acted-moved Ask h = composes-moved m rules laws a stood c kin Asking
+    acted-moved (Take n) h = takes-moved m rules laws a stood c kin n
+    acted-moved (Push lost) h = exchanges-moved Submission lost
+    acted-moved (Pull lost) h = exchanges-moved Asking lost
+    acted-moved (Present j) h = from (message_at c j) refl
+      where
+        some : {A : Type 0} (xs : List A) (k : ℕ) → k < length xs → (x : A) × (slice_get xs k ≡ Some x)
+        some [] k l = absurd (omega arith)
+        some (x ∷ xs) zero l = (x, refl)
+        some (x ∷ xs) (suc k) l = some xs k (omega arith)
+
+        from : (o : Option (Message C)) → message_at c j ≡ o → Moved m rules a c false true (presents m rules a c o).1 (presents m rules a c o).2
+        from None e =
+            let there = some c.messages (j - 1) (omega (arith, h.0, h.1)) in
+            let e : slice_get c.messages (j - 1) ≡ None = e in
+            let f : slice_get c.messages (j - 1) ≡ Some there.0 = there.1 in
+            absurd (cc)
+        from (Some message) e = kept-moved m rules laws a stood c kin message (message-stands m rules laws a.first a.log c kin j message e)

@@ -1,0 +1,43 @@
+use Rattle.std.proofs.Common.{rules, ◌≡◌, ◌+◌, ◌∷◌, ◌++◌, [], ◌∙◌, append_assoc, drop, ap, sym, subst}
+use Rattle.std.proofs.lemmas.List.{drop_more}
+use Rattle.pm_session.specs.Events.{state_of}
+use Rattle.pm_session.specs.Sessions.{session}
+use Rattle.pm_session.specs.Suits.{LinesSuit}
+use Rattle.pm_session.proofs.LogNames.{sound-names}
+use Rattle.pm_session.proofs.Playing.{suits-first, suits-rest, session-more}
+use Rattle.pm_session.proofs.room.Room.play_all.Goals as goal
+
+pub play-requires-clause-suits : goal.play-requires-clause-suits
+play-requires-clause-suits g c =
+    let k = c.loop-line.line-index in
+    let lines = c.args.lines.now in
+    let rest : drop k lines ≡ c.line-item.result ∷ drop (k + 1) lines = search (rules, drop_more) in
+    let suit = subst (λ l. LinesSuit (state_of c.loop-line.self) l) rest c.loop-line.invariant.suit in
+    suits-first g.C.Change.means c.args.rules.now g.met.C.Change.laws (g.K.Maker.makes c.args.maker.now c.args.rules.now) (state_of c.loop-line.self) c.loop-line.invariant.sound
+    c.line-item.result (drop (k + 1) lines) suit
+
+pub loop-line-preserved : goal.loop-line-preserved
+loop-line-preserved g c =
+    let k = c.loop-line.line-index in
+    let lines = c.args.lines.now in
+    let rest : drop k lines ≡ c.line-item.result ∷ drop (k + 1) lines = search (rules, drop_more) in
+    let suit = subst (λ l. LinesSuit (state_of c.loop-line.self) l) rest c.loop-line.invariant.suit in
+    let later = suits-rest g.C.Change.means c.args.rules.now g.met.C.Change.laws (g.K.Maker.makes c.args.maker.now c.args.rules.now) (state_of c.loop-line.self) c.loop-line.invariant.sound
+    c.line-item.result (drop (k + 1) lines) suit in
+    let m = g.C.Change.means in
+    let makes = g.K.Maker.makes c.args.maker.now c.args.rules.now in
+    let s = state_of c.loop-line.self in
+    let t = state_of c.play.new.self in
+    let more = session-more m c.args.rules.now makes s t c.line-item.result (drop (k + 1) lines) c.in_ok-play.field-0 c.in_ok-play.ensures.plays in
+    record {
+      each = search rules;
+      outcomes = ap (λ l. l ++ (session m c.args.rules.now makes t (drop (k + 1) lines)).0) c.in_ok-push.ensures.items
+          ∙ append_assoc c.loop-line.outcomes.items (c.in_ok-play.field-0 ∷ []) (session m c.args.rules.now makes t (drop (k + 1) lines)).0
+          ∙ ap (λ q. c.loop-line.outcomes.items ++ q.0) (sym more) ∙ ap (λ l. c.loop-line.outcomes.items ++ (session m c.args.rules.now makes s l).0) (sym rest) ∙ c.loop-line.invariant.outcomes;
+      room = ap (λ q. q.1) (sym more) ∙ ap (λ l. (session m c.args.rules.now makes s l).1) (sym rest) ∙ c.loop-line.invariant.room;
+      suit = subst (λ t. LinesSuit t (drop (k + 1) lines)) (sym (ap (λ p. p.1) c.in_ok-play.ensures.plays)) later;
+      sound = c.play.ensures.sound;
+    }
+
+pub returns-clause-names : goal.returns-clause-names
+returns-clause-names g c = sound-names g.C.Change.means c.args.rules.now (state_of c.loop-line.self) c.loop-line.invariant.sound

@@ -1,0 +1,70 @@
+//! Acts that are local to a client.
+ghost use Rattle.std.specs.Prelude.{◌≡◌, ◌<◌, ◌≤◌, length, IfOk, OnErr};
+ghost use Rattle.pm_client.specs.Kins.{Kin};
+ghost use Rattle.pm_session.specs.Events.{edits, composes, takes};
+
+use crate::maker::{Maker, NoSteps};
+use crate::outcome::Outcome;
+use pm_authority::Authority;
+use pm_change::Change;
+use pm_client::{Client, EditError, Kind};
+use std::alloc::{AllocError, Global};
+
+/// The client makes the steps of an op. Want of memory leaves it as it was.
+pub fn edit<C: Change, K: Maker<C>>(
+    alloc: Global,
+    rules: &C::Rules,
+    maker: &K,
+    client: &mut Client<C>,
+    op: &K::Op,
+) -> Result<Outcome<C>, AllocError>
+    requires { C.means.is_good rules.now client.old.doc }
+    ensures edits { IfOk result (λ o. (o, client.new) ≡ edits C.means rules.now client.old (K.makes maker.now rules.now client.old.doc op.now)) }
+    ensures err { OnErr result (client.new ≡ client.old) }
+{
+    let steps = match maker.steps(alloc, rules, client.doc(), op) {
+        Ok(steps) => steps,
+        Err(NoSteps::Range) => return Ok(Outcome::NoRange),
+        Err(NoSteps::NotThere) => return Ok(Outcome::NoPlace),
+        Err(NoSteps::NoFit) => return Ok(Outcome::NoFit),
+        Err(NoSteps::NoMemory) => return Err(AllocError),
+    };
+    match client.edit(alloc, rules, steps) {
+        Ok(count) => Ok(Outcome::Made { count }),
+        Err(EditError::Refused { index, reason }) => Ok(Outcome::Refused { index, reason }),
+        Err(EditError::NoMemory) => Err(AllocError),
+    }
+}
+
+/// The client composes a message. Want of memory leaves it as it was.
+pub fn compose<C: Change>(
+    alloc: Global,
+    client: &mut Client<C>,
+    kind: Kind,
+) -> Result<Outcome<C>, AllocError>
+    ensures composes { IfOk result (λ o. (o, client.new) ≡ composes client.old kind) }
+    ensures err { OnErr result (client.new ≡ client.old) }
+{
+    let number = client.compose(alloc, kind)?;
+    Ok(Outcome::Composed { number })
+}
+
+/// The client takes the answer of this number, which was kept. Want of memory leaves it as it was. The client must stand
+/// to the log of the authority, which is read and stays.
+pub fn take<C: Change>(
+    alloc: Global,
+    rules: &C::Rules,
+    authority: &Authority<C>,
+    client: &mut Client<C>,
+    answer: u64,
+) -> Result<Outcome<C>, AllocError>
+    requires stands { Kin C.means rules.now authority.now.first authority.now.log client.old }
+    requires named { (0 < answer) × (answer ≤ length client.old.answers) }
+    ensures takes { IfOk result (λ o. (o, client.new) ≡ takes C.means rules.now client.old answer) }
+    ensures err { OnErr result (client.new ≡ client.old) }
+{
+    // A log that is held has a length of 64 bits, and so has the client's version.
+    let _length = authority.log().len();
+    let taken = client.take(alloc, rules, answer)?;
+    Ok(Outcome::Took { taken })
+}
