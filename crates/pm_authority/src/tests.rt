@@ -1,16 +1,17 @@
-//! The authority over a counter that may not pass a limit, through the bound of a change.
-ghost use Rattle.std.specs.Prelude.{◌≤◌, ◌<◌, ◌^◌, ◌+◌, ◌-◌, nat_lt, Ok, Err, if◌then◌else◌};
-ghost use Rattle.std.proofs.Common.{rules};
+//! The authority over a number that may not pass a limit, through the bound of a change.
+ghost use Rattle.std.specs.Prelude.{◌≤◌, nat_lt, Ok, Err, Some, if◌then◌else◌, [], ◌∷◌, refl};
+ghost use Rattle.std.proofs.Common.{rules, inl};
 
 use crate::{Answer, Authority, Message, Name, Named, Request, apply_all, copy_steps};
 use pm_change::{Change, Failed, Machine};
 use pm_list::Listed;
+use pm_map::{Mapping, StepMap};
 use std::alloc::{AllocError, Global};
 
-/// Adds an amount to the counter.
+/// Puts another number in place of the one that is there.
 #[derive(Drop, Debug)]
-struct Add {
-    amount: u64,
+struct Set {
+    to: u64,
 }
 
 #[derive(Clone, Copy, Debug, PartialEq, Eq)]
@@ -18,7 +19,7 @@ enum Reason {
     Over,
 }
 
-impl Change for Add {
+impl Change for Set {
     ghost use Rattle.pm_authority.specs.declared.tests.Reason.TheVariants.{Over};
 
     type Rules = u64;
@@ -27,33 +28,57 @@ impl Change for Add {
 
     type Reason = Reason;
 
+    // The number is one token and stays the same token, so that no position moves.
     ghost means = { record {
-      is_good = λ limit doc. (doc ≤ limit) × (limit < 2 ^ 32);
-      outcome = λ limit add doc. if nat_lt (limit - doc) add.amount then Err Over else Ok (doc + add.amount);
-      size = λ doc. doc;
+      is_good = λ limit doc. doc ≤ limit;
+      is_loose = λ limit. Unit {0};
+      outcome = λ limit set doc. if nat_lt limit set.to then Err Over else Ok set.to;
+      inverse = λ limit set doc. record { to = doc } ∷ [];
+      step_map = λ set. [];
+      carry = λ set maps. Some set;
+      size = λ doc. 1;
+      is_within = λ set size. Unit {0};
     } };
 
     ghost laws = { record {
-      good = λ limit add doc next good applies. Prim.search rules;
+      good = λ limit set doc next good applies. Prim.search rules;
       small = λ limit doc good. Prim.search rules;
+      restores = λ limit set doc next back good applies is. Prim.search rules;
+      undoes = λ limit set doc next loose good applies. (doc, Prim.search rules);
+      fits = λ limit set doc next good applies. Prim.search rules;
+      within = λ limit set doc next good applies. tt;
+      inverse_within = λ limit set doc next good applies. Prim.search rules;
+      inverse_map = λ limit set doc next good applies. Prim.search rules;
+      still = λ set n maps within nothing. inl refl;
+      carried = λ set d maps is. refl;
     } };
 
-    fn apply(&self, _alloc: Global, rules: &u64, doc: &u64) -> Result<u64, Failed<Reason>> {
-        if self.amount > *rules - *doc {
+    fn apply(&self, _alloc: Global, rules: &u64, _doc: &u64) -> Result<u64, Failed<Reason>> {
+        if self.to > *rules {
             Err(Failed::Reason(Reason::Over))
         } else {
-            Ok(*doc + self.amount)
+            Ok(self.to)
         }
     }
 
-    fn size(doc: &u64) -> usize {
-        *doc as usize
+    fn inverse(&self, alloc: Global, _rules: &u64, doc: &u64) -> Result<Vec<Set>, AllocError> {
+        Ok(vec![in alloc; Set { to: *doc }]?)
     }
 
-    fn copy(&self, _alloc: Global) -> Result<Add, AllocError> {
-        Ok(Add {
-            amount: self.amount,
-        })
+    fn step_map(&self) -> StepMap {
+        StepMap::new(None, None, false)
+    }
+
+    fn carry(&self, _alloc: Global, _mapping: &Mapping) -> Result<Option<Set>, AllocError> {
+        Ok(Some(Set { to: self.to }))
+    }
+
+    fn size(_doc: &u64) -> usize {
+        1
+    }
+
+    fn copy(&self, _alloc: Global) -> Result<Set, AllocError> {
+        Ok(Set { to: self.to })
     }
 
     fn copy_doc(_alloc: Global, doc: &u64) -> Result<u64, AllocError> {
@@ -61,25 +86,25 @@ impl Change for Add {
     }
 }
 
-fn submit(alloc: Global, version: u64, amounts: &[u64]) -> Result<Message<Add>, AllocError> {
+fn submit(alloc: Global, version: u64, numbers: &[u64]) -> Result<Message<Set>, AllocError> {
     let mut steps = Listed::new(alloc);
-    for amount in amounts {
+    for number in numbers {
         steps.push(Named {
             name: Name {
                 client: 7,
-                serial: *amount,
+                serial: *number,
             },
-            change: Add { amount: *amount },
+            change: Set { to: *number },
         })?;
     }
     Ok(Message::Submit { version, steps })
 }
 
-fn state(authority: &Authority<Add>) -> (u64, u64, usize) {
+fn state(authority: &Authority<Set>) -> (u64, u64, usize) {
     (*authority.first(), *authority.doc(), authority.log().len())
 }
 
-fn held(answer: &Answer<Add>) -> Option<(u64, usize)> {
+fn held(answer: &Answer<Set>) -> Option<(u64, usize)> {
     match answer {
         Answer::Entries { since, entries } => Some((*since, entries.len())),
         _ => None,
@@ -90,13 +115,13 @@ fn held(answer: &Answer<Add>) -> Option<(u64, usize)> {
 fn a_submission_is_taken_whole_or_not_at_all(rt: HostRuntime) -> Result<(), AllocError> {
     let alloc = rt.alloc();
     let limit = 100;
-    let mut authority: Authority<Add> = Authority::new(alloc, 40)?;
+    let mut authority: Authority<Set> = Authority::new(alloc, 40)?;
 
     let early = authority.present(alloc, &limit, 7, &submit(alloc, 1, &[10])?)?;
     assert!(rt; matches!(early, Answer::WrongVersion { length: 0 }));
     assert_eq!(rt; state(&authority), (40, 40, 0));
 
-    let refused = authority.present(alloc, &limit, 7, &submit(alloc, 0, &[50, 11, 1])?)?;
+    let refused = authority.present(alloc, &limit, 7, &submit(alloc, 0, &[50, 101, 1])?)?;
     assert!(rt;
         matches!(
             refused,
@@ -108,16 +133,16 @@ fn a_submission_is_taken_whole_or_not_at_all(rt: HostRuntime) -> Result<(), Allo
     );
     assert_eq!(rt; state(&authority), (40, 40, 0));
 
-    let message = submit(alloc, 0, &[50, 10])?;
+    let message = submit(alloc, 0, &[50, 100])?;
     let accepted = authority.present(alloc, &limit, 7, &message.copy(alloc)?)?;
     assert!(rt; matches!(accepted, Answer::Accepted { from: 0, count: 2 }));
     assert_eq!(rt; state(&authority), (40, 100, 2));
-    for (place, amount) in [(0, 50), (1, 10)] {
+    for (place, number) in [(0, 50), (1, 100)] {
         let step = authority.log().get(place);
         assert!(rt;
             step.is_some_and(|s| s.name.client == 7
-                && s.name.serial == amount
-                && s.change.amount == amount)
+                && s.name.serial == number
+                && s.change.to == number)
         );
     }
 
@@ -142,24 +167,24 @@ fn steps_are_copied_and_run(rt: HostRuntime) -> Result<(), AllocError> {
     };
     let copies = copy_steps(alloc, steps.as_slice())?;
     assert!(rt; copies.len() == 2);
-    let sum = apply_all(alloc, &100, &1, copies.as_slice());
-    assert!(rt; matches!(sum, Ok(12)));
+    let last = apply_all(alloc, &100, &1, copies.as_slice());
+    assert!(rt; matches!(last, Ok(6)));
     Ok(())
 }
 
 #[test]
 fn the_authority_answers_as_a_machine(rt: HostRuntime) -> Result<(), AllocError> {
     let alloc = rt.alloc();
-    let mut authority: Authority<Add> = Authority::new(alloc, 40)?;
+    let mut authority: Authority<Set> = Authority::new(alloc, 40)?;
     let request = Request {
         client: 7,
         message: submit(alloc, 0, &[10])?,
     };
     let accepted = authority.answer(alloc, &100, &request.copy(alloc)?)?;
     assert!(rt; matches!(accepted, Answer::Accepted { from: 0, count: 1 }));
-    assert_eq!(rt; state(&authority), (40, 50, 1));
+    assert_eq!(rt; state(&authority), (40, 10, 1));
     let again = authority.answer(alloc, &100, &request)?;
     assert!(rt; matches!(again, Answer::WrongVersion { length: 1 }));
-    assert_eq!(rt; state(&authority), (40, 50, 1));
+    assert_eq!(rt; state(&authority), (40, 10, 1));
     Ok(())
 }

@@ -1,9 +1,10 @@
 //! The trait of a change.
-ghost use Rattle.std.specs.Prelude.{◌≡◌, ◌<◌, ◌^◌, IfOk};
-ghost use Rattle.pm_change.specs.Changes.{Meaning, Laws};
+ghost use Rattle.std.specs.Prelude.{◌≡◌, ◌<◌, ◌^◌, ℕ, IfOk, Ok};
+ghost use Rattle.pm_change.specs.Changes.{Meaning, Laws, MayCarry};
 ghost use Rattle.pm_change.specs.Failing.{Answers};
 
 use crate::failed::Failed;
+use pm_map::{Mapping, StepMap};
 use std::alloc::{AllocError, Global};
 
 /// A change of a document under rules that are lent to each call, such as a schema.
@@ -29,6 +30,30 @@ pub trait Change: Sized + Drop {
     ) -> Result<Self::Doc, Failed<Self::Reason>>
         requires { means.is_good rules.now doc.now }
         ensures { Answers (means.outcome rules.now self.now doc.now) result };
+
+    /// The changes that undo this one, to be made one after another on the document after it. `doc` is the document
+    /// before it, which must be good, and to which this change must apply.
+    fn inverse(
+        &self,
+        alloc: Global,
+        rules: &Self::Rules,
+        doc: &Self::Doc,
+    ) -> Result<Vec<Self>, AllocError>
+        requires good { means.is_good rules.now doc.now }
+        requires applies { ((next : Self.Doc) × (means.outcome rules.now self.now doc.now ≡ Ok next)) }
+        ensures { IfOk result (λ v. v.items ≡ means.inverse rules.now self.now doc.now) };
+
+    /// How positions move over this change. The change must be within some size below 2^32 tokens, as one that applies
+    /// to a good document is.
+    fn step_map(&self) -> StepMap
+        requires { ((n : ℕ) × (n < 2 ^ 32) × means.is_within self.now n) }
+        ensures { result ≡ means.step_map self.now };
+
+    /// This change where a mapping leads it; None where nothing of it is left. The mapping must lead from a document of
+    /// a size that the change is within.
+    fn carry(&self, alloc: Global, mapping: &Mapping) -> Result<Option<Self>, AllocError>
+        requires { MayCarry means.is_within self.now mapping.now }
+        ensures { IfOk result (λ o. o ≡ means.carry self.now mapping.now) };
 
     /// The document's size in tokens. The size of a good document is below 2^32.
     fn size(doc: &Self::Doc) -> usize

@@ -1,8 +1,10 @@
 -- Steps that are known to apply.
-use Rattle.std.proofs.Common.{◌≡◌, ℕ, ◌+◌, ◌-◌, ◌<◌, ◌≤◌, ◌⊎◌, ◌^◌, List, ◌++◌, length, take, drop, ap, sym, ◌∙◌, arith, subst, append_assoc, Some, Ok, Err, length-append, inl, inr}
+use Rattle.std.proofs.Common.{All, ◌≡◌, ℕ, ℤ, ◌+◌, ◌-◌, ◌<◌, ◌≤◌, ◌⊎◌, ◌^◌, List, ◌++◌, length, take, drop, ap, sym, ◌∙◌, arith, subst, append_assoc, Some, Ok, Err, length-append, inl, inr}
 use Rattle.std.proofs.lemmas.List.{take-append-drop}
+use Rattle.std.proofs.lemmas.List.Elements.{All-from_recursion}
+use Rattle.std.proofs.Math.Seq.{drop-append_seam}
 use Rattle.pm_change.specs.Changes.{Meaning, Laws, fold}
-use Rattle.pm_change.specs.Folds.{fold-append, fold-good}
+use Rattle.pm_change.specs.Folds.{fold-append}
 use Rattle.pm_change.specs.Failing.{Answers}
 use Rattle.pm_change.specs.declared.failed.Failed.{Failed}
 use Rattle.pm_change.specs.declared.failed.Failed.TheVariants.{Reason as FailedFor}
@@ -10,11 +12,17 @@ use Rattle.pm_authority.specs.declared.named.Named.{Named}
 use Rattle.pm_authority.specs.declared.running.Refusal.{Refusal}
 use Rattle.pm_authority.specs.declared.message.Answer.TheVariants.{Accepted, Entries}
 use Rattle.pm_authority.specs.Runs.{run, changes_of, AllApply}
-use Rattle.pm_authority.specs.RunFolds.{changes-append, fold-run}
+use Rattle.pm_authority.specs.RunFolds.{changes-append, fold-run, run-fold}
 use Rattle.pm_client.specs.declared.client.Client.{Client}
 use Rattle.pm_client.specs.Takings.{rest-of}
 use Rattle.pm_client.specs.Plans.{Meets, MayConfirm, Fits}
 use Rattle.pm_client.specs.Prefixes.{front-applies}
+use Rattle.pm_client.specs.Clients.{own_run, carried}
+use Rattle.pm_client.specs.Keeps.{base-good}
+use Rattle.pm_client.specs.Cursors.{AreWithin, HasRoomIn}
+use Rattle.pm_client.specs.Rebases.{maps_of}
+use Rattle.pm_client.specs.Rebasables.{NamedHasMap, CanRebaseOver}
+use Rattle.pm_client.specs.RebaseLaws.{Fork, fork, can-over, over-can, maps-fit, plain-paired, cursors-room}
 
 module _ {Rules Doc Reason C : Type 0} (m : Meaning Rules Doc Reason C) (rules : Rules) where
   no-refusal : (doc : Doc) (ns : List (Named C)) (r : Refusal Reason) → (end : Doc) × AllApply m rules doc ns end → run m rules doc 0 ns ≡ Err r → ⊥
@@ -38,7 +46,7 @@ module _ {Rules Doc Reason C : Type 0} (m : Meaning Rules Doc Reason C) (rules :
       let s = h.kin.stands in
       let same = is h.stands in
       record {
-        good = fold-good m rules laws h.first c.base (changes_of h.kin.before) h.kin.first_good h.kin.base_is;
+        good = base-good m rules h.first h.log c h.kin laws;
         applies = h.kin.doc_is;
         within = omega (arith, same, s.counted, ap length s.pending_is, length-append s.standing s.later);
         short = omega (arith, same, s.counted, h.kin.version_is, ap length h.kin.log_is, length-append h.kin.before h.kin.past, ap length s.past_is, length-append s.standing s.foreign, h.short);
@@ -47,6 +55,41 @@ module _ {Rules Doc Reason C : Type 0} (m : Meaning Rules Doc Reason C) (rules :
       is : (from + count ≤ c.version) ⊎ ((from ≡ c.version) × (count ≡ h.kin.standing)) → count ≡ h.kin.standing
       is (inl l) = absurd (omega (arith, l, past))
       is (inr e) = e.1
+
+  -- steps that were made have maps
+  pub run-maps : Laws m → (doc end : Doc) (ns : List (Named C)) → m.is_good rules doc → run m rules doc 0 ns ≡ Ok end → All (NamedHasMap m) ns
+  run-maps laws doc end ns good ran = All-from_recursion (NamedHasMap m) ns (maps-fit m rules laws doc end ns good (run-fold m rules doc end 0 ns ran)).1
+
+  -- over which the document's cursors may go
+  pub run-room : Laws m → (doc end : Doc) (ns : List (Named C)) (cs : List (ℕ × ℤ)) → m.is_good rules doc → AreWithin (m.size doc) cs → run m rules doc 0 ns ≡ Ok end
+      → All (HasRoomIn (maps_of m ns)) cs
+  run-room laws doc end ns cs good within ran =
+      cursors-room (maps_of m ns) (m.size doc) (m.size end) (plain-paired m rules ns) (maps-fit m rules laws doc end ns good (run-fold m rules doc end 0 ns ran)).0 cs within
+
+  -- where the entries past the version and the pending steps part ways
+  module _ (laws : Laws m) (c : Client C Rules Doc Reason) (rest standing front later : List (Named C)) (own : ℕ) (good : m.is_good rules c.base)
+      (at : own ≡ length standing) (rest_is : rest ≡ standing ++ front) (pending_is : c.pending ≡ standing ++ later) (doc_is : AllApply m rules c.base c.pending c.doc)
+      (base : Doc) (applies : AllApply m rules c.base rest base) where
+    parting : Fork m rules c.base base c.doc standing front later
+    parting =
+        fork m rules laws c.base base c.doc standing front later good
+        (ap (λ l. fold m rules c.base (changes_of l)) (sym rest_is) ∙ applies) (ap (λ l. fold m rules c.base (changes_of l)) (sym pending_is) ∙ doc_is)
+
+    front_is : drop own rest ≡ front
+    front_is = rw (at, rest_is) (drop-append_seam standing front)
+
+    later_is : drop own c.pending ≡ later
+    later_is = rw (at, pending_is) (drop-append_seam standing later)
+
+    over-of : CanRebaseOver m rules base (drop own rest) (drop own c.pending)
+    over-of = rw (front_is, later_is) (can-over m rules laws parting.at base c.doc front later parting.at_good parting.left_applies parting.right_applies)
+
+    room-of : AreWithin (m.size c.doc) c.cursors → All (HasRoomIn (carried m rules c own (drop own rest) base).maps) c.cursors
+    room-of h =
+        let can = over-can m rules laws parting.at base c.doc front later parting.at_good parting.left_applies parting.right_applies in
+        let so = carried m rules c own (drop own rest) base in
+        let reach = rw (← front_is, ← later_is) at can in
+        cursors-room so.maps (m.size c.doc) (m.size so.doc) reach.paired reach.fits c.cursors h
 
   -- the entries past the version fit
   pub entries-fit : Laws m → (c : Client C Rules Doc Reason) (since : ℕ) (entries : List (Named C)) → Meets m rules c (Entries since entries)
@@ -69,11 +112,15 @@ module _ {Rules Doc Reason C : Type 0} (m : Meaning Rules Doc Reason C) (rules :
       omega (arith, kin.version_is, ap length kin.log_is, length-append kin.before kin.past, ap length whole, length-append rest r.after, h.short) in
       record {
         leading = record {
-          good = fold-good m rules laws first c.base (changes_of kin.before) kin.first_good kin.base_is;
+          good = base-good m rules first h.log c kin laws;
           applies = kin.doc_is;
           within = omega (arith, r.own_is, s.counted, ap length s.pending_is, length-append s.standing s.later);
           short = omega (arith, long, r.own_is, s.counted, ap length r.rest_is, length-append s.standing r.front);
         };
         applies = front-applies m rules c.base kin.log_applies.0 rest r.after (rw whole at after_base);
+        over = λ base h2.
+            over-of laws c rest s.standing r.front s.later (own_run c.name rest) (base-good m rules first h.log c kin laws) (r.own_is ∙ sym s.counted) r.rest_is s.pending_is kin.doc_is base h2;
+        room = λ base h2.
+            room-of laws c rest s.standing r.front s.later (own_run c.name rest) (base-good m rules first h.log c kin laws) (r.own_is ∙ sym s.counted) r.rest_is s.pending_is kin.doc_is base h2 kin.cursors;
         short = long;
       }

@@ -1,3 +1,10 @@
 mod Names
 mod Advances
 mod Plannings
+mod Rebasings
+mod Tokens
+mod Origins
+mod Leads
+mod TokenRuns
+mod TokenLeads
+mod TokenKeeps

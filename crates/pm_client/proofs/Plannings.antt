@@ -1,11 +1,20 @@
 -- A plan for the answer of a number.
-use Rattle.std.proofs.Common.{◌≡◌, ℕ, ◌-◌, ◌<◌, List, length, Some, slice_index_or, sym, ap, ◌∙◌, subst}
+use Rattle.std.proofs.Common.{◌≡◌, ℕ, ℤ, ◌+◌, ◌-◌, ◌≤◌, ◌<◌, ◌==◌, if◌then◌else◌, Bool, true, false, List, length, drop, Some, slice_index_or, sym, ap, ◌∙◌, subst, arith, refl}
+use Rattle.std.proofs.lemmas.Bool.{eqb-true}
 use Rattle.pm_change.specs.Changes.{Meaning}
+use Rattle.pm_authority.specs.declared.named.Named.{Named}
+use Rattle.pm_authority.specs.Runs.{AllApply}
+use Rattle.pm_client.specs.declared.plan.Plan.TheVariants.{Rebase}
+use Rattle.pm_client.specs.declared.rebasing.Rebasing.{Rebasing}
+use Rattle.pm_client.specs.Clients.{own_run, carried, confirmed_first, others_taken, rest_taken}
+use Rattle.pm_client.specs.Cursors.{moved_over}
+use Rattle.pm_client.specs.Serials.{merged}
 use Rattle.pm_authority.specs.declared.message.Answer.{Answer}
 use Rattle.pm_client.specs.declared.client.Client.{Client}
 use Rattle.pm_client.specs.Clients.{answer_at}
+use Rattle.pm_client.specs.Rebases.{maps_of, start, rebased}
 use Rattle.pm_client.specs.Kins.{Stands}
-use Rattle.pm_client.specs.Plans.{Meets}
+use Rattle.pm_client.specs.Plans.{Meets, carried_out}
 use Rattle.pm_client.specs.Takings.{index-get, answer-stands}
 
 -- the answer that was read is that of the number
@@ -28,3 +37,24 @@ meets-found m rules c i a h is = record {
 pub meets-along : {Rules Doc Reason C : Type 0} (m : Meaning Rules Doc Reason C) (rules : Rules) (c : Client C Rules Doc Reason) (a b : Answer C Rules Doc Reason)
     → a ≡ b → Meets m rules c a → Meets m rules c b
 meets-along m rules c a b e h = subst (λ x. Meets m rules c x) e h
+
+-- the later pending steps were carried over others' entries
+pub carried-is : {Rules Doc Reason C : Type 0} (m : Meaning Rules Doc Reason C) (rules : Rules) (c : Client C Rules Doc Reason) (rest foreign later : List (Named C)) (own : ℕ) (base : Doc)
+    (so : Rebasing C Rules Doc Reason) → so ≡ rebased m rules (start m base (maps_of m foreign)) later → foreign ≡ drop own rest → later ≡ drop own c.pending
+    → so ≡ carried m rules c own (drop own rest) base
+carried-is m rules c rest foreign later own base so is f l = rw (f, l) at is
+
+-- the plan that carries the later pending steps over others' entries
+pub plan-is : {Rules Doc Reason C : Type 0} (m : Meaning Rules Doc Reason C) (rules : Rules) (c : Client C Rules Doc Reason) (rest : List (Named C)) (own : ℕ) (base : Doc)
+    (so : Rebasing C Rules Doc Reason) (dropped : List ℕ) (cursors : List (ℕ × ℤ)) → own ≡ own_run c.name rest → own ≤ length rest → (own ≡ length rest → ⊥)
+    → AllApply m rules c.base rest base → so ≡ carried m rules c own (drop own rest) base → dropped ≡ merged c.dropped so.dropped → cursors ≡ moved_over so.maps c.cursors
+    → carried_out c (Rebase own (length rest - own) base so dropped cursors) ≡ rest_taken m rules c rest (own_run c.name rest)
+plan-is m rules c rest own base so dropped cursors own_is within more applies so_is dropped_is cursors_are = rw (← own_is) (by-test (own == length rest) refl)
+  where
+    all : own + (length rest - own) ≡ length rest
+    all = omega (arith, within)
+
+    by-test : (b : Bool) → (own == length rest) ≡ b
+        → carried_out c (Rebase own (length rest - own) base so dropped cursors) ≡ (if b then confirmed_first m rules c own else others_taken m rules c rest own)
+    by-test true e = absurd (more (eqb-true own (length rest) e))
+    by-test false e = rw (applies, dropped_is, cursors_are, so_is, all) refl

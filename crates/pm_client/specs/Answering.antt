@@ -113,7 +113,7 @@ module _ {Rules Doc Reason C : Type 0} (m : Meaning Rules Doc Reason C) (rules :
           tried-only steps (run m rules a.doc 0 steps) refl (omega (arith, at, h.0, version-in)) (h.1 (omega (arith, at, h.0, version-in)))
 
   -- under the log's length, the document of the authority is the client's base
-  base-is-doc : c.version ≡ length a.log → c.base ≡ a.doc
+  pub base-is-doc : c.version ≡ length a.log → c.base ≡ a.doc
   base-is-doc at =
       let none : kin.past ≡ [] = nothing kin.past (omega (arith, at, kin.version_is, ap length kin.log_is, length-append kin.before kin.past)) in
       let whole : a.log ≡ kin.before = kin.log_is ∙ ap (λ l. kin.before ++ l) none ∙ append-nil kin.before in

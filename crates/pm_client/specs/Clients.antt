@@ -1,5 +1,5 @@
 -- What a client's calls make of it. Each is a function of the client's state.
-use Rattle.std.specs.Prelude.{ℕ, ◌+◌, ◌-◌, ◌≡◌, ◌==◌, nat_le, if◌then◌else◌, List, [], ◌∷◌, ◌++◌, length, take, drop, slice_get, Option, Some, None, Result, Ok, Err}
+use Rattle.std.specs.Prelude.{ℕ, ℤ, ◌+◌, ◌-◌, ◌≡◌, ◌<◌, ◌==◌, nat_le, if◌then◌else◌, List, [], ◌∷◌, ◌++◌, length, take, drop, slice_get, Option, Some, None, Result, Ok, Err}
 use Rattle.pm_change.specs.Changes.{Meaning, fold}
 use Rattle.pm_authority.specs.declared.named.Named.{Named}
 use Rattle.pm_authority.specs.declared.running.Refusal.{Refusal}
@@ -11,10 +11,16 @@ use Rattle.pm_authority.specs.Runs.{run, changes_of}
 use Rattle.pm_client.specs.declared.client.Client.{Client}
 use Rattle.pm_client.specs.declared.failing.EditError.{EditError}
 use Rattle.pm_client.specs.declared.failing.EditError.TheVariants.{Refused as RefusedAt, NoMemory}
+use Rattle.pm_client.specs.declared.failing.CursorError.{CursorError}
+use Rattle.pm_client.specs.declared.failing.CursorError.TheVariants.{Range, NoMemory as NoCursorMemory}
 use Rattle.pm_client.specs.declared.taken.Kind.{Kind}
 use Rattle.pm_client.specs.declared.taken.Kind.TheVariants.{Submit as ToSubmit, Ask as ToAsk}
 use Rattle.pm_client.specs.declared.taken.Taken.{Taken}
-use Rattle.pm_client.specs.declared.taken.Taken.TheVariants.{Confirmed, Rebased, Stale, Refused, Unbuilt}
+use Rattle.pm_client.specs.declared.taken.Taken.TheVariants.{Confirmed, Rebased, Stale, Refused}
+use Rattle.pm_client.specs.declared.rebasing.Rebasing.{Rebasing}
+use Rattle.pm_client.specs.Rebases.{maps_of, start, rebased}
+use Rattle.pm_client.specs.Cursors.{moved_over}
+use Rattle.pm_client.specs.Serials.{merged}
 
 -- the steps under names of this client, with serials from this one on
 abbrev pub named : {C : Type 0} → ℕ → ℕ → List C → List (Named C)
@@ -39,6 +45,7 @@ module _ {Rules Doc Reason C : Type 0} where
     answers = [];
     serials = 0;
     dropped = [];
+    cursors = [];
   }
 
   -- the message of this kind: all pending steps at the client's version, or a request for what is past it
@@ -54,6 +61,10 @@ module _ {Rules Doc Reason C : Type 0} where
   abbrev pub kept : Client C Rules Doc Reason → Answer C Rules Doc Reason → Client C Rules Doc Reason
   kept c answer = record c { answers = c.answers ++ answer ∷ [] }
 
+  -- one cursor more was set
+  abbrev pub cursor_set : Client C Rules Doc Reason → ℕ → ℤ → Client C Rules Doc Reason
+  cursor_set c p side = record c { cursors = c.cursors ++ (p, side) ∷ [] }
+
   -- the message of this number, counted from 1
   abbrev pub message_at : Client C Rules Doc Reason → ℕ → Option (Message C)
   message_at c j = slice_get c.messages (j - 1)
@@ -66,20 +77,42 @@ module _ {Rules Doc Reason C : Type 0} where
   abbrev pub confirmed : Client C Rules Doc Reason → ℕ → Doc → Client C Rules Doc Reason
   confirmed c k base = record c { version = c.version + k; base = base; pending = drop k c.pending }
 
-  -- k entries more, which give this base, and nothing is pending
-  abbrev pub updated : Client C Rules Doc Reason → ℕ → Doc → Client C Rules Doc Reason
-  updated c k base = record c { version = c.version + k; base = base; doc = base; pending = [] }
+  -- The log goes on by k entries that give this base, over which the later pending steps were carried so. The serials lost
+  -- are among those dropped, and each cursor goes over the whole mapping.
+  abbrev pub brought : Client C Rules Doc Reason → ℕ → Doc → Rebasing C Rules Doc Reason → Client C Rules Doc Reason
+  brought c k base r = record c {
+    version = c.version + k;
+    base = base;
+    doc = r.doc;
+    pending = r.kept;
+    dropped = merged c.dropped r.dropped;
+    cursors = moved_over r.maps c.cursors;
+  }
 
-  -- The client that this document gives. Without a document the client is as it was; steps that stand in a log always
-  -- give one.
-  abbrev pub given : Client C Rules Doc Reason → Option Doc → (Doc → Client C Rules Doc Reason) → Client C Rules Doc Reason
-  given c None next = c
+  -- What is told and what the client is with this document. Without a document nothing is done; steps that stand in a log
+  -- always give one.
+  abbrev pub given : Client C Rules Doc Reason → Option Doc → (Doc → Taken × Client C Rules Doc Reason) → Taken × Client C Rules Doc Reason
+  given c None next = (Stale, c)
   given c (Some base) next = next base
 
+-- the error of a cursor that is set at this position of a document of this size: it passes the size, or memory ran out
+abbrev pub IsCursorRefusal : ℕ → ℕ → CursorError → Type 0
+IsCursorRefusal size p Range = size < p
+IsCursorRefusal size p NoCursorMemory = Unit {0}
+
 module _ {Rules Doc Reason C : Type 0} (m : Meaning Rules Doc Reason C) (rules : Rules) where
-  -- what steps get that were tried on the client's document: they are pending under the next serials, or one is refused
+  -- What steps get that were tried on the client's document: one is refused, or they are pending under the next serials, and
+  -- each cursor goes over their maps.
   abbrev pub tried : Client C Rules Doc Reason → List C → Result Doc (Refusal Reason) → Result (Client C Rules Doc Reason) (Refusal Reason)
-  tried c cs (Ok doc) = Ok (record c { doc = doc; pending = c.pending ++ named c.name (c.serials + 1) cs; serials = c.serials + length cs })
+  tried c cs (Ok doc) =
+      let new = named c.name (c.serials + 1) cs in
+      Ok
+      (record c {
+        doc = doc;
+        pending = c.pending ++ new;
+        serials = c.serials + length cs;
+        cursors = moved_over (maps_of m new) c.cursors;
+      })
   tried c cs (Err e) = Err e
 
   -- The client once these steps were made, one after another, or the first of them that does not apply to the document
@@ -94,18 +127,22 @@ module _ {Rules Doc Reason C : Type 0} (m : Meaning Rules Doc Reason C) (rules :
 
   -- the first k pending steps are in the log, and nothing else past the version
   abbrev pub confirmed_first : Client C Rules Doc Reason → ℕ → Taken × Client C Rules Doc Reason
-  confirmed_first c k = (Confirmed k, given c (fold m rules c.base (changes_of (take k c.pending))) (confirmed c k))
+  confirmed_first c k = given c (fold m rules c.base (changes_of (take k c.pending))) (λ base. (Confirmed k, confirmed c k base))
 
-  -- These entries past the version have so many own ones in front, and others after them. Where nothing else is pending,
-  -- the client goes on to what all these entries give. Else nothing is done.
+  -- The pending steps behind the first `own`, carried over others' steps that lead to this base.
+  abbrev pub carried : Client C Rules Doc Reason → ℕ → List (Named C) → Doc → Rebasing C Rules Doc Reason
+  carried c own foreign base = rebased m rules (start m base (maps_of m foreign)) (drop own c.pending)
+
+  -- These entries past the version have so many own ones in front, which are the first pending steps, and others after
+  -- them. The later pending steps are carried over the others.
   abbrev pub others_taken : Client C Rules Doc Reason → List (Named C) → ℕ → Taken × Client C Rules Doc Reason
   others_taken c rest own =
-      if nat_le (length c.pending) own
-      then (Rebased own (length rest - own) 0, given c (fold m rules c.base (changes_of rest)) (updated c (length rest)))
-      else (Unbuilt, c)
+      given c (fold m rules c.base (changes_of rest))
+      (λ base.
+      let r = carried c own (drop own rest) base in
+      (Rebased own (length rest - own) (length r.dropped), brought c (length rest) base r))
 
-  -- These entries past the version have so many own ones in front, which are the first pending steps. Where there are no
-  -- others, they are confirmed.
+  -- These entries past the version have so many own ones in front. Where there are no others, these are confirmed.
   abbrev pub rest_taken : Client C Rules Doc Reason → List (Named C) → ℕ → Taken × Client C Rules Doc Reason
   rest_taken c rest own = if own == length rest then confirmed_first c own else others_taken c rest own
 

@@ -1,12 +1,13 @@
 -- Each call keeps how its client stands to the log, and each growth of the log keeps it too.
-use Rattle.std.specs.Prelude.{◌≡◌, ℕ, ◌+◌, ◌≤◌, ◌<◌, ◌⊎◌, true, false, nat_lt, List, [], ◌∷◌, ◌++◌, length, drop, Some, Result, Ok, Err, refl}
+use Rattle.std.specs.Prelude.{◌≡◌, ℕ, ℤ, ◌+◌, ◌≤◌, ◌<◌, ◌⊎◌, true, false, nat_lt, List, [], ◌∷◌, ◌++◌, length, drop, Some, Result, Ok, Err, refl}
 use Rattle.std.proofs.Common.{sym, subst, ap, ◌∙◌, inl, inr, arith, length-append, append_assoc, append-nil}
 use Rattle.std.proofs.Math.Seq.{drop-append_seam}
 use Rattle.std.proofs.lemmas.List.Elements.{All-from_recursion}
 use Rattle.std.proofs.lemmas.Bool.{ltb-true, ltb-false}
 use Rattle.std.specs.List.{AllByRecursion as Each}
-use Rattle.pm_change.specs.Changes.{Meaning, fold}
-use Rattle.pm_change.specs.Folds.{fold-append}
+use Rattle.pm_map.specs.Moves.{IsSide}
+use Rattle.pm_change.specs.Changes.{Meaning, Laws, fold}
+use Rattle.pm_change.specs.Folds.{fold-append, fold-good}
 use Rattle.pm_authority.specs.declared.named.Named.{Named}
 use Rattle.pm_authority.specs.declared.running.Refusal.{Refusal}
 use Rattle.pm_authority.specs.declared.message.Message.{Message}
@@ -18,11 +19,16 @@ use Rattle.pm_authority.specs.RunFolds.{changes-append, run-fold}
 use Rattle.pm_client.specs.declared.client.Client.{Client}
 use Rattle.pm_client.specs.declared.taken.Kind.{Kind}
 use Rattle.pm_client.specs.declared.taken.Kind.TheVariants.{Submit as ToSubmit, Ask as ToAsk}
-use Rattle.pm_client.specs.Clients.{named, new_client, tried, edited, message_of, composed, kept, confirmed, updated}
+use Rattle.pm_client.specs.Clients.{named, new_client, tried, edited, message_of, composed, kept, confirmed, brought, cursor_set}
 use Rattle.pm_client.specs.Kins.{IsOwn, IsForeign, IsPrefix, IsPart, MessageStands, AnswerStands, Past, Kin}
 use Rattle.pm_client.specs.Lists.{All-more, All-push, Each-append, Each-front, Each-back, nothing}
-use Rattle.pm_client.specs.Serials.{Parted}
+use Rattle.pm_client.specs.Serials.{Parted, Rises, own_serials, serials_of, merged}
+use Rattle.pm_client.specs.Rebases.{maps_of, start, rebased}
+use Rattle.pm_client.specs.Cursors.{IsWithin, moved_over}
+use Rattle.pm_client.specs.RebaseLaws.{maps-fit, plain-paired, cursors-move, fork, over-can, rebased-applied}
+use Rattle.pm_client.specs.declared.rebasing.Rebasing.{Rebasing}
 use Rattle.pm_client.specs.Partings.{parted-edited, parted-confirmed, parted-foreign}
+use Rattle.pm_client.specs.DropLaws.{parted-dropped, rebased-times, rebased-order, rebased-own}
 
 named-own : {C : Type 0} (client serial : ℕ) (cs : List C) → Each (IsOwn client) (named client serial cs)
 named-own client serial [] = tt
@@ -92,13 +98,21 @@ module _ {Rules Doc Reason C : Type 0} (m : Meaning Rules Doc Reason C) (rules :
     are_foreign = h.are_foreign;
   }
 
+  -- the client's documents are good
+  pub base-good : Laws m → m.is_good rules c.base
+  base-good laws = fold-good m rules laws first c.base (changes_of kin.before) kin.first_good kin.base_is
+
+  pub doc-good : Laws m → m.is_good rules c.doc
+  doc-good laws = fold-good m rules laws c.base c.doc (changes_of c.pending) (base-good laws) kin.doc_is
+
   -- steps that were tried on the client's document
-  kin-tried : (cs : List C) (next : Client C Rules Doc Reason) (r : Result Doc (Refusal Reason))
+  kin-tried : Laws m → (cs : List C) (next : Client C Rules Doc Reason) (r : Result Doc (Refusal Reason))
       → run m rules c.doc 0 (named c.name (c.serials + 1) cs) ≡ r → tried m rules c cs r ≡ Ok next → Kin m rules first log next
-  kin-tried cs next (Err e) ran h = absurd (cc)
-  kin-tried cs next (Ok doc) ran h =
+  kin-tried laws cs next (Err e) ran h = absurd (cc)
+  kin-tried laws cs next (Ok doc) ran h =
       let new : List (Named C) = named c.name (c.serials + 1) cs in
-      let is : record c { doc = doc; pending = c.pending ++ new; serials = c.serials + length cs } ≡ next = cc in
+      let is : record c { doc = doc; pending = c.pending ++ new; serials = c.serials + length cs; cursors = moved_over (maps_of m new) c.cursors } ≡ next = cc in
+      let fits = maps-fit m rules laws c.doc doc new (doc-good laws) (run-fold m rules c.doc doc 0 new ran) in
       subst (Kin m rules first log) is
       record {
         before = kin.before;
@@ -112,6 +126,7 @@ module _ {Rules Doc Reason C : Type 0} (m : Meaning Rules Doc Reason C) (rules :
         first_good = kin.first_good;
         log_applies = kin.log_applies;
         own = Each-append (IsOwn c.name) c.pending new kin.own (named-own c.name (c.serials + 1) cs);
+        cursors = (cursors-move (maps_of m new) (m.size c.doc) (m.size doc) (plain-paired m rules new) fits.0 c.cursors kin.cursors).1;
         parted = parted-edited c.name kin.before c.pending c.dropped c.serials kin.parted cs;
         stands = past-grows new kin.stands;
         messages = All-more _ _ c.messages (message-grows c.version c.pending new) kin.messages;
@@ -119,8 +134,8 @@ module _ {Rules Doc Reason C : Type 0} (m : Meaning Rules Doc Reason C) (rules :
       }
 
   -- steps made
-  pub kin-edited : (cs : List C) (next : Client C Rules Doc Reason) → edited m rules c cs ≡ Ok next → Kin m rules first log next
-  kin-edited cs next h = kin-tried cs next (run m rules c.doc 0 (named c.name (c.serials + 1) cs)) refl h
+  pub kin-edited : Laws m → (cs : List C) (next : Client C Rules Doc Reason) → edited m rules c cs ≡ Ok next → Kin m rules first log next
+  kin-edited laws cs next h = kin-tried laws cs next (run m rules c.doc 0 (named c.name (c.serials + 1) cs)) refl h
 
   -- a message composed
   pub kin-composed : (kind : Kind) → Kin m rules first log (composed c kind)
@@ -135,6 +150,7 @@ module _ {Rules Doc Reason C : Type 0} (m : Meaning Rules Doc Reason C) (rules :
     first_good = kin.first_good;
     log_applies = kin.log_applies;
     own = kin.own;
+    cursors = kin.cursors;
     parted = kin.parted;
     stands = kin.stands;
     messages = All-push (MessageStands c.version c.pending) c.messages (message_of c kind) kin.messages (new kind);
@@ -144,6 +160,26 @@ module _ {Rules Doc Reason C : Type 0} (m : Meaning Rules Doc Reason C) (rules :
       new : (kind : Kind) → MessageStands c.version c.pending (message_of c kind)
       new ToSubmit = (omega arith, λ e. ([], append-nil c.pending))
       new ToAsk = omega arith
+
+  -- a cursor set
+  pub kin-cursor : (p : ℕ) (side : ℤ) → p ≤ m.size c.doc → IsSide side → Kin m rules first log (cursor_set c p side)
+  kin-cursor p side within is_side = record {
+    before = kin.before;
+    past = kin.past;
+    standing = kin.standing;
+    log_is = kin.log_is;
+    version_is = kin.version_is;
+    base_is = kin.base_is;
+    doc_is = kin.doc_is;
+    first_good = kin.first_good;
+    log_applies = kin.log_applies;
+    own = kin.own;
+    cursors = Each-append (IsWithin (m.size c.doc)) c.cursors ((p, side) ∷ []) kin.cursors ((within, is_side), tt);
+    parted = kin.parted;
+    stands = kin.stands;
+    messages = kin.messages;
+    answers = kin.answers;
+  }
 
   -- an answer kept
   pub kin-kept : (a : Answer C Rules Doc Reason) → AnswerStands log c.version kin.standing a → Kin m rules first log (kept c a)
@@ -158,6 +194,7 @@ module _ {Rules Doc Reason C : Type 0} (m : Meaning Rules Doc Reason C) (rules :
     first_good = kin.first_good;
     log_applies = kin.log_applies;
     own = kin.own;
+    cursors = kin.cursors;
     parted = kin.parted;
     stands = kin.stands;
     messages = kin.messages;
@@ -178,6 +215,7 @@ module _ {Rules Doc Reason C : Type 0} (m : Meaning Rules Doc Reason C) (rules :
     first_good = kin.first_good;
     log_applies = (end, applies);
     own = kin.own;
+    cursors = kin.cursors;
     parted = kin.parted;
     stands = record {
       foreign = kin.stands.foreign ++ more;
@@ -214,26 +252,38 @@ module _ {Rules Doc Reason C : Type 0} (m : Meaning Rules Doc Reason C) (rules :
         first_good = kin.first_good;
         log_applies = kin.log_applies;
         own = rw rest (Each-back (IsOwn c.name) s.standing s.later (rw s.pending_is at kin.own));
+        cursors = kin.cursors;
         parted = rw rest (parted-confirmed c.name kin.before s.standing s.later c.dropped c.serials (Each-front (IsOwn c.name) s.standing s.later (rw s.pending_is at kin.own)) (rw s.pending_is at kin.parted));
         stands = record { foreign = s.foreign; later = s.later; standing = []; counted = refl; past_is = refl; pending_is = rest; are_foreign = s.are_foreign };
         messages = All-more _ _ c.messages (λ x a. message-passed c.version (c.version + kin.standing) c.pending (drop kin.standing c.pending) x (omega arith) a) kin.messages;
         answers = All-more _ _ c.answers (λ x a. answer-passed log c.version kin.standing 0 (c.version + kin.standing) x (omega arith) a) kin.answers;
       }
 
-  -- the standing steps and some foreign ones taken, with nothing else pending
-  pub kin-updated : (base : Doc) (front back : List (Named C)) → kin.stands.later ≡ [] → 0 < length front → kin.stands.foreign ≡ front ++ back
+  -- the standing steps and some of others' entries taken, over which the later pending steps are carried
+  pub kin-brought : Laws m → (base : Doc) (front back : List (Named C)) (r : Rebasing C Rules Doc Reason) → 0 < length front → kin.stands.foreign ≡ front ++ back
       → fold m rules c.base (changes_of (kin.stands.standing ++ front)) ≡ Some base
-      → Kin m rules first log (updated c (length (kin.stands.standing ++ front)) base)
-  kin-updated base front back none some split h =
+      → r ≡ rebased m rules (start m base (maps_of m front)) kin.stands.later
+      → Kin m rules first log (brought c (length (kin.stands.standing ++ front)) base r)
+  kin-brought laws base front back r some split h is =
       let s = kin.stands in
+      let begun : Rebasing C Rules Doc Reason = start m base (maps_of m front) in
       let taken : List (Named C) = s.standing ++ front in
       let n : length taken ≡ kin.standing + length front = omega (arith, s.counted, length-append s.standing front) in
-      let own : Each (IsOwn c.name) (s.standing ++ s.later) = rw s.pending_is at kin.own in
+      let own_all : Each (IsOwn c.name) (s.standing ++ s.later) = rw s.pending_is at kin.own in
+      let own_later : Each (IsOwn c.name) s.later = Each-back (IsOwn c.name) s.standing s.later own_all in
       let far : Each (IsForeign c.name) front = Each-front (IsForeign c.name) front back (rw split at s.are_foreign) in
-      let seam : Parted c.name (kin.before ++ s.standing) s.later c.dropped c.serials =
-      parted-confirmed c.name kin.before s.standing s.later c.dropped c.serials (Each-front (IsOwn c.name) s.standing s.later own) (rw s.pending_is at kin.parted) in
-      let reached : Parted c.name (kin.before ++ s.standing ++ front) [] c.dropped c.serials =
-      parted-foreign c.name (kin.before ++ s.standing) [] c.dropped c.serials (rw none at seam) front far in
+      let shared : Parted c.name (kin.before ++ s.standing) s.later c.dropped c.serials =
+      parted-confirmed c.name kin.before s.standing s.later c.dropped c.serials (Each-front (IsOwn c.name) s.standing s.later own_all) (rw s.pending_is at kin.parted) in
+      let reached : Parted c.name (kin.before ++ s.standing ++ front) s.later c.dropped c.serials =
+      parted-foreign c.name (kin.before ++ s.standing) s.later c.dropped c.serials shared front far in
+      let order : Rises (own_serials c.name (kin.before ++ s.standing ++ front) ++ serials_of r.kept) =
+      rw is (rebased-order m rules (own_serials c.name (kin.before ++ s.standing ++ front)) begun s.later reached.rise) in
+      let dropped_is : Parted c.name (kin.before ++ s.standing ++ front) r.kept (merged c.dropped r.dropped) c.serials =
+      parted-dropped c.name (kin.before ++ s.standing ++ front) s.later r.kept c.dropped r.dropped c.serials reached
+      (λ x. omega (arith, rw (← is) at (rebased-times m rules x begun s.later))) order in
+      let f = fork m rules laws c.base base c.doc s.standing front s.later (base-good laws) h (ap (λ l. fold m rules c.base (changes_of l)) (sym s.pending_is) ∙ kin.doc_is) in
+      let can = over-can m rules laws f.at base c.doc front s.later f.at_good f.left_applies f.right_applies in
+      let reach = rw (← is) at can in
       record {
         before = kin.before ++ taken;
         past = back;
@@ -242,13 +292,14 @@ module _ {Rules Doc Reason C : Type 0} (m : Meaning Rules Doc Reason C) (rules :
         version_is = omega (arith, kin.version_is, length-append kin.before taken);
         base_is = ap (fold m rules first) (changes-append kin.before taken)
             ∙ fold-append m rules first c.base (changes_of kin.before) (changes_of taken) kin.base_is ∙ h;
-        doc_is = refl;
+        doc_is = rw is (rebased-applied m rules base begun s.later refl);
         first_good = kin.first_good;
         log_applies = kin.log_applies;
-        own = tt;
-        parted = subst (λ l. Parted c.name l [] c.dropped c.serials) (append_assoc kin.before s.standing front) reached;
-        stands = record { foreign = back; later = []; standing = []; counted = refl; past_is = refl; pending_is = refl; are_foreign = Each-back (IsForeign c.name) front back (rw split at s.are_foreign) };
-        messages = All-more _ _ c.messages (λ x a. message-passed c.version (c.version + length taken) c.pending [] x (omega (arith, n)) a) kin.messages;
+        own = rw is (rebased-own m rules c.name begun s.later tt own_later);
+        cursors = (cursors-move r.maps (m.size c.doc) (m.size r.doc) reach.paired reach.fits c.cursors kin.cursors).1;
+        parted = subst (λ l. Parted c.name l r.kept (merged c.dropped r.dropped) c.serials) (append_assoc kin.before s.standing front) dropped_is;
+        stands = record { foreign = back; later = r.kept; standing = []; counted = refl; past_is = refl; pending_is = refl; are_foreign = Each-back (IsForeign c.name) front back (rw split at s.are_foreign) };
+        messages = All-more _ _ c.messages (λ x a. message-passed c.version (c.version + length taken) c.pending r.kept x (omega (arith, n)) a) kin.messages;
         answers = All-more _ _ c.answers (λ x a. answer-passed log c.version kin.standing (length front) (c.version + length taken) x (omega (arith, n)) a) kin.answers;
       }
 
@@ -270,6 +321,7 @@ module _ {Rules Doc Reason C : Type 0} (m : Meaning Rules Doc Reason C) (rules :
         first_good = kin.first_good;
         log_applies = (end, applies);
         own = kin.own;
+        cursors = kin.cursors;
         parted = kin.parted;
         stands = record { foreign = []; later = pre.0; standing = steps; counted = refl; past_is = sym (append-nil steps); pending_is = sym pre.1; are_foreign = tt };
         messages = kin.messages;
@@ -298,6 +350,7 @@ kin-new m rules name doc good = record {
   first_good = good;
   log_applies = (doc, refl);
   own = tt;
+  cursors = tt;
   parted = record { parts = λ s. omega arith; rise = tt; dropped_rise = tt };
   stands = record { foreign = []; later = []; standing = []; counted = refl; past_is = refl; pending_is = refl; are_foreign = tt };
   messages = All-from_recursion _ [] tt;

@@ -10,6 +10,7 @@ use Rattle.pm_authority.specs.declared.message.Answer.TheVariants.{Accepted, Wro
 use Rattle.pm_authority.specs.Runs.{AllApply}
 use Rattle.pm_client.specs.declared.client.Client.{Client}
 use Rattle.pm_client.specs.Serials.{Parted}
+use Rattle.pm_client.specs.Cursors.{AreWithin}
 
 module _ {C : Type 0} where
   -- the step is this client's
@@ -60,8 +61,8 @@ module _ {Rules Doc Reason C : Type 0} (m : Meaning Rules Doc Reason C) (rules :
   -- The client stands to the log that begins with the first document. The log falls into what is before the client's
   -- version and what is past it. The first document is good, and the log's steps apply to it one after another; those
   -- before the version give the base, and the pending steps, which are all the client's, make of it the client's
-  -- document. The serials drawn are parted, the log past the version is as `Past` says, and each message and answer
-  -- stands.
+  -- document, within which the cursors are. The serials drawn are parted, the log past the version is as `Past` says, and
+  -- each message and answer stands.
   pub record Kin (log : List (Named C)) (c : Client C Rules Doc Reason) : Type 0 where
     pub before : List (Named C)
     pub past : List (Named C)
@@ -73,6 +74,7 @@ module _ {Rules Doc Reason C : Type 0} (m : Meaning Rules Doc Reason C) (rules :
     pub base_is : AllApply m rules first before c.base
     pub doc_is : AllApply m rules c.base c.pending c.doc
     pub own : Each (IsOwn c.name) c.pending
+    pub cursors : AreWithin (m.size c.doc) c.cursors
     pub parted : Parted c.name before c.pending c.dropped c.serials
     pub stands : Past c.name c.pending past standing
     pub messages : All (MessageStands c.version c.pending) c.messages

@@ -1,5 +1,5 @@
 -- Where the serials that a client drew stand.
-use Rattle.std.specs.Prelude.{◌≡◌, ℕ, zero, suc, ◌+◌, ◌<◌, ◌==◌, if◌then◌else◌, List, [], ◌∷◌, ◌++◌}
+use Rattle.std.specs.Prelude.{◌≡◌, ℕ, zero, suc, ◌+◌, ◌<◌, ◌==◌, nat_lt, if◌then◌else◌, List, [], ◌∷◌, ◌++◌}
 use Rattle.std.specs.List.{AllByRecursion as Each}
 use Rattle.pm_authority.specs.declared.named.Named.{Named}
 
@@ -27,6 +27,16 @@ numbers_to (suc n) = suc n ∷ numbers_to n
 abbrev pub Rises : List ℕ → Type 0
 Rises [] = Unit {0}
 Rises (x ∷ xs) = Each (λ y. x < y) xs × Rises xs
+
+-- a serial at its place among others that are in order
+abbrev pub put : ℕ → List ℕ → List ℕ
+put x [] = x ∷ []
+put x (y ∷ ys) = if nat_lt y x then y ∷ put x ys else x ∷ y ∷ ys
+
+-- each of the second list at its place in the first
+abbrev pub merged : List ℕ → List ℕ → List ℕ
+merged ds [] = ds
+merged ds (x ∷ xs) = merged (put x ds) xs
 
 -- Each serial drawn so far, which are the numbers from 1 on, is exactly one of these: that of an own entry of the log
 -- before the version, that of a pending step, and a dropped one. The own entries' serials and then the pending ones

@@ -2,19 +2,22 @@
 use Rattle.std.specs.Prelude.{◌≡◌, ◌≢◌, ℕ, zero, suc, ◌+◌, ◌-◌, ◌≤◌, ◌<◌, ◌⊎◌, ◌==◌, nat_le, if◌then◌else◌, Bool, true, false, List, [], ◌∷◌, ◌++◌, length, take, drop, Option, Some, None, refl, slice_get, slice_index_or}
 use Rattle.std.specs.List.{AllByRecursion as Each}
 use Rattle.std.proofs.Common.{sym, ap, ◌∙◌, subst, inl, inr, arith, length-append, length-drop}
-use Rattle.std.proofs.lemmas.Bool.{eq-eqb, eqb-true, eqb-false, leb-true, leb-false}
-use Rattle.pm_change.specs.Changes.{Meaning, fold}
+use Rattle.std.proofs.Math.Seq.{drop-append_seam}
+use Rattle.std.proofs.lemmas.Bool.{eq-eqb, eqb-true, eqb-false, leb-false}
+use Rattle.pm_change.specs.Changes.{Meaning, Laws, fold}
 use Rattle.pm_authority.specs.declared.named.Named.{Named}
 use Rattle.pm_authority.specs.declared.message.Answer.{Answer}
 use Rattle.pm_authority.specs.declared.message.Answer.TheVariants.{Accepted, WrongVersion, StepRefused, Entries}
 use Rattle.pm_authority.specs.Runs.{changes_of}
 use Rattle.pm_client.specs.declared.client.Client.{Client}
+use Rattle.pm_client.specs.declared.rebasing.Rebasing.{Rebasing}
 use Rattle.pm_client.specs.declared.taken.Taken.{Taken}
-use Rattle.pm_client.specs.declared.taken.Taken.TheVariants.{Rebased, Stale, Unbuilt}
-use Rattle.pm_client.specs.Clients.{own_run, given, confirmed, updated, confirmed_first, others_taken, rest_taken, taken, taken_if, taken_at, answer_at}
+use Rattle.pm_client.specs.declared.taken.Taken.TheVariants.{Confirmed, Rebased, Stale}
+use Rattle.pm_client.specs.Clients.{own_run, given, confirmed, brought, carried, confirmed_first, others_taken, rest_taken, taken, taken_if, taken_at, answer_at}
+use Rattle.pm_client.specs.Rebases.{maps_of, start, rebased}
 use Rattle.pm_client.specs.Kins.{IsOwn, IsForeign, AnswerStands, Kin}
-use Rattle.pm_client.specs.Lists.{Each-front, nothing, take-seam, part-past, two-parts}
-use Rattle.pm_client.specs.Keeps.{kin-confirmed, kin-updated}
+use Rattle.pm_client.specs.Lists.{Each-front, take-seam, part-past, two-parts}
+use Rattle.pm_client.specs.Keeps.{kin-confirmed, kin-brought}
 
 -- the leading own steps of own steps and then others' are the own steps
 pub own_run-is : {C : Type 0} (client : ℕ) (standing front : List (Named C)) → Each (IsOwn client) standing → Each (IsForeign client) front
@@ -31,21 +34,6 @@ own_run-is client (n ∷ standing) front o f =
 
 module _ {Rules Doc Reason C : Type 0} (m : Meaning Rules Doc Reason C) (rules : Rules) (first : Doc) (log : List (Named C))
     (c : Client C Rules Doc Reason) (kin : Kin m rules first log c) where
-  kin-given : (o : Option Doc) (next : Doc → Client C Rules Doc Reason) → ((d : Doc) → o ≡ Some d → Kin m rules first log (next d))
-      → Kin m rules first log (given c o next)
-  kin-given None next h = kin
-  kin-given (Some d) next h = h d refl
-
-  -- the standing steps are confirmed
-  kin-first : (k : ℕ) → k ≡ kin.standing → 0 < k → Kin m rules first log (confirmed_first m rules c k).1
-  kin-first k is some =
-      let s = kin.stands in
-      let t : take k c.pending ≡ s.standing = rw s.pending_is (take-seam s.standing s.later k (s.counted ∙ sym is)) in
-      kin-given (fold m rules c.base (changes_of (take k c.pending))) (confirmed c k)
-      (λ d h.
-      subst (λ (n : ℕ). Kin m rules first log (confirmed c n d)) (sym is)
-      (kin-confirmed m rules first log c kin d (omega (arith, is, some)) (rw t at h)))
-
   -- the entries past the version: the standing steps, and some others'
   pub record Rest (rest : List (Named C)) : Type 0 where
     pub front : List (Named C)
@@ -79,69 +67,90 @@ module _ {Rules Doc Reason C : Type 0} (m : Meaning Rules Doc Reason C) (rules :
       far (inl h) = absurd (omega arith)
       far (inr h) = h
 
-  -- taking entries past the version
-  kin-rest : (rest : List (Named C)) → 0 < length rest → Rest rest → Kin m rules first log (rest_taken m rules c rest (own_run c.name rest)).1
-  kin-rest rest some r = whether (own_run c.name rest == length rest) refl
-    where
-      n : length rest ≡ kin.standing + length r.front
-      n = ap length r.rest_is ∙ length-append kin.stands.standing r.front ∙ ap (λ k. k + length r.front) kin.stands.counted
+  -- What holds of the client, of the client with its standing steps confirmed, and of it with the later ones carried over
+  -- others' entries holds of it once it took an answer that stands.
+  module _ (Q : Client C Rules Doc Reason → Type 0) (now : Q c)
+      (confirms : (base : Doc) → 0 < kin.standing → fold m rules c.base (changes_of kin.stands.standing) ≡ Some base → Q (confirmed c kin.standing base))
+      (brings : (base : Doc) (front back : List (Named C)) (r : Rebasing C Rules Doc Reason) → 0 < length front → kin.stands.foreign ≡ front ++ back
+      → fold m rules c.base (changes_of (kin.stands.standing ++ front)) ≡ Some base
+      → r ≡ rebased m rules (start m base (maps_of m front)) kin.stands.later
+      → Q (brought c (length (kin.stands.standing ++ front)) base r)) where
+    one-given : (o : Option Doc) (next : Doc → Taken × Client C Rules Doc Reason) → ((d : Doc) → o ≡ Some d → Q (next d).1)
+        → Q (given c o next).1
+    one-given None next h = now
+    one-given (Some d) next h = h d refl
 
-      brought : own_run c.name rest ≢ length rest → length c.pending ≤ own_run c.name rest
-          → Kin m rules first log (given c (fold m rules c.base (changes_of rest)) (updated c (length rest)))
-      brought more all =
-          let s = kin.stands in
-          let none : s.later ≡ [] = nothing s.later (omega (arith, all, r.own_is, s.counted, ap length s.pending_is, length-append s.standing s.later)) in
-          let others : 0 < length r.front = positive (length r.front) (λ z. more (omega (arith, n, z, r.own_is))) in
-          kin-given (fold m rules c.base (changes_of rest)) (updated c (length rest))
-          (λ d h.
-          subst (λ (l : List (Named C)). Kin m rules first log (updated c (length l) d)) (sym r.rest_is)
-          (kin-updated m rules first log c kin d r.front r.after none others r.foreign_is (rw r.rest_is at h)))
-        where
-          positive : (k : ℕ) → (k ≡ 0 → ⊥) → 0 < k
-          positive zero h = absurd (h refl)
-          positive (suc k) h = omega arith
+    -- the standing steps are confirmed
+    one-first : (k : ℕ) → k ≡ kin.standing → 0 < k → Q (confirmed_first m rules c k).1
+    one-first k is some =
+        let s = kin.stands in
+        let t : take k c.pending ≡ s.standing = rw s.pending_is (take-seam s.standing s.later k (s.counted ∙ sym is)) in
+        one-given (fold m rules c.base (changes_of (take k c.pending))) (λ base. (Confirmed k, confirmed c k base))
+        (λ d h.
+        subst (λ (n : ℕ). Q (confirmed c n d)) (sym is)
+        (confirms d (omega (arith, is, some)) (rw t at h)))
 
-      others : own_run c.name rest ≢ length rest → Kin m rules first log (others_taken m rules c rest (own_run c.name rest)).1
-      others more = whether (nat_le (length c.pending) (own_run c.name rest)) refl
-        where
-          chosen : Bool → Taken × Client C Rules Doc Reason
-          chosen b =
-              if b then (Rebased (own_run c.name rest) (length rest - own_run c.name rest) 0, given c (fold m rules c.base (changes_of rest)) (updated c (length rest)))
-              else (Unbuilt, c)
+    -- taking entries past the version
+    one-rest : (rest : List (Named C)) → 0 < length rest → Rest rest → Q (rest_taken m rules c rest (own_run c.name rest)).1
+    one-rest rest some r = whether (own_run c.name rest == length rest) refl
+      where
+        own : ℕ
+        own = own_run c.name rest
 
-          whether : (b : Bool) → nat_le (length c.pending) (own_run c.name rest) ≡ b → Kin m rules first log (chosen b).1
-          whether true e = brought more (leb-true (length c.pending) (own_run c.name rest) e)
-          whether false e = kin
+        n : length rest ≡ kin.standing + length r.front
+        n = ap length r.rest_is ∙ length-append kin.stands.standing r.front ∙ ap (λ k. k + length r.front) kin.stands.counted
 
-      whether : (b : Bool) → (own_run c.name rest == length rest) ≡ b
-          → Kin m rules first log
-          (if b then confirmed_first m rules c (own_run c.name rest) else others_taken m rules c rest (own_run c.name rest)).1
-      whether true e =
-          kin-first (own_run c.name rest) r.own_is (let same = eqb-true (own_run c.name rest) (length rest) e in omega (arith, same, some))
-      whether false e = others (eqb-false (own_run c.name rest) (length rest) e)
+        at : own ≡ length kin.stands.standing
+        at = r.own_is ∙ sym kin.stands.counted
 
-  -- an answer taken
-  pub kin-taken : (a : Answer C Rules Doc Reason) → AnswerStands log c.version kin.standing a → Kin m rules first log (taken m rules c a).1
-  kin-taken (Accepted from count) h = by-test (nat_le (from + count) c.version) refl h
-    where
-      by-test : (b : Bool) → nat_le (from + count) c.version ≡ b → (from + count ≤ c.version) ⊎ ((from ≡ c.version) × (count ≡ kin.standing))
-          → Kin m rules first log (if b then (Stale, c) else confirmed_first m rules c count).1
-      by-test true e h = kin
-      by-test false e (inl l) = absurd (let past = leb-false (from + count) c.version e in omega (arith, past, l))
-      by-test false e (inr h) = kin-first count h.1 (let past = leb-false (from + count) c.version e in omega (arith, past, h.0))
-  kin-taken (WrongVersion size) h = kin
-  kin-taken (StepRefused index reason) h = kin
-  kin-taken (Entries since entries) h = by-test (nat_le (since + length entries) c.version) refl
-    where
-      rest : List (Named C)
-      rest = drop (c.version - since) entries
+        others : own ≢ length rest → Q (others_taken m rules c rest own).1
+        others more =
+            let s = kin.stands in
+            let front_is : drop own rest ≡ r.front = rw (at, r.rest_is) (drop-append_seam s.standing r.front) in
+            let later_is : drop own c.pending ≡ s.later = rw (at, s.pending_is) (drop-append_seam s.standing s.later) in
+            one-given (fold m rules c.base (changes_of rest))
+            (λ base.
+            let so = carried m rules c own (drop own rest) base in
+            (Rebased own (length rest - own) (length so.dropped), brought c (length rest) base so))
+            (λ d h.
+            let so = carried m rules c own (drop own rest) d in
+            let is : so ≡ rebased m rules (start m d (maps_of m r.front)) s.later = rw (front_is, later_is) refl in
+            rw (ap length r.rest_is)
+            (brings d r.front r.after so
+            (positive (length r.front) (λ z. more (omega (arith, n, z, r.own_is)))) r.foreign_is (rw r.rest_is at h) is))
+          where
+            positive : (k : ℕ) → (k ≡ 0 → ⊥) → 0 < k
+            positive zero h = absurd (h refl)
+            positive (suc k) h = omega arith
 
-      by-test : (b : Bool) → nat_le (since + length entries) c.version ≡ b
-          → Kin m rules first log (if b then (Stale, c) else rest_taken m rules c rest (own_run c.name rest)).1
-      by-test true e = kin
-      by-test false e =
-          let past : c.version < since + length entries = leb-false (since + length entries) c.version e in
-          kin-rest rest (omega (arith, past, h.0, length-drop (c.version - since) entries)) (rest-of since entries h past)
+        whether : (b : Bool) → (own == length rest) ≡ b
+            → Q (if b then confirmed_first m rules c own else others_taken m rules c rest own).1
+        whether true e =
+            one-first own r.own_is (let same = eqb-true own (length rest) e in omega (arith, same, some))
+        whether false e = others (eqb-false own (length rest) e)
+
+    -- an answer taken
+    pub one-taken : (a : Answer C Rules Doc Reason) → AnswerStands log c.version kin.standing a → Q (taken m rules c a).1
+    one-taken (Accepted from count) h = by-test (nat_le (from + count) c.version) refl h
+      where
+        by-test : (b : Bool) → nat_le (from + count) c.version ≡ b → (from + count ≤ c.version) ⊎ ((from ≡ c.version) × (count ≡ kin.standing))
+            → Q (if b then (Stale, c) else confirmed_first m rules c count).1
+        by-test true e h = now
+        by-test false e (inl l) = absurd (let past = leb-false (from + count) c.version e in omega (arith, past, l))
+        by-test false e (inr h) = one-first count h.1 (let past = leb-false (from + count) c.version e in omega (arith, past, h.0))
+    one-taken (WrongVersion size) h = now
+    one-taken (StepRefused index reason) h = now
+    one-taken (Entries since entries) h = by-test (nat_le (since + length entries) c.version) refl
+      where
+        rest : List (Named C)
+        rest = drop (c.version - since) entries
+
+        by-test : (b : Bool) → nat_le (since + length entries) c.version ≡ b
+            → Q (if b then (Stale, c) else rest_taken m rules c rest (own_run c.name rest)).1
+        by-test true e = now
+        by-test false e =
+            let past : c.version < since + length entries = leb-false (since + length entries) c.version e in
+            one-rest rest (omega (arith, past, h.0, length-drop (c.version - since) entries)) (rest-of since entries h past)
 
 pub get-index : {A : Type 0} (xs : List A) (i : ℕ) (a : A) → slice_get xs i ≡ Some a → (i < length xs) × ((d : A) → slice_index_or xs i d ≡ a)
 get-index [] i a h = absurd (cc)
@@ -162,9 +171,15 @@ module _ {Rules Doc Reason C : Type 0} (m : Meaning Rules Doc Reason C) (rules :
       subst (λ (x : Answer C Rules Doc Reason). AnswerStands log c.version kin.standing x) (g.1 a) (kin.answers (i - 1) a g.0)
 
   -- the answer of a number taken
-  pub kin-taken_at : (i : ℕ) → Kin m rules first log (taken_at m rules c i).1
-  kin-taken_at i = from (answer_at c i) refl
+  -- an answer taken
+  pub kin-taken : Laws m → (a : Answer C Rules Doc Reason) → AnswerStands log c.version kin.standing a → Kin m rules first log (taken m rules c a).1
+  kin-taken laws a h =
+      one-taken m rules first log c kin (Kin m rules first log) kin (λ base some f. kin-confirmed m rules first log c kin base some f)
+      (λ base front back r some split f is. kin-brought m rules first log c kin laws base front back r some split f is) a h
+
+  pub kin-taken_at : Laws m → (i : ℕ) → Kin m rules first log (taken_at m rules c i).1
+  kin-taken_at laws i = from (answer_at c i) refl
     where
       from : (o : Option (Answer C Rules Doc Reason)) → answer_at c i ≡ o → Kin m rules first log (taken_if m rules c o).1
       from None e = kin
-      from (Some a) e = kin-taken m rules first log c kin a (answer-stands i a e)
+      from (Some a) e = kin-taken laws a (answer-stands i a e)

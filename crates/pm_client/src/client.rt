@@ -1,15 +1,21 @@
 //! A client: its base, what is pending, and its document.
-ghost use Rattle.std.specs.Prelude.{◌≡◌, ◌+◌, ◌-◌, ◌<◌, ◌≤◌, ◌^◌, List, [], length, take, Ok, Some, IfOk, IfErr, OnErr};
+ghost use Rattle.std.specs.Prelude.{◌≡◌, ◌+◌, ◌-◌, ◌<◌, ◌≤◌, ◌^◌, List, [], length, take, Ok, Some, IfOk, IfErr, OnOk, OnErr};
 ghost use Rattle.pm_authority.specs.Runs.{AllApply};
 ghost use Rattle.pm_authority.specs.declared.named.Named.{Named};
 ghost use Rattle.pm_authority.specs.declared.message.Answer.TheVariants.{Accepted, Entries};
-ghost use Rattle.pm_client.specs.Clients.{new_client, edited, IsRefusal, composed, kept, message_of, message_at, taken, taken_at, rest_taken, confirmed_first, own_run};
+ghost use Rattle.pm_map.specs.Moves.{IsSide};
+ghost use Rattle.pm_client.specs.Clients.{new_client, edited, IsRefusal, cursor_set, IsCursorRefusal, composed, kept, message_of, message_at, taken, taken_at, rest_taken, confirmed_first, own_run};
+ghost use Rattle.pm_client.specs.Cursors.{AreWithin};
+ghost use Rattle.pm_client.specs.TokenNames.{KeepsTokens};
 ghost use Rattle.pm_client.specs.Kins.{AnswerStands, Kin, Stands};
 ghost use Rattle.pm_client.specs.Plans.{carried_out, MayCarryOut, Meets, MayConfirm, Fits};
 
-use crate::failing::EditError;
+use crate::cursors::move_all;
+use crate::failing::{CursorError, EditError};
 use crate::naming::{name_steps, own_steps};
 use crate::plan::Plan;
+use crate::rebasing::{Rebasing, maps_over, rebase_over};
+use crate::serials::merge;
 use crate::taken::{Kind, Taken};
 use pm_authority::{Answer, Message, Named, Refusal, apply_all, copy_steps};
 use pm_change::{Change, Failed};
@@ -17,7 +23,8 @@ use pm_list::Listed;
 use std::alloc::{AllocError, Global};
 
 /// A client. `base` is the document after the first `version` steps of the log, and `doc` is the base after the pending
-/// steps. It keeps the messages that it composed and the answers that it was given, each under a number from 1 on.
+/// steps. It keeps the messages that it composed and the answers that it was given, each under a number from 1 on. A cursor
+/// is a position in the document, in tokens, and a side, 1 or -1.
 #[derive(Drop)]
 pub struct Client<C: Change> {
     name: u32,
@@ -29,6 +36,7 @@ pub struct Client<C: Change> {
     answers: Listed<Answer<C>>,
     serials: u64,
     dropped: Listed<u64>,
+    cursors: Listed<(u64, i8)>,
 }
 
 impl<C: Change> Client<C> {
@@ -48,6 +56,7 @@ impl<C: Change> Client<C> {
             answers: Listed::new(alloc),
             serials: 0,
             dropped: Listed::new(alloc),
+            cursors: Listed::new(alloc),
         })
     }
 
@@ -93,6 +102,13 @@ impl<C: Change> Client<C> {
         self.dropped.as_slice()
     }
 
+    /// The cursors where they stand now, in the order in which they were set.
+    pub fn cursors(&self) -> &[(u64, i8)]
+        ensures { result.now ≡ self.now.cursors }
+    {
+        self.cursors.as_slice()
+    }
+
     /// How many messages were composed.
     pub fn composed(&self) -> u64
         ensures { result ≡ length self.now.messages }
@@ -108,10 +124,12 @@ impl<C: Change> Client<C> {
     }
 
     /// Makes these steps, one after another, on the client's document, and tells their number. They are pending under the
-    /// next serials. `Refused` comes exactly where one of them does not apply, and names the first. Then, and for want of
-    /// memory, the client is as it was. There is no serial past 2^64 - 1: asked for one, the client answers `NoMemory`.
+    /// next serials, and each cursor goes through their maps by its side. `Refused` comes exactly where one of them does not
+    /// apply, and names the first. Then, and for want of memory, the client is as it was. There is no serial past 2^64 - 1:
+    /// asked for one, the client answers `NoMemory`.
     ///
-    /// The client's document must be good under these rules.
+    /// The client's document must be good under these rules, and its cursors within it, as they are where it stands to a
+    /// log.
     pub fn edit(
         &mut self,
         alloc: Global,
@@ -119,6 +137,7 @@ impl<C: Change> Client<C> {
         steps: Vec<C>,
     ) -> Result<u64, EditError<C::Reason>>
         requires good { C.means.is_good rules.now self.old.doc }
+        requires cursors { AreWithin (C.means.size self.old.doc) self.old.cursors }
         ensures count { IfOk result (λ n. n ≡ length steps.items) }
         ensures made { IfOk result (λ n. edited C.means rules.now self.old steps.items ≡ Ok self.new) }
         ensures refused { IfErr result (IsRefusal C.means rules.now (edited C.means rules.now self.old steps.items)) }
@@ -126,6 +145,9 @@ impl<C: Change> Client<C> {
         // To what log the client stood, it stands.
         ensures kin { (first : C.Doc) (log : List (Named C)) → Kin C.means rules.now first log self.old
             → Kin C.means rules.now first log self.new }
+        // A cursor with side 1 that stood before a token stands before it, where that is still there.
+        ensures tokens { OnOk result ((first : C.Doc) (log : List (Named C)) → Kin C.means rules.now first log self.old
+            → KeepsTokens C.means log self.old self.new (C.means.size self.old.base)) }
     {
         let count = steps.len() as u64;
         let serial = self.serials.checked_add(1).ok_or(AllocError)?;
@@ -133,9 +155,12 @@ impl<C: Change> Client<C> {
         let added = name_steps(alloc, self.name, serial, steps)?;
         match apply_all(alloc, rules, &self.doc, added.as_slice()) {
             Ok(next) => {
+                let maps = maps_over(alloc, added.as_slice())?;
+                let cursors = move_all(alloc, self.cursors.as_slice(), &maps)?;
                 self.pending.append(added)?;
                 self.doc = next;
                 self.serials = serials;
+                self.cursors = cursors;
                 Ok(count)
             }
             Err(Failed::Reason(Refusal { index, reason })) => {
@@ -143,6 +168,28 @@ impl<C: Change> Client<C> {
             }
             Err(Failed::NoMemory) => Err(EditError::NoMemory),
         }
+    }
+
+    /// Sets one cursor more, at this position of the client's document and with this side, 1 or -1. `Range` comes exactly
+    /// where the position passes the document's size. Then, and for want of memory, the client is as it was.
+    ///
+    /// The document must be smaller than 2^32 tokens, as each good one is.
+    pub fn set_cursor(&mut self, pos: u64, side: i8) -> Result<(), CursorError>
+        requires side { IsSide side }
+        requires small { C.means.size self.old.doc < 2 ^ 32 }
+        ensures set { OnOk result (self.new ≡ cursor_set self.old pos side) }
+        ensures within { OnOk result (pos ≤ C.means.size self.old.doc) }
+        ensures refused { IfErr result (IsCursorRefusal (C.means.size self.old.doc) pos) }
+        ensures err { OnErr result (self.new ≡ self.old) }
+        // To what log the client stood, it stands.
+        ensures kin { (rules : C.Rules) (first : C.Doc) (log : List (Named C)) → Kin C.means rules first log self.old
+            → Kin C.means rules first log self.new }
+    {
+        if pos > C::size(&self.doc) as u64 {
+            return Err(CursorError::Range);
+        }
+        self.cursors.push((pos, side))?;
+        Ok(())
     }
 
     /// Composes a message of this kind, and tells its number, from 1. For want of memory the client is as it was.
@@ -203,10 +250,12 @@ impl<C: Change> Client<C> {
     }
 
     /// Takes the answer of this number, which was kept. `Refused` comes exactly for `WrongVersion` and `StepRefused`,
-    /// `Stale` exactly where an `Accepted` or `Entries` holds nothing past the version, `Confirmed` exactly where it holds
-    /// own steps alone past the version, and `Unbuilt` exactly where it holds steps of others there and pending steps
-    /// remain after the own ones. Else it is `Rebased`. Only `Confirmed` and `Rebased` change the client, and want of
-    /// memory does not.
+    /// `Stale` exactly where an `Accepted` or `Entries` holds nothing past the version, and `Confirmed` exactly where what it
+    /// holds past the version is own steps alone. Else it is `Rebased`: the leading own steps are confirmed, others' steps
+    /// are applied to the base, and each later pending step is carried over the maps back of those before it, others' maps
+    /// and the maps of those kept so far. It is kept where something of it is left that applies; else its serial is among
+    /// `dropped` from now on. Each cursor goes through that whole mapping by its side. Only `Confirmed` and `Rebased` change
+    /// the client, and want of memory does not.
     ///
     /// Under the rules that are lent the client must stand to a log. Each call keeps this.
     pub fn take(&mut self, alloc: Global, rules: &C::Rules, i: u64) -> Result<Taken, AllocError>
@@ -217,13 +266,16 @@ impl<C: Change> Client<C> {
         // To what log the client stood, it stands.
         ensures kin { (first : C.Doc) (log : List (Named C)) → Kin C.means rules.now first log self.old
             → Kin C.means rules.now first log self.new }
+        // A cursor with side 1 that stood before a token stands before it, where that is still there.
+        ensures tokens { OnOk result ((first : C.Doc) (log : List (Named C)) → Kin C.means rules.now first log self.old
+            → KeepsTokens C.means log self.old self.new (C.means.size self.old.base)) }
     {
         let plan = self.plan(alloc, rules, i)?;
         Ok(self.carry_out(plan))
     }
 
     /// What taking the answer of this number is to do.
-    fn plan(&self, alloc: Global, rules: &C::Rules, i: u64) -> Result<Plan<C::Doc>, AllocError>
+    fn plan(&self, alloc: Global, rules: &C::Rules, i: u64) -> Result<Plan<C>, AllocError>
         requires kept { (0 < i) × (i ≤ length self.now.answers) }
         requires stands { Stands C.means rules.now self.now }
         ensures plan { IfOk result (λ p. carried_out self.now p ≡ taken_at C.means rules.now self.now i) }
@@ -239,7 +291,7 @@ impl<C: Change> Client<C> {
         alloc: Global,
         rules: &C::Rules,
         answer: &Answer<C>,
-    ) -> Result<Plan<C::Doc>, AllocError>
+    ) -> Result<Plan<C>, AllocError>
         requires { Meets C.means rules.now self.now answer.now }
         ensures plan { IfOk result (λ p. carried_out self.now p ≡ taken C.means rules.now self.now answer.now) }
         ensures may { IfOk result (MayCarryOut self.now) }
@@ -264,7 +316,7 @@ impl<C: Change> Client<C> {
         rules: &C::Rules,
         from: u64,
         count: u64,
-    ) -> Result<Plan<C::Doc>, AllocError>
+    ) -> Result<Plan<C>, AllocError>
         requires { Meets C.means rules.now self.now (Accepted from count) }
         ensures plan { IfOk result (λ p. carried_out self.now p ≡ taken C.means rules.now self.now (Accepted from count)) }
         ensures may { IfOk result (MayCarryOut self.now) }
@@ -282,7 +334,7 @@ impl<C: Change> Client<C> {
         rules: &C::Rules,
         since: u64,
         entries: &[Named<C>],
-    ) -> Result<Plan<C::Doc>, AllocError>
+    ) -> Result<Plan<C>, AllocError>
         requires { Meets C.means rules.now self.now (Entries since entries.now) }
         ensures plan { IfOk result (λ p. carried_out self.now p ≡ taken C.means rules.now self.now (Entries since entries.now)) }
         ensures may { IfOk result (MayCarryOut self.now) }
@@ -300,7 +352,7 @@ impl<C: Change> Client<C> {
         alloc: Global,
         rules: &C::Rules,
         rest: &[Named<C>],
-    ) -> Result<Plan<C::Doc>, AllocError>
+    ) -> Result<Plan<C>, AllocError>
         requires { Fits C.means rules.now self.now rest.now }
         ensures plan { IfOk result (λ p. carried_out self.now p ≡ rest_taken C.means rules.now self.now rest.now (own_run self.now.name rest.now)) }
         ensures may { IfOk result (MayCarryOut self.now) }
@@ -309,15 +361,16 @@ impl<C: Change> Client<C> {
         if own == rest.len() {
             return self.plan_confirm(alloc, rules, own);
         }
-        if own < self.pending.len() {
-            return Ok(Plan::TellUnbuilt);
-        }
         let base = advance(alloc, rules, &self.base, rest)?;
-        Ok(Plan::Update {
+        let later = &self.pending.as_slice()[own..];
+        let rebasing = rebase_over(alloc, rules, &base, &rest[own..], later)?;
+        Ok(Plan::Rebase {
             own: own as u64,
             foreign: (rest.len() - own) as u64,
-            doc: C::copy_doc(alloc, &base)?,
             base,
+            dropped: merge(alloc, self.dropped.as_slice(), rebasing.dropped.as_slice())?,
+            cursors: move_all(alloc, self.cursors.as_slice(), &rebasing.maps)?,
+            rebasing,
         })
     }
 
@@ -327,7 +380,7 @@ impl<C: Change> Client<C> {
         alloc: Global,
         rules: &C::Rules,
         own: usize,
-    ) -> Result<Plan<C::Doc>, AllocError>
+    ) -> Result<Plan<C>, AllocError>
         requires { MayConfirm C.means rules.now self.now own }
         ensures plan { IfOk result (λ p. carried_out self.now p ≡ confirmed_first C.means rules.now self.now own) }
         ensures may { IfOk result (MayCarryOut self.now) }
@@ -340,34 +393,43 @@ impl<C: Change> Client<C> {
     }
 
     /// Carries a plan out, and tells what it did. It takes no memory.
-    fn carry_out(&mut self, plan: Plan<C::Doc>) -> Taken
+    fn carry_out(&mut self, plan: Plan<C>) -> Taken
         requires { MayCarryOut self.old plan }
         ensures { (result, self.new) ≡ carried_out self.old plan }
     {
         match plan {
             Plan::PassOver => Taken::Stale,
             Plan::TellRefused => Taken::Refused,
-            Plan::TellUnbuilt => Taken::Unbuilt,
             Plan::Confirm { own, base } => {
                 self.version += own;
                 self.base = base;
                 self.pending.drop_front(own as usize);
                 Taken::Confirmed { own }
             }
-            Plan::Update {
+            Plan::Rebase {
                 own,
                 foreign,
                 base,
-                doc,
+                rebasing,
+                dropped,
+                cursors,
             } => {
+                let Rebasing {
+                    doc,
+                    maps: _,
+                    kept,
+                    dropped: lost,
+                } = rebasing;
                 self.version += own + foreign;
                 self.base = base;
                 self.doc = doc;
-                self.pending.clear();
+                self.pending = kept;
+                self.dropped = dropped;
+                self.cursors = cursors;
                 Taken::Rebased {
                     own,
                     foreign,
-                    dropped: 0,
+                    dropped: lost.len() as u64,
                 }
             }
         }

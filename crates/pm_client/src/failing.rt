@@ -1,6 +1,7 @@
-//! Why steps were not made.
+//! Why steps were not made, or a cursor not set.
 ghost use Rattle.std.specs.Prelude.{◌≡◌};
 ghost use Rattle.pm_client.specs.declared.failing.EditError.TheVariants.{NoMemory};
+ghost use Rattle.pm_client.specs.declared.failing.CursorError.TheVariants.{NoMemory as NoCursorMemory};
 
 use std::alloc::{AllocError, AllocFailed};
 use thiserror::Error;
@@ -29,5 +30,32 @@ impl<R, T: Drop> From<AllocFailed<T>> for EditError<R> {
 
     fn from(_error: AllocFailed<T>) -> EditError<R> {
         EditError::NoMemory
+    }
+}
+
+/// Why a cursor was not set.
+#[derive(Clone, Copy, Debug, PartialEq, Eq, Error)]
+pub enum CursorError {
+    /// The position is past the document's end.
+    #[error("the position is past the end")]
+    Range,
+    /// Memory ran out.
+    #[error("out of memory")]
+    NoMemory,
+}
+
+impl From<AllocError> for CursorError {
+    ghost from_gives = { λ _ e. e ≡ NoCursorMemory };
+
+    fn from(_error: AllocError) -> CursorError {
+        CursorError::NoMemory
+    }
+}
+
+impl<T: Drop> From<AllocFailed<T>> for CursorError {
+    ghost from_gives = { λ _ e. e ≡ NoCursorMemory };
+
+    fn from(_error: AllocFailed<T>) -> CursorError {
+        CursorError::NoMemory
     }
 }

@@ -2,13 +2,16 @@
 #![tactic(auto)]
 
 pub mod client;
+pub mod cursors;
 pub mod failing;
 pub mod naming;
 pub mod plan;
+pub mod rebasing;
+pub mod serials;
 pub mod taken;
 #[cfg(test)]
 mod tests;
 
 pub use client::Client;
-pub use failing::EditError;
+pub use failing::{CursorError, EditError};
 pub use taken::{Kind, Taken};

@@ -1,24 +1,28 @@
 //! What taking an answer is to do.
+use crate::rebasing::Rebasing;
+use pm_change::Change;
+use pm_list::Listed;
 
-/// What taking an answer is to do, with the documents that it needs, so that doing it takes no memory.
+/// What taking an answer is to do, with all that it needs, so that doing it takes no memory.
 #[derive(Drop)]
-pub enum Plan<D> {
+pub enum Plan<C: Change> {
     /// Pass the answer over: it holds nothing past the version.
     PassOver,
     /// Tell that the answer refuses a submission.
     TellRefused,
-    /// Tell that the pending steps would have to be carried over steps of others.
-    TellUnbuilt,
     /// Confirm the first `own` pending steps, after which the base is this one.
     Confirm {
         own: u64,
-        base: D,
+        base: C::Doc,
     },
-    /// With nothing else pending, go on by `own` own steps and `foreign` ones of others to this document.
-    Update {
+    /// Go on by `own` own steps and `foreign` ones of others to this base. The later pending steps were carried over
+    /// others', and these are the serials dropped and the cursors after that.
+    Rebase {
         own: u64,
         foreign: u64,
-        base: D,
-        doc: D,
+        base: C::Doc,
+        rebasing: Rebasing<C>,
+        dropped: Listed<u64>,
+        cursors: Listed<(u64, i8)>,
     },
 }

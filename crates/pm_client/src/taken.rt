@@ -16,7 +16,8 @@ pub enum Taken {
     Confirmed {
         own: u64,
     },
-    /// `own` pending steps are in the log, `foreign` steps of others after them, and `dropped` pending steps were lost.
+    /// The first `own` pending steps are in the log, and `foreign` steps of others after them. The other pending steps were
+    /// carried over these, and `dropped` of them were lost.
     Rebased {
         own: u64,
         foreign: u64,
@@ -26,6 +27,4 @@ pub enum Taken {
     Stale,
     /// The answer refuses a submission.
     Refused,
-    /// Steps of others are in the log, and steps are pending that are not. The client is as it was.
-    Unbuilt,
 }

@@ -1,5 +1,6 @@
 //! A `Vec` that contracts see as the list of its items.
-ghost use Rattle.std.specs.Prelude.{◌≡◌, ◌≤◌, ◌↔◌, [], ◌∷◌, ◌++◌, length, drop, IsTrue, OnOk, OnErr};
+ghost use Rattle.std.specs.Prelude.{◌≡◌, ◌≤◌, ◌-◌, ◌↔◌, [], ◌∷◌, ◌++◌, length, take, drop, IsTrue, OnOk, OnErr};
+ghost use Rattle.pm_list.specs.Ends.{OnLast};
 
 use std::alloc::{AllocError, Global};
 use std::marker::Model;
@@ -89,6 +90,38 @@ impl<T> Listed<T> {
         let Listed { items: mut more } = other;
         self.items.append(&mut more)?;
         Ok(())
+    }
+
+    /// Puts the items of `other` in place of the last `count`, in their order. For want of memory the list stays as it was,
+    /// and the items of `other` are let go.
+    pub fn replace_last(&mut self, count: usize, other: Listed<T>) -> Result<(), AllocError>
+    where
+        T: Drop,
+        requires { count ≤ length self.old }
+        ensures ok { OnOk result (self.new ≡ take (length self.old - count) self.old ++ other) }
+        ensures err { OnErr result (self.new ≡ self.old) }
+    {
+        let Listed { items: mut more } = other;
+        let kept = self.items.len() - count;
+        self.items.reserve(more.len())?;
+        self.items.truncate(kept);
+        self.items.append(&mut more)
+    }
+
+    /// Takes the last item out; None where there is none. It takes no memory.
+    pub fn pop(&mut self) -> Option<T>
+        ensures { OnLast self.old result self.new }
+    {
+        self.items.pop()
+    }
+
+    /// Lets all items but the first `count` go.
+    pub fn truncate(&mut self, count: usize)
+    where
+        T: Drop,
+        ensures { self.new ≡ take count self.old }
+    {
+        self.items.truncate(count);
     }
 
     /// Lets the first `count` items go. The rest keep their order.

@@ -16,6 +16,11 @@ fn grows_and_shrinks(rt: HostRuntime) -> Result<(), AllocError> {
     assert!(rt; list.as_slice() == [2, 3, 4].as_slice());
     let mut other = Listed::from_vec(list.into_vec());
     assert!(rt; !other.is_empty());
+    assert!(rt; other.pop() == Some(4));
+    other.replace_last(1, Listed::from_vec(vec![in alloc; 5, 6]?))?;
+    assert!(rt; other.as_slice() == [2, 5, 6].as_slice());
+    other.truncate(1);
+    assert!(rt; other.as_slice() == [2].as_slice());
     other.clear();
     assert!(rt; other.is_empty());
     Ok(())

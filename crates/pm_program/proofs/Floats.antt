@@ -2,7 +2,7 @@
 use Rattle.std.proofs.Common.{◌≡◌, ℕ, List, [], ◌∷◌, refl, false}
 use Rattle.serde_json.specs.Data.{array}
 use Rattle.serde_json.specs.Written.{has_float, items_have_float}
-use Rattle.pm_program.specs.declared.flat.Replace.{Replace}
+use Rattle.pm_flat.specs.declared.flat.Replace.{Replace}
 use Rattle.pm_program.specs.Forms.{doc_data, step_data}
 use Rattle.pm_program.specs.Report.{number_items}
 

@@ -1,4 +1,3 @@
-pub mod LetterLists
 pub mod Counts
 pub mod Split
 pub mod Floats
@@ -8,3 +7,4 @@ pub mod TooLong
 pub mod Names
 pub mod Tallies
 pub mod OpLists
+pub mod Sides

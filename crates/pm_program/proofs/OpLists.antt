@@ -5,7 +5,7 @@ use Rattle.std.proofs.lemmas.List.{append-nil}
 use Rattle.pm_list.specs.Readings.{◌>>=◌, or_fault, with_front, with_front-more}
 use Rattle.pm_session.specs.declared.line.Line.{Line}
 use Rattle.pm_session.specs.Suits.{Suits, AllSuit}
-use Rattle.pm_program.specs.declared.flat.Replace.{Replace}
+use Rattle.pm_flat.specs.declared.flat.Replace.{Replace}
 use Rattle.pm_program.specs.Reading.{op_line, ops_of, letters_of}
 
 -- a line more that suits what came before it

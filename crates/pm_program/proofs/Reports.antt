@@ -5,18 +5,19 @@ use Rattle.std.specs.declared.alloc.AllocError.{AllocError}
 use Rattle.std.specs.declared.alloc.Global.{Global}
 use Rattle.pm_session.specs.declared.outcome.Outcome.{Outcome}
 use Rattle.pm_session.specs.Events.{State}
-use Rattle.pm_session.specs.Sessions.{opened, settled}
+use Rattle.pm_session.specs.Sessions.{opened, session, settled}
 use Rattle.pm_session.specs.Sounds.{Sound}
 use Rattle.pm_session.specs.Suits.{AllSuit}
 use Rattle.pm_session.specs.Openings.{opened-suits}
 use Rattle.pm_session.proofs.Opening.{opened-sound}
 use Rattle.pm_session.proofs.Playing.{session-sound, suit-front}
 use Rattle.pm_session.proofs.Turns.{settled-sound}
+use Rattle.pm_session.proofs.Settling.{settled-caught}
 use Rattle.pm_session.proofs.LogNames.{sound-names}
-use Rattle.pm_program.specs.declared.flat.Replace.{Replace}
-use Rattle.pm_program.specs.declared.flat.Reason.{Reason}
-use Rattle.pm_program.specs.Flat.{meaning}
-use Rattle.pm_program.specs.FlatLaws.{laws}
+use Rattle.pm_flat.specs.declared.flat.Replace.{Replace}
+use Rattle.pm_flat.specs.declared.flat.Reason.{Reason}
+use Rattle.pm_flat.specs.Flat.{meaning}
+use Rattle.pm_flat.specs.FlatLaws.{laws}
 use Rattle.pm_program.specs.Making.{makes}
 use Rattle.pm_program.specs.Sounds.{RoomsSound}
 use Rattle.pm_program.specs.Reading.{SessionOf}
@@ -46,9 +47,13 @@ rooms-sound s few suit =
     let sound : Sound meaning tt room = opened-sound s.text meaning tt (length s.clients) (omega (arith, few)) in
     let suits = λ (k : ℕ). opened-suits (Unit {0}) (List ℕ) Reason Replace s.text (length s.clients) (take k s.lines) (suit-front (length s.clients) [] s.lines k suit) in
     let all = opened-suits (Unit {0}) (List ℕ) Reason Replace s.text (length s.clients) s.lines suit in
-    let end = settled-sound meaning tt laws (playing s).1 (session-sound meaning tt laws (makes tt) room s.lines sound all) in
+    let last = session-sound meaning tt laws (makes tt) room s.lines sound all in
+    let end = settled-sound meaning tt laws (playing s).1 last in
+    let played = λ (k : ℕ). session-sound meaning tt laws (makes tt) room (take k s.lines) sound (suits k) in
     record {
-      when_played = λ k. session-sound meaning tt laws (makes tt) room (take k s.lines) sound (suits k);
+      when_played = played;
       when_settled = end;
+      names_played = λ k. sound-names meaning tt (session meaning tt (makes tt) room (take k s.lines)).1 (played k);
+      caught_up = settled-caught meaning tt laws (playing s).1 last;
       names = sound-names meaning tt (settled meaning tt (playing s).1) end;
     }

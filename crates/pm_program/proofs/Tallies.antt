@@ -6,7 +6,7 @@ use Rattle.std.specs.Prelude.{◌==◌, ◌&&◌, slice_index, slice_set, if◌t
 use Rattle.pm_session.specs.declared.line.Act.{Act}
 use Rattle.pm_session.specs.declared.line.Line.{Line}
 use Rattle.pm_session.specs.Suits.{done_by}
-use Rattle.pm_program.specs.declared.flat.Replace.{Replace}
+use Rattle.pm_flat.specs.declared.flat.Replace.{Replace}
 
 done_by-more : (does : Act Replace → Bool) (k : ℕ) (lines : List (Line Replace)) (line : Line Replace)
     → done_by does k (lines ++ line ∷ []) ≡ done_by does k lines + cond ((line.client == k) && does line.act) 1 0

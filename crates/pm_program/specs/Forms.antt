@@ -1,11 +1,11 @@
 -- The JSON values of a session's lines, and what each holds.
-use Rattle.std.specs.Prelude.{ℕ, suc, ◌^◌, ◌==◌, ◌&&◌, ◌||◌, Bool, true, false, not, is_some, nat_lt, nat_le, nat_eq, if◌then◌else◌, List, [], ◌∷◌, length, codes, Option, Some, None, option_and_then, option_map, unwrap_or}
+use Rattle.std.specs.Prelude.{ℕ, ℤ, pos, negsuc, suc, ◌^◌, ◌==◌, ◌&&◌, ◌||◌, Bool, true, false, not, is_some, nat_lt, nat_le, nat_eq, if◌then◌else◌, List, [], ◌∷◌, length, codes, Option, Some, None, option_and_then, option_map, unwrap_or}
 use Rattle.std.specs.Cmp.Lexicographic.{pointwise}
 use Rattle.std.specs.List.{list_all, list_any}
 use Rattle.serde_json.specs.Data.{Data, number, unsigned, string, array, object, Items, no_items, item, Members, no_members, member}
-use Rattle.serde_json.specs.Find.{get, as_null, as_bool, as_str, as_array, as_object, as_number, as_u64}
-use Rattle.pm_program.specs.Letters.{all_printable}
-use Rattle.pm_program.specs.declared.flat.Replace.{Replace}
+use Rattle.serde_json.specs.Find.{get, as_null, as_bool, as_str, as_array, as_object, as_number, as_u64, as_i64}
+use Rattle.pm_flat.specs.Letters.{all_printable}
+use Rattle.pm_flat.specs.declared.flat.Replace.{Replace}
 
 -- ---- the values of the forms
 
@@ -126,3 +126,19 @@ lost_of (Some d) = if is_some (as_null d) then Some false else as_bool d
 
 abbrev pub lost_at : Data → Option Bool
 lost_at d = lost_of (get (codes "lost") d)
+
+-- 1 or -1
+abbrev pub is_side : ℤ → Bool
+is_side (pos n) = n == 1
+is_side (negsuc n) = n == 0
+
+abbrev pub as_side : ℤ → Option ℤ
+as_side z = if is_side z then Some z else None
+
+-- a cursor's side: 1 or -1, and 1 where it is absent or null
+abbrev pub side_of : Option Data → Option ℤ
+side_of None = Some (pos 1)
+side_of (Some d) = if is_some (as_null d) then Some (pos 1) else option_and_then as_side (option_and_then as_i64 (as_number d))
+
+abbrev pub side_at : Data → Option ℤ
+side_at d = side_of (get (codes "side") d)

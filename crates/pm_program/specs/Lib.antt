@@ -1,6 +1,3 @@
-pub mod Letters
-pub mod Flat
-pub mod FlatLaws
 pub mod Forms
 pub mod StepForms
 pub mod Lines

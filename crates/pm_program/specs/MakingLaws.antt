@@ -1,7 +1,7 @@
 -- An op makes its one step.
 use Rattle.std.proofs.Common.{◌≡◌, [], Ok, Err}
 use Rattle.pm_session.specs.declared.maker.NoSteps.TheVariants.{NoMemory}
-use Rattle.pm_program.specs.declared.flat.Replace.{Replace}
+use Rattle.pm_flat.specs.declared.flat.Replace.{Replace}
 use Rattle.pm_program.specs.Making.{makes}
 
 pub some_step : (op : Replace) → makes tt [] op ≡ Ok [] → ⊥

@@ -1,16 +1,16 @@
 -- The session that an input is, or its least line that isn't of its form.
-use Rattle.std.specs.Prelude.{ℕ, ◌+◌, Bool, true, List, [], ◌∷◌, ◌++◌, length, position, Option, Some, None, Result, Ok, Err, nat_lt, nat_le, nat_eq, ◌&&◌, if◌then◌else◌, option_and_then, option_map, codes}
+use Rattle.std.specs.Prelude.{ℕ, ◌+◌, Bool, true, false, List, [], ◌∷◌, ◌++◌, length, position, Option, Some, None, Result, Ok, Err, nat_lt, nat_le, nat_eq, not, ◌&&◌, ◌||◌, if◌then◌else◌, option_and_then, option_map, codes}
 use Rattle.std.specs.Cmp.Lexicographic.{pointwise}
 use Rattle.serde_json.specs.Data.{Data}
 use Rattle.serde_json.specs.Find.{get}
 use Rattle.pm_list.specs.Readings.{◌>>=◌, or_fault}
 use Rattle.pm_session.specs.declared.line.Act.{Act}
-use Rattle.pm_session.specs.declared.line.Act.TheVariants.{Edit, Submit, Ask, Present, Take, Push, Pull}
+use Rattle.pm_session.specs.declared.line.Act.TheVariants.{Edit, Cursor, Submit, Ask, Present, Take, Push, Pull}
 use Rattle.pm_session.specs.declared.line.Line.{Line}
-use Rattle.pm_session.specs.Suits.{composed_by, answered_by}
-use Rattle.pm_program.specs.declared.flat.Replace.{Replace}
+use Rattle.pm_session.specs.Suits.{done_by, composed_by, answered_by}
+use Rattle.pm_flat.specs.declared.flat.Replace.{Replace}
 use Rattle.pm_program.specs.declared.schema_line.TheConstants.{SCHEMA_LINE}
-use Rattle.pm_program.specs.Forms.{has_members, has_text, text_at, position_at, doc_in, clients_in, step_in, lost_at}
+use Rattle.pm_program.specs.Forms.{has_members, has_text, text_at, position_at, doc_in, clients_in, step_in, lost_at, is_side, side_at}
 use Rattle.pm_program.specs.Lines.{lines_of, value_of}
 
 -- what a session holds: the text of its first document, its clients' names, and its op lines
@@ -33,6 +33,10 @@ last_line = 100003
 abbrev pub max_letters : ℕ
 max_letters = 400000
 
+-- cursor lines of one client
+abbrev pub max_cursors : ℕ
+max_cursors = 64
+
 -- ---- one line
 
 -- line 1 is the schema line, byte for byte
@@ -54,6 +58,7 @@ clients_line line = option_and_then clients_in (value_of line)
 -- the text that an act puts in
 abbrev pub letters_of : Act Replace → List ℕ
 letters_of (Edit step) = step.text
+letters_of (Cursor p side) = []
 letters_of Submit = []
 letters_of Ask = []
 letters_of (Present j) = []
@@ -72,31 +77,60 @@ exchange_in d =
     else (if has_text (codes "op") (codes "pull") d then option_map Pull (lost_at d)
     else None)))))
 
+-- an op line that sets a cursor; further members are ignored
+abbrev pub cursor_in : Data → Option (Act Replace)
+cursor_in d = option_and_then (λ p. option_map (Cursor p) (side_at d)) (position_at (codes "pos") d)
+
 -- an op line that makes a step; it has no members beside `c`, `op` and `step`
 abbrev pub edit_in : Data → Option (Act Replace)
 edit_in d = if has_members 3 d then option_map Edit (option_and_then step_in (get (codes "step") d)) else None
 
 -- what an op line does, by its `op`
 abbrev pub act_in : Data → Option (Act Replace)
-act_in d = if has_text (codes "op") (codes "step") d then edit_in d else exchange_in d
+act_in d =
+    if has_text (codes "op") (codes "step") d then edit_in d
+    else (if has_text (codes "op") (codes "cursor") d then cursor_in d else exchange_in d)
 
 -- the place of the client's name
 abbrev pub client_at : List (List ℕ) → Data → Option ℕ
 client_at names d = option_and_then (λ name. position (pointwise nat_eq name) names) (text_at (codes "c") d)
 
--- an act that names a message or an answer names one that was composed or got on an earlier line
+-- an act that names a message or an answer names one that was composed or got on an earlier line, and a cursor's side is
+-- one of the two
 abbrev pub names_one_of : ℕ → ℕ → Act Replace → Bool
 names_one_of messages answers (Present j) = nat_lt 0 j && nat_le j messages
 names_one_of messages answers (Take n) = nat_lt 0 n && nat_le n answers
 names_one_of messages answers (Edit step) = true
+names_one_of messages answers (Cursor p side) = is_side side
 names_one_of messages answers Submit = true
 names_one_of messages answers Ask = true
 names_one_of messages answers (Push lost) = true
 names_one_of messages answers (Pull lost) = true
 
+-- a line that sets a cursor
+abbrev pub sets_one : Act Replace → Bool
+sets_one (Cursor p side) = true
+sets_one (Edit step) = false
+sets_one Submit = false
+sets_one Ask = false
+sets_one (Present j) = false
+sets_one (Take n) = false
+sets_one (Push lost) = false
+sets_one (Pull lost) = false
+
+-- how many cursors the client set on these lines
+abbrev pub cursors_by : ℕ → List (Line Replace) → ℕ
+cursors_by i lines = done_by sets_one i lines
+
+-- after so many cursors of the client there may be another line of this kind
+abbrev pub has_cursor : ℕ → Act Replace → Bool
+has_cursor cursors act = not (sets_one act) || nat_lt cursors max_cursors
+
 abbrev pub suited : List (Line Replace) → ℕ → ℕ → Act Replace → Option (Line Replace)
 suited earlier n client act =
-    if names_one_of (composed_by client earlier) (answered_by client earlier) act then Some (record { number = n; client = client; act = act }) else None
+    if names_one_of (composed_by client earlier) (answered_by client earlier) act && has_cursor (cursors_by client earlier) act
+    then Some (record { number = n; client = client; act = act })
+    else None
 
 -- an op line of one of the clients, after these earlier ones
 unfoldable pub op_in : List (List ℕ) → List (Line Replace) → ℕ → Data → Option (Line Replace)

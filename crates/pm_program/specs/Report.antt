@@ -1,5 +1,5 @@
 -- The report of a session: what became of each line, how the editor stood, the log, and how all stands in the end.
-use Rattle.std.specs.Prelude.{ℕ, ◌+◌, List, [], ◌∷◌, ◌++◌, length, map, codes, decimal, Option, Some, None, slice_get, unwrap_or}
+use Rattle.std.specs.Prelude.{ℕ, ℤ, ◌+◌, List, [], ◌∷◌, ◌++◌, length, map, codes, decimal, Option, Some, None, slice_get, unwrap_or}
 use Rattle.serde_json.specs.Data.{number, unsigned, array, Items, no_items, item}
 use Rattle.serde_json.specs.Written.{compact_text}
 use Rattle.pm_authority.specs.declared.named.Named.{Named}
@@ -8,15 +8,15 @@ use Rattle.pm_session.specs.declared.line.Line.{Line}
 use Rattle.pm_session.specs.declared.outcome.Told.{Told}
 use Rattle.pm_session.specs.declared.outcome.Told.TheVariants.{Accepted, Version, Refused as ToldRefused, Entries}
 use Rattle.pm_client.specs.declared.taken.Taken.{Taken}
-use Rattle.pm_client.specs.declared.taken.Taken.TheVariants.{Confirmed, Rebased, Stale, Refused as TakenRefused, Unbuilt}
+use Rattle.pm_client.specs.declared.taken.Taken.TheVariants.{Confirmed, Rebased, Stale, Refused as TakenRefused}
 use Rattle.pm_session.specs.declared.outcome.Outcome.{Outcome}
-use Rattle.pm_session.specs.declared.outcome.Outcome.TheVariants.{Made, NoRange, NoPlace, NoFit, Refused, Composed, Answered, Took, Exchanged}
+use Rattle.pm_session.specs.declared.outcome.Outcome.TheVariants.{Made, NoRange, NoPlace, NoFit, Refused, CursorAt, Composed, Answered, Took, Exchanged}
 use Rattle.pm_session.specs.Events.{State}
 use Rattle.pm_session.specs.Sessions.{opened, session, settled}
-use Rattle.pm_program.specs.declared.flat.Replace.{Replace}
-use Rattle.pm_program.specs.declared.flat.Reason.{Reason}
-use Rattle.pm_program.specs.declared.flat.Reason.TheVariants.{Range, Depth, Large, Content}
-use Rattle.pm_program.specs.Flat.{meaning}
+use Rattle.pm_flat.specs.declared.flat.Replace.{Replace}
+use Rattle.pm_flat.specs.declared.flat.Reason.{Reason}
+use Rattle.pm_flat.specs.declared.flat.Reason.TheVariants.{Range, Depth, Large, Content}
+use Rattle.pm_flat.specs.Flat.{meaning}
 use Rattle.pm_program.specs.Making.{makes}
 use Rattle.pm_program.specs.Forms.{doc_data, step_data}
 use Rattle.pm_program.specs.Reading.{SessionOf}
@@ -65,7 +65,6 @@ taken_text (Confirmed own) = codes "confirmed" & decimal own
 taken_text (Rebased own foreign dropped) = codes "rebased" & decimal own & decimal foreign & decimal dropped
 taken_text Stale = codes "stale"
 taken_text TakenRefused = codes "kept"
-taken_text Unbuilt = codes "unbuilt"
 
 -- what became of an exchange's answer, where it was not lost
 abbrev pub end_text : Option Taken → List ℕ
@@ -78,6 +77,7 @@ outcome_text NoRange = codes "no range"
 outcome_text NoPlace = codes "no place"
 outcome_text NoFit = codes "no fit"
 outcome_text (Refused index reason) = codes "refused" & decimal index & reason_text reason
+outcome_text (CursorAt p) = codes "cursor" & decimal p
 outcome_text (Composed n) = codes "composed" & decimal n
 outcome_text (Answered told) = told_text told
 outcome_text (Took taken) = taken_text taken
@@ -98,9 +98,13 @@ serial_of step = step.name.serial
 abbrev pub name_at : List (List ℕ) → ℕ → List ℕ
 name_at names i = unwrap_or (slice_get names i) []
 
--- name, version, pending serials, dropped serials, cursors and document; there is no cursor
+-- a cursor's position
+abbrev pub place_of : ℕ × ℤ → ℕ
+place_of cursor = cursor.0
+
+-- name, version, pending serials, dropped serials, cursors' positions and document
 abbrev pub client_line : List ℕ → Client Replace (Unit {0}) (List ℕ) Reason → List ℕ
-client_line name c = line (codes "client" & name & decimal c.version & list_text (map serial_of c.pending) & list_text c.dropped & codes "[]" & doc_text c.doc)
+client_line name c = line (codes "client" & name & decimal c.version & list_text (map serial_of c.pending) & list_text c.dropped & list_text (map place_of c.cursors) & doc_text c.doc)
 
 -- a line for each client, in order from client i on
 abbrev pub client_lines : List (List ℕ) → ℕ → List (Client Replace (Unit {0}) (List ℕ) Reason) → List ℕ
@@ -112,9 +116,9 @@ abbrev pub entry_lines : List (List ℕ) → ℕ → List (Named Replace) → Li
 entry_lines names i [] = []
 entry_lines names i (n ∷ log) = line (decimal i & name_at names n.name.client & decimal n.name.serial & step_text n.change) ++ entry_lines names (i + 1) log
 
--- name, version, dropped serials and cursors
+-- name, version, dropped serials and cursors' positions
 abbrev pub settled_line : List ℕ → Client Replace (Unit {0}) (List ℕ) Reason → List ℕ
-settled_line name c = line (codes "settled" & name & decimal c.version & list_text c.dropped & codes "[]")
+settled_line name c = line (codes "settled" & name & decimal c.version & list_text c.dropped & list_text (map place_of c.cursors))
 
 abbrev pub settled_lines : List (List ℕ) → ℕ → List (Client Replace (Unit {0}) (List ℕ) Reason) → List ℕ
 settled_lines names i [] = []

@@ -1,20 +1,23 @@
 //! The op lines read so far.
 ghost use Rattle.std.specs.Prelude.{◌≡◌, ◌<◌, ◌+◌, ◌^◌, ◌++◌, ◌∷◌, [], ℕ, length, vec_len, slice_index, slice_set, if◌then◌else◌, IfOk, OnOk};
 ghost use Rattle.pm_session.specs.Suits.{composes_one, gets_one, composed_by, answered_by};
+ghost use Rattle.pm_program.specs.Reading.{sets_one, cursors_by};
 
-use crate::flat::Replace;
+use pm_flat::Replace;
 use pm_session::{Act, Line};
 use std::alloc::{AllocError, Global};
 
-/// The op lines read so far, with how many messages each client composed on them and how many
-/// answers it got.
+/// The op lines read so far, with how many messages each client composed on them, how many answers it
+/// got and how many cursors it set.
 #[derive(Drop)]
 pub struct Earlier {
     pub lines: Vec<Line<Replace>>,
     pub composed: Vec<u64>,
     pub answered: Vec<u64>,
+    pub cursors: Vec<u64>,
     ghost composed_is: { (k : ℕ) → k < vec_len composed → slice_index composed.items k ≡ composed_by k lines.items },
     ghost answered_is: { (k : ℕ) → k < vec_len answered → slice_index answered.items k ≡ answered_by k lines.items },
+    ghost cursors_are: { (k : ℕ) → k < vec_len cursors → slice_index cursors.items k ≡ cursors_by k lines.items },
 }
 
 impl Earlier {
@@ -23,11 +26,13 @@ impl Earlier {
         ensures none { IfOk result (λ e. e.lines.items ≡ []) }
         ensures composed { IfOk result (λ e. vec_len e.composed ≡ clients) }
         ensures answered { IfOk result (λ e. vec_len e.answered ≡ clients) }
+        ensures cursors { IfOk result (λ e. vec_len e.cursors ≡ clients) }
     {
         Ok(Earlier {
             lines: Vec::new(alloc),
             composed: vec![in alloc; 0u64; clients]?,
             answered: vec![in alloc; 0u64; clients]?,
+            cursors: vec![in alloc; 0u64; clients]?,
         })
     }
 
@@ -47,22 +52,34 @@ impl Earlier {
         self.answered[client]
     }
 
+    /// How many cursors a client set.
+    pub fn cursors(&self, client: usize) -> u64
+        requires { client < vec_len self.now.cursors }
+        ensures { result ≡ cursors_by client self.now.lines.items }
+    {
+        self.cursors[client]
+    }
+
     /// Adds the next line.
     pub fn add(&mut self, line: Line<Replace>) -> Result<(), AllocError>
         requires composed { line.client < vec_len self.old.composed }
         requires answered { line.client < vec_len self.old.answered }
+        requires cursors { line.client < vec_len self.old.cursors }
         requires few { vec_len self.old.lines < 2 ^ 32 }
         ensures ok { OnOk result (self.new.lines.items ≡ self.old.lines.items ++ line ∷ []) }
         ensures len { OnOk result (vec_len self.new.lines ≡ vec_len self.old.lines + 1) }
         ensures composed { vec_len self.new.composed ≡ vec_len self.old.composed }
         ensures answered { vec_len self.new.answered ≡ vec_len self.old.answered }
+        ensures cursors { vec_len self.new.cursors ≡ vec_len self.old.cursors }
     {
         let client = line.client as usize;
         let composes = composes_one(&line.act);
         let gets = gets_one(&line.act);
+        let sets = sets_one(&line.act);
         self.lines.push(line)?;
         count(&mut self.composed, client, composes);
         count(&mut self.answered, client, gets);
+        count(&mut self.cursors, client, sets);
         Ok(())
     }
 }
@@ -85,7 +102,10 @@ fn composes_one(act: &Act<Replace>) -> bool
 {
     match act {
         Act::Submit | Act::Ask | Act::Push { lost: _ } | Act::Pull { lost: _ } => true,
-        Act::Edit { op: _ } | Act::Present { message: _ } | Act::Take { answer: _ } => false,
+        Act::Edit { op: _ }
+        | Act::Cursor { pos: _, side: _ }
+        | Act::Present { message: _ }
+        | Act::Take { answer: _ } => false,
     }
 }
 
@@ -95,6 +115,26 @@ fn gets_one(act: &Act<Replace>) -> bool
 {
     match act {
         Act::Present { message: _ } | Act::Push { lost: _ } | Act::Pull { lost: _ } => true,
-        Act::Edit { op: _ } | Act::Submit | Act::Ask | Act::Take { answer: _ } => false,
+        Act::Edit { op: _ }
+        | Act::Cursor { pos: _, side: _ }
+        | Act::Submit
+        | Act::Ask
+        | Act::Take { answer: _ } => false,
+    }
+}
+
+/// Whether an act sets a cursor.
+pub fn sets_one(act: &Act<Replace>) -> bool
+    ensures { result ≡ sets_one act.now }
+{
+    match act {
+        Act::Cursor { pos: _, side: _ } => true,
+        Act::Edit { op: _ }
+        | Act::Submit
+        | Act::Ask
+        | Act::Present { message: _ }
+        | Act::Take { answer: _ }
+        | Act::Push { lost: _ }
+        | Act::Pull { lost: _ } => false,
     }
 }

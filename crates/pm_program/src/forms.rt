@@ -4,10 +4,10 @@ ghost use Rattle.std.specs.Cmp.Lexicographic.{pointwise};
 ghost use Rattle.serde_json.specs.Find.{as_str};
 ghost use Rattle.serde_json.specs.View.{view, items_view};
 ghost use Rattle.pm_program.specs.NameViews.{names_view};
-ghost use Rattle.pm_program.specs.Letters.{all_printable};
-ghost use Rattle.pm_program.specs.Forms.{has_members, has_text, text_at, single, only_item, only_child, some_letters, text_in, paragraph_in, doc_in, position_at, slice_in, inserted, step_in, as_name, is_name_letter, names_in, all_differ, clients_in, lost_at};
+ghost use Rattle.pm_flat.specs.Letters.{all_printable};
+ghost use Rattle.pm_program.specs.Forms.{has_members, has_text, text_at, single, only_item, only_child, some_letters, text_in, paragraph_in, doc_in, position_at, slice_in, inserted, step_in, as_name, is_name_letter, names_in, all_differ, clients_in, lost_at, is_side, side_at};
 
-use crate::letters::all_printable;
+use pm_flat::all_printable;
 use serde_json::Value;
 use std::alloc::{AllocError, Global};
 
@@ -314,4 +314,40 @@ pub fn lost_at(json: &Value) -> Option<bool>
             value.as_bool()
         },
     }
+}
+
+/// A cursor's side: 1 or -1, and 1 where it is absent or null.
+pub fn side_at(json: &Value) -> Option<i8>
+    ensures { result ≡ side_at (view json.now) }
+{
+    match json.get("side") {
+        None => Some(1),
+        Some(value) => if value.is_null() {
+            Some(1)
+        } else {
+            side_in(value)
+        },
+    }
+}
+
+fn side_in(json: &Value) -> Option<i8>
+    ensures { result ≡ option_and_then as_side (option_and_then as_i64 (as_number (view json.now))) }
+{
+    match json.as_i64() {
+        Some(side) if is_side(side) => Some(side as i8),
+        _ => None,
+    }
+}
+
+ghost use Rattle.serde_json.specs.Find.{as_i64, as_number};
+ghost use Rattle.pm_program.specs.Forms.{as_side};
+ghost use Rattle.pm_map.specs.Moves.{IsSide};
+
+/// Whether a number is 1 or -1.
+#[tactic(auto, using(crate::proofs::Sides::sides))]
+pub fn is_side(number: i64) -> bool
+    ensures test { result ≡ is_side number }
+    ensures side { result ≡ true → IsSide number }
+{
+    number == 1 || number == -1
 }

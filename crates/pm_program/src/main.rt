@@ -5,12 +5,12 @@ mod answer;
 mod call;
 mod earlier;
 mod fault;
-mod flat;
 mod forms;
-mod letters;
 mod lines;
 mod making;
 mod ops;
+#[cfg(test)]
+mod rebasing_tests;
 mod report;
 mod schema_line;
 mod session;

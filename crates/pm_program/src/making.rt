@@ -1,7 +1,6 @@
 //! A line's op is a step.
-use crate::flat::Replace;
-use crate::letters::Letters;
 use pm_change::Change;
+use pm_flat::{Letters, Replace};
 use pm_session::{Maker, NoSteps};
 use std::alloc::{AllocError, AllocFailed, Global};
 

@@ -7,20 +7,24 @@ ghost use Rattle.pm_session.specs.declared.line.Act.TheVariants.{Edit};
 ghost use Rattle.pm_session.specs.Suits.{Suits, NamesOneOf};
 ghost use Rattle.pm_program.specs.Answer.{Gives};
 ghost use Rattle.pm_program.specs.Forms.{step_in};
-ghost use Rattle.pm_program.specs.Reading.{letters_of, act_in, edit_in, exchange_in, client_at, names_one_of, op_in, op_line, refused};
+ghost use Rattle.pm_program.specs.Reading.{letters_of, act_in, edit_in, cursor_in, exchange_in, client_at, names_one_of, has_cursor, op_in, op_line, refused};
 
-use crate::earlier::Earlier;
+use crate::earlier::{Earlier, sets_one};
 use crate::fault::{SessionError, not_built};
-use crate::flat::Replace;
-use crate::forms::{has_members, has_text, lost_at, position_at, step_in, text_at};
-use crate::letters::Letters;
+use crate::forms::{
+    has_members, has_text, is_side, lost_at, position_at, side_at, step_in, text_at,
+};
 use crate::lines::value_of;
+use pm_flat::{Letters, Replace};
 use pm_session::{Act, Line};
 use serde_json::Value;
 use std::alloc::{AllocError, Global};
 
 /// The number of the last line that may be there.
 const LAST_LINE: u32 = 100_003;
+
+/// The greatest number of cursor lines of one client.
+const MAX_CURSORS: u64 = 64;
 
 /// The greatest number of characters of the first document and of all steps together.
 const MAX_LETTERS: usize = 400_000;
@@ -31,9 +35,20 @@ fn act_in(alloc: Global, json: &Value) -> Result<Option<Act<Replace>>, AllocErro
 {
     if has_text(json, "op", "step") {
         edit_in(alloc, json)
+    } else if has_text(json, "op", "cursor") {
+        Ok(cursor_in(json))
     } else {
         Ok(exchange_in(json))
     }
+}
+
+/// An op line that sets a cursor.
+fn cursor_in(json: &Value) -> Option<Act<Replace>>
+    ensures { result ≡ cursor_in (view json.now) }
+{
+    let pos = u64::from(position_at(json, "pos")?);
+    let side = side_at(json)?;
+    Some(Act::Cursor { pos, side })
 }
 
 /// An op line that makes a step.
@@ -110,7 +125,7 @@ fn place_of(name: &str, names: &[String]) -> Option<usize>
     names.iter().position(|other| name == other.as_str())
 }
 
-/// Whether an act that names a message or an answer names one of so many.
+/// Whether an act that names a message or an answer names one of so many, and a cursor's side is one of the two.
 fn names_one_of(messages: u64, answers: u64, act: &Act<Replace>) -> bool
     ensures test { result ≡ names_one_of messages answers act.now }
     ensures named { result ≡ true → NamesOneOf messages answers act.now }
@@ -118,12 +133,20 @@ fn names_one_of(messages: u64, answers: u64, act: &Act<Replace>) -> bool
     match act {
         Act::Present { message } => 0 < *message && *message <= messages,
         Act::Take { answer } => 0 < *answer && *answer <= answers,
+        Act::Cursor { pos: _, side } => is_side(i64::from(*side)),
         Act::Edit { op: _ }
         | Act::Submit
         | Act::Ask
         | Act::Push { lost: _ }
         | Act::Pull { lost: _ } => true,
     }
+}
+
+/// Whether there may be such a line after so many cursors of its client.
+fn has_cursor(cursors: u64, act: &Act<Replace>) -> bool
+    ensures { result ≡ has_cursor cursors act.now }
+{
+    !sets_one(act) || cursors < MAX_CURSORS
 }
 
 /// An op line of one of the clients, after earlier ones.
@@ -137,6 +160,7 @@ fn op_in(
 ) -> Result<Option<Line<Replace>>, AllocError>
     requires composed { vec_len earlier.now.composed ≡ length names.now }
     requires answered { vec_len earlier.now.answered ≡ length names.now }
+    requires cursors { vec_len earlier.now.cursors ≡ length names.now }
     requires few { length names.now ≤ 32 }
     ensures read { IfOk result (λ o. o ≡ op_in (map string_bytes names.now) earlier.now.lines.items number (view json.now)) }
     ensures suits { IfOk result (λ o. IfSome o (λ line. Suits (length names.now) earlier.now.lines.items line)) }
@@ -145,7 +169,9 @@ fn op_in(
         return Ok(None);
     };
     match act_in(alloc, json)? {
-        Some(act) if names_one_of(earlier.composed(client), earlier.answered(client), &act) => {
+        Some(act)
+            if names_one_of(earlier.composed(client), earlier.answered(client), &act)
+                && has_cursor(earlier.cursors(client), &act) => {
             Ok(Some(Line {
                 number,
                 client: client as u32,
@@ -162,7 +188,8 @@ pub fn letters_of(act: &Act<Replace>) -> usize
 {
     match act {
         Act::Edit { op } => op.text.len(),
-        Act::Submit
+        Act::Cursor { pos: _, side: _ }
+        | Act::Submit
         | Act::Ask
         | Act::Present { message: _ }
         | Act::Take { answer: _ }
@@ -183,6 +210,7 @@ pub fn op_line(
 ) -> Result<Line<Replace>, SessionError>
     requires composed { vec_len earlier.now.composed ≡ length names.now }
     requires answered { vec_len earlier.now.answered ≡ length names.now }
+    requires cursors { vec_len earlier.now.cursors ≡ length names.now }
     requires few { length names.now ≤ 32 }
     requires used { used ≤ 400000 }
     ensures read { Gives (λ l. l) result (or_fault (refused number) (op_line (map string_bytes names.now) earlier.now.lines.items used number line.now)) }

@@ -2,11 +2,10 @@
 ghost use Rattle.std.specs.Prelude.{◌≡◌, ◌++◌, length, map, codes, decimal, IfOk, OnOk, string_bytes};
 ghost use Rattle.pm_program.specs.Report.{◌&◌, line, reason_text, told_text, taken_text, end_text, outcome_text, outcome_lines, name_at, client_line, client_lines, entry_lines, settled_line, settled_lines, doc_text};
 
-use crate::flat::{Reason, Replace};
-use crate::letters::Letters;
-use crate::written::{doc_text, numbers_text, serials_text, step_text};
+use crate::written::{cursors_text, doc_text, numbers_text, serials_text, step_text};
 use pm_authority::Named;
 use pm_client::{Client, Taken};
+use pm_flat::{Letters, Reason, Replace};
 use pm_session::{Line, Outcome, Room, Told};
 use std::alloc::{AllocError, Global};
 
@@ -66,28 +65,34 @@ fn client_line(alloc: Global, name: &str, client: &Client<Replace>) -> Result<St
 {
     let pending = serials_text(alloc, client.pending())?;
     let dropped = numbers_text(alloc, client.dropped())?;
+    let cursors = cursors_text(alloc, client.cursors())?;
     let doc = doc_text(alloc, client.doc())?;
+    let head = client_head(alloc, name, client.version(), pending.as_str())?;
     client_words(
         alloc,
-        name,
-        client.version(),
-        pending.as_str(),
+        head.as_str(),
         dropped.as_str(),
+        cursors.as_str(),
         doc.as_str(),
     )
 }
 
+fn client_head(alloc: Global, name: &str, version: u64, pending: &str) -> Result<String, AllocError>
+    ensures { IfOk result (λ s. string_bytes s ≡ codes "client" & name.now & decimal version & pending.now) }
+{
+    format!(in alloc; "client {name} {version} {pending}")
+}
+
 fn client_words(
     alloc: Global,
-    name: &str,
-    version: u64,
-    pending: &str,
+    head: &str,
     dropped: &str,
+    cursors: &str,
     doc: &str,
 ) -> Result<String, AllocError>
-    ensures { IfOk result (λ s. string_bytes s ≡ line (codes "client" & name.now & decimal version & pending.now & dropped.now & codes "[]" & doc.now)) }
+    ensures { IfOk result (λ s. string_bytes s ≡ line (head.now & dropped.now & cursors.now & doc.now)) }
 {
-    format!(in alloc; "client {name} {version} {pending} {dropped} [] {doc}\n")
+    format!(in alloc; "{head} {dropped} {cursors} {doc}\n")
 }
 
 /// How the clients stand in the end.
@@ -109,7 +114,14 @@ fn settled_line(alloc: Global, name: &str, client: &Client<Replace>) -> Result<S
     ensures { IfOk result (λ s. string_bytes s ≡ settled_line name.now client.now) }
 {
     let dropped = numbers_text(alloc, client.dropped())?;
-    settled_words(alloc, name, client.version(), dropped.as_str())
+    let cursors = cursors_text(alloc, client.cursors())?;
+    settled_words(
+        alloc,
+        name,
+        client.version(),
+        dropped.as_str(),
+        cursors.as_str(),
+    )
 }
 
 fn settled_words(
@@ -117,10 +129,11 @@ fn settled_words(
     name: &str,
     version: u64,
     dropped: &str,
+    cursors: &str,
 ) -> Result<String, AllocError>
-    ensures { IfOk result (λ s. string_bytes s ≡ line (codes "settled" & name.now & decimal version & dropped.now & codes "[]")) }
+    ensures { IfOk result (λ s. string_bytes s ≡ line (codes "settled" & name.now & decimal version & dropped.now & cursors.now)) }
 {
-    format!(in alloc; "settled {name} {version} {dropped} []\n")
+    format!(in alloc; "settled {name} {version} {dropped} {cursors}\n")
 }
 
 fn final_line(alloc: Global, doc: &Letters) -> Result<String, AllocError>
@@ -233,6 +246,7 @@ fn outcome_text(alloc: Global, outcome: &Outcome<Replace>) -> Result<String, All
         Outcome::NoPlace => String::from_str(alloc, "no place"),
         Outcome::NoFit => String::from_str(alloc, "no fit"),
         Outcome::Refused { index, reason } => refused_text(alloc, *index, reason),
+        Outcome::CursorAt { pos } => format!(in alloc; "cursor {pos}"),
         Outcome::Composed { number } => format!(in alloc; "composed {number}"),
         Outcome::Answered { told } => told_text(alloc, told),
         Outcome::Took { taken } => taken_text(alloc, *taken),
@@ -291,7 +305,6 @@ fn taken_text(alloc: Global, taken: Taken) -> Result<String, AllocError>
         } => format!(in alloc; "rebased {own} {foreign} {dropped}"),
         Taken::Stale => String::from_str(alloc, "stale"),
         Taken::Refused => String::from_str(alloc, "kept"),
-        Taken::Unbuilt => String::from_str(alloc, "unbuilt"),
     }
 }
 

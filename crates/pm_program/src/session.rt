@@ -10,12 +10,11 @@ ghost use Rattle.pm_program.specs.SessionViews.{session_view};
 
 use crate::earlier::Earlier;
 use crate::fault::{SessionError, not_built};
-use crate::flat::Replace;
 use crate::forms::{clients_in, doc_in};
-use crate::letters::Letters;
 use crate::lines::{first_line, value_of};
 use crate::ops::{letters_of, op_line};
 use crate::schema_line::SCHEMA_LINE;
+use pm_flat::{Letters, Replace};
 use pm_session::Line;
 use std::alloc::Global;
 
@@ -143,8 +142,10 @@ fn ops_from(
         lines,
         composed,
         answered,
+        cursors,
     } = earlier;
     drop(composed);
     drop(answered);
+    drop(cursors);
     Ok(lines)
 }

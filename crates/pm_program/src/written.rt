@@ -3,11 +3,10 @@ ghost use Rattle.std.specs.Prelude.{◌≡◌, [], codes, map, IfOk, string_byte
 ghost use Rattle.serde_json.specs.Data.{number, unsigned, string, array, object, item, no_items, member, no_members};
 ghost use Rattle.serde_json.specs.View.{view, items_view};
 ghost use Rattle.pm_program.specs.Forms.{doc_data, step_data, text_data, paragraph_data};
-ghost use Rattle.pm_program.specs.Report.{doc_text, step_text, list_text, number_items, serial_of};
+ghost use Rattle.pm_program.specs.Report.{doc_text, step_text, list_text, number_items, serial_of, place_of};
 
-use crate::flat::Replace;
-use crate::letters::Letters;
 use pm_authority::Named;
+use pm_flat::{Letters, Replace};
 use serde_json::{Value, json};
 use std::alloc::{AllocError, Global};
 
@@ -41,6 +40,20 @@ fn serials_of(alloc: Global, steps: &[Named<Replace>]) -> Result<Vec<u64>, Alloc
     ensures { IfOk result (λ v. v.items ≡ map serial_of steps.now) }
 {
     steps.iter().map(|step| step.name.serial).collect(alloc)
+}
+
+/// The positions of cursors, as a list.
+pub fn cursors_text(alloc: Global, cursors: &[(u64, i8)]) -> Result<String, AllocError>
+    ensures { IfOk result (λ s. string_bytes s ≡ list_text (map place_of cursors.now)) }
+{
+    let places = places_of(alloc, cursors)?;
+    numbers_text(alloc, &places)
+}
+
+fn places_of(alloc: Global, cursors: &[(u64, i8)]) -> Result<Vec<u64>, AllocError>
+    ensures { IfOk result (λ v. v.items ≡ map place_of cursors.now) }
+{
+    cursors.iter().map(|cursor| cursor.0).collect(alloc)
 }
 
 /// Numbers, as a list.

@@ -9,7 +9,9 @@ use Rattle.pm_authority.specs.declared.message.Answer.TheVariants.{Accepted, Wro
 use Rattle.pm_authority.specs.Runs.{run}
 use Rattle.pm_client.specs.declared.client.Client.{Client}
 use Rattle.pm_client.specs.declared.taken.Taken.{Taken}
-use Rattle.pm_client.specs.Clients.{named, own_run, edited, tried, given, kept, answer_at, confirmed_first, rest_taken, taken, taken_if, taken_at}
+use Rattle.pm_client.specs.Clients.{named, own_run, edited, tried, given, kept, answer_at, confirmed, brought, carried, confirmed_first, rest_taken, taken, taken_if, taken_at}
+use Rattle.pm_client.specs.Rebases.{maps_of}
+use Rattle.pm_client.specs.Cursors.{moved_over}
 
 -- the same name, and the same messages and answers
 pub record KeepsBox {Rules Doc Reason C : Type 0} (c new : Client C Rules Doc Reason) : Type 0 where
@@ -28,37 +30,44 @@ module _ {Rules Doc Reason C : Type 0} (m : Meaning Rules Doc Reason C) (rules :
       from : (r : Result Doc (Refusal Reason)) → tried m rules c cs r ≡ Ok next → KeepsBox c next
       from (Err e) h = absurd (cc)
       from (Ok doc) h =
-          let same : record c { doc = doc; pending = c.pending ++ named c.name (c.serials + 1) cs; serials = c.serials + length cs } ≡ next = cc in
+          let same : record c { doc = doc; pending = c.pending ++ named c.name (c.serials + 1) cs; serials = c.serials + length cs; cursors = moved_over (maps_of m (named c.name (c.serials + 1) cs)) c.cursors } ≡ next = cc in
           record {
             name = sym (ap (λ (x : Client C Rules Doc Reason). x.name) same);
             messages = sym (ap (λ (x : Client C Rules Doc Reason). x.messages) same);
             answers = sym (ap (λ (x : Client C Rules Doc Reason). x.answers) same);
           }
 
-  given-keeps : (o : Option Doc) (next : Doc → Client C Rules Doc Reason) → ((d : Doc) → KeepsBox c (next d)) → KeepsBox c (given c o next)
-  given-keeps None next h = all-kept
-  given-keeps (Some d) next h = h d
+  -- What holds of the client, of the client with some pending steps confirmed, and of it with the later ones carried over
+  -- others' steps holds of it once it took an answer.
+  module _ (Q : Client C Rules Doc Reason → Type 0) (now : Q c) (confirms : (k : ℕ) (base : Doc) → Q (confirmed c k base))
+      (brings : (k own : ℕ) (foreign : List (Named C)) (base : Doc) → Q (brought c k base (carried m rules c own foreign base))) where
+    given-one : (o : Option Doc) (next : Doc → Taken × Client C Rules Doc Reason) → ((d : Doc) → Q (next d).1) → Q (given c o next).1
+    given-one None next h = now
+    given-one (Some d) next h = h d
 
-  either-keeps : (b : Bool) (p q : Taken × Client C Rules Doc Reason) → KeepsBox c p.1 → KeepsBox c q.1 → KeepsBox c (if b then p else q).1
-  either-keeps true p q g h = g
-  either-keeps false p q g h = h
+    either-one : (b : Bool) (p q : Taken × Client C Rules Doc Reason) → Q p.1 → Q q.1 → Q (if b then p else q).1
+    either-one true p q g h = g
+    either-one false p q g h = h
 
-  first-keeps : (k : ℕ) → KeepsBox c (confirmed_first m rules c k).1
-  first-keeps k = given-keeps _ _ (λ d. record { name = refl; messages = refl; answers = refl })
+    first-one : (k : ℕ) → Q (confirmed_first m rules c k).1
+    first-one k = given-one _ _ (λ d. confirms k d)
 
-  rest-keeps : (rest : List (Named C)) (own : ℕ) → KeepsBox c (rest_taken m rules c rest own).1
-  rest-keeps rest own =
-      either-keeps (own == length rest) _ _ (first-keeps own)
-      (either-keeps (nat_le (length c.pending) own) _ _ (given-keeps _ _ (λ d. record { name = refl; messages = refl; answers = refl })) all-kept)
+    rest-one : (rest : List (Named C)) (own : ℕ) → Q (rest_taken m rules c rest own).1
+    rest-one rest own = either-one (own == length rest) _ _ (first-one own) (given-one _ _ (λ d. brings (length rest) own (drop own rest) d))
+
+    pub taken-one : (a : Answer C Rules Doc Reason) → Q (taken m rules c a).1
+    taken-one (Accepted from count) = either-one (nat_le (from + count) c.version) _ _ now (first-one count)
+    taken-one (WrongVersion n) = now
+    taken-one (StepRefused index reason) = now
+    taken-one (Entries since entries) =
+        either-one (nat_le (since + length entries) c.version) _ _ now
+        (rest-one (drop (c.version - since) entries) (own_run c.name (drop (c.version - since) entries)))
 
   -- an answer that was taken
   pub taken-keeps : (a : Answer C Rules Doc Reason) → KeepsBox c (taken m rules c a).1
-  taken-keeps (Accepted from count) = either-keeps (nat_le (from + count) c.version) _ _ all-kept (first-keeps count)
-  taken-keeps (WrongVersion n) = all-kept
-  taken-keeps (StepRefused index reason) = all-kept
-  taken-keeps (Entries since entries) =
-      either-keeps (nat_le (since + length entries) c.version) _ _ all-kept
-      (rest-keeps (drop (c.version - since) entries) (own_run c.name (drop (c.version - since) entries)))
+  taken-keeps a =
+      taken-one (λ d. KeepsBox c d) all-kept (λ k base. record { name = refl; messages = refl; answers = refl })
+      (λ k own foreign base. record { name = refl; messages = refl; answers = refl }) a
 
   pub taken_at-keeps : (i : ℕ) → KeepsBox c (taken_at m rules c i).1
   taken_at-keeps i = from (answer_at c i)

@@ -11,7 +11,7 @@ use Rattle.pm_client.specs.declared.taken.Kind.TheVariants.{Submit as Submission
 use Rattle.pm_client.specs.Clients.{message_at}
 use Rattle.pm_client.specs.Kins.{Kin}
 use Rattle.pm_session.specs.declared.line.Act.{Act}
-use Rattle.pm_session.specs.declared.line.Act.TheVariants.{Edit, Submit, Ask, Present, Take, Push, Pull}
+use Rattle.pm_session.specs.declared.line.Act.TheVariants.{Edit, Cursor, Submit, Ask, Present, Take, Push, Pull}
 use Rattle.pm_session.specs.declared.maker.NoSteps.{NoSteps}
 use Rattle.pm_session.specs.declared.outcome.Outcome.{Outcome}
 use Rattle.pm_session.specs.Events.{State, placed, exchanges, acted}
@@ -44,6 +44,7 @@ module _ {Rules Doc Reason C : Type 0} (m : Meaning Rules Doc Reason C) (rules :
 
     left-moved : {Op : Type 0} (act : Act Op) (p : Authority C Rules Doc Reason × Client C Rules Doc Reason) → LeftBy m rules a c act p → Moves p
     left-moved (Edit op) p h = as-was p h
+    left-moved (Cursor pos side) p h = as-was p h
     left-moved Submit p h = as-was p h
     left-moved Ask p h = as-was p h
     left-moved (Present j) p h = presenting j h.0 h.1 p h.2

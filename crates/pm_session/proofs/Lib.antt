@@ -7,3 +7,4 @@ pub mod Lefts
 pub mod Opening
 pub mod Playing
 pub mod Turns
+pub mod Settling

@@ -1,7 +1,9 @@
 -- What an act of a client makes of it and of the authority: both stand as before, and the log grows by the client's own.
 use Rattle.std.specs.List.{AllByRecursion as Each}
-use Rattle.std.specs.Prelude.{◌≡◌, ℕ, zero, suc, ◌+◌, ◌-◌, ◌<◌, Bool, true, false, List, [], ◌∷◌, ◌++◌, length, slice_get, Option, Some, None, Result, Ok, Err, refl}
+use Rattle.std.specs.Prelude.{if◌then◌else◌, nat_lt, ◌≡◌, ℕ, ℤ, zero, suc, ◌+◌, ◌-◌, ◌<◌, Bool, true, false, List, [], ◌∷◌, ◌++◌, length, slice_get, Option, Some, None, Result, Ok, Err, refl}
 use Rattle.std.proofs.Common.{cond, sym, ap, ◌∙◌, subst, arith, append-nil, length-append}
+use Rattle.std.proofs.lemmas.Bool.{ltb-false}
+use Rattle.pm_map.specs.Moves.{IsSide}
 use Rattle.pm_change.specs.Changes.{Meaning, Laws}
 use Rattle.pm_authority.specs.declared.authority.Authority.{Authority}
 use Rattle.pm_authority.specs.declared.named.Named.{Named}
@@ -12,16 +14,18 @@ use Rattle.pm_authority.specs.Presents.{presented}
 use Rattle.pm_client.specs.declared.client.Client.{Client}
 use Rattle.pm_client.specs.declared.taken.Kind.{Kind}
 use Rattle.pm_client.specs.declared.taken.Kind.TheVariants.{Submit as Submission, Ask as Asking}
-use Rattle.pm_client.specs.Clients.{edited, message_of, composed, kept, taken, taken_at, message_at}
+use Rattle.pm_client.specs.Clients.{edited, cursor_set, message_of, composed, kept, taken, taken_at, message_at}
 use Rattle.pm_client.specs.Kins.{IsOwn, MessageStands, Kin}
 use Rattle.pm_client.specs.Takings.{kin-taken_at}
-use Rattle.pm_client.specs.Keeps.{kin-edited, kin-composed}
+use Rattle.pm_client.specs.Keeps.{kin-edited, kin-cursor, kin-composed}
 use Rattle.pm_client.specs.Answering.{After, presented-kept, presented-only}
 use Rattle.pm_session.specs.declared.line.Act.{Act}
-use Rattle.pm_session.specs.declared.line.Act.TheVariants.{Edit, Submit, Ask, Present, Take, Push, Pull}
+use Rattle.pm_session.specs.declared.line.Act.TheVariants.{Edit, Cursor, Submit, Ask, Present, Take, Push, Pull}
 use Rattle.pm_session.specs.declared.maker.NoSteps.{NoSteps}
 use Rattle.pm_session.specs.declared.maker.NoSteps.TheVariants.{Range, NotThere, NoFit as FitsNowhere, NoMemory}
-use Rattle.pm_session.specs.Events.{edits, made, presents, exchanges, acted}
+use Rattle.pm_session.specs.Events.{edits, sets, made, presents, exchanges, acted}
+use Rattle.pm_session.specs.declared.outcome.Outcome.{Outcome}
+use Rattle.pm_session.specs.declared.outcome.Outcome.TheVariants.{NoRange, CursorAt}
 use Rattle.pm_session.specs.Suits.{composes_one, gets_one, NamesOneOf}
 use Rattle.pm_session.proofs.SoundLaws.{message-stands, new-stands, presented-own}
 use Rattle.pm_session.proofs.Keeping.{KeepsBox, edited-keeps, taken-keeps, taken_at-keeps, taken-last}
@@ -69,11 +73,23 @@ module _ {Rules Doc Reason C : Type 0} (m : Meaning Rules Doc Reason C) (rules :
   edits-moved (Ok steps) = from (edited m rules c steps) refl
     where
       from : (r : Result (Client C Rules Doc Reason) (Refusal Reason)) → edited m rules c steps ≡ r → Moved m rules a c false false a (made c steps r).1
-      from (Ok next) e = moved-box next (edited-keeps m rules c steps next e) (kin-edited m rules a.first a.log c kin steps next e)
+      from (Ok next) e = moved-box next (edited-keeps m rules c steps next e) (kin-edited m rules a.first a.log c kin laws steps next e)
       from (Err r) e = unmoved
 
+  pub sets-moved : (p : ℕ) (side : ℤ) → IsSide side → Moved m rules a c false false a (sets m c p side).1
+  sets-moved p side is_side = from (nat_lt (m.size c.doc) p) refl
+    where
+      chosen : Bool → Outcome C Rules Doc Reason × Client C Rules Doc Reason
+      chosen b = if b then (NoRange, c) else (CursorAt p, cursor_set c p side)
+
+      from : (b : Bool) → nat_lt (m.size c.doc) p ≡ b → Moved m rules a c false false a (chosen b).1
+      from true e = unmoved
+      from false e =
+          moved-box (cursor_set c p side) (record { name = refl; messages = refl; answers = refl })
+          (kin-cursor m rules a.first a.log c kin p side (ltb-false (m.size c.doc) p e) is_side)
+
   pub takes-moved : (n : ℕ) → Moved m rules a c false false a (taken_at m rules c n).1
-  takes-moved n = moved-box (taken_at m rules c n).1 (taken_at-keeps m rules c n) (kin-taken_at m rules a.first a.log c kin n)
+  takes-moved n = moved-box (taken_at m rules c n).1 (taken_at-keeps m rules c n) (kin-taken_at m rules a.first a.log c kin laws n)
 
   pub composes-moved : (kind : Kind) → Moved m rules a c true false a (composed c kind)
   composes-moved kind =
@@ -152,7 +168,7 @@ module _ {Rules Doc Reason C : Type 0} (m : Meaning Rules Doc Reason C) (rules :
       let one = given-moved kind in
       let last = taken-last m rules (composed c kind) p.0 (length c.answers + 1) refl in
       let k : Kin m rules p.1.first p.1.log (taken m rules keeper p.0).1 =
-      rw last at (kin-taken_at m rules p.1.first p.1.log keeper one.after.own (length c.answers + 1)) in
+      rw last at (kin-taken_at m rules p.1.first p.1.log keeper one.after.own laws (length c.answers + 1)) in
       let box = taken-keeps m rules keeper p.0 in
       record {
         name = box.name;
@@ -169,6 +185,7 @@ module _ {Rules Doc Reason C : Type 0} (m : Meaning Rules Doc Reason C) (rules :
     pub acted-moved : (act : Act Op) → NamesOneOf (length c.messages) (length c.answers) act
         → Moved m rules a c (composes_one act) (gets_one act) (acted m rules makes a act c).1 (acted m rules makes a act c).2
     acted-moved (Edit op) h = edits-moved m rules laws a stood c kin (makes c.doc op)
+    acted-moved (Cursor p side) h = sets-moved m rules laws a stood c kin p side h
     acted-moved Submit h = composes-moved m rules laws a stood c kin Submission
     acted-moved Ask h = composes-moved m rules laws a stood c kin Asking
     acted-moved (Take n) h = takes-moved m rules laws a stood c kin n

@@ -4,14 +4,13 @@ use Rattle.std.specs.Prelude.{◌≡◌, ◌⊎◌, ℕ, zero, suc, ◌-◌, ◌
 use Rattle.std.proofs.Common.{sym, ap, ◌∙◌, subst, inl, inr, arith, append-nil, length-append}
 use Rattle.std.proofs.lemmas.Bool.{eqb-true}
 use Rattle.pm_change.specs.Changes.{Meaning, Laws}
-use Rattle.pm_change.specs.Folds.{fold-good}
 use Rattle.pm_authority.specs.declared.named.Named.{Named}
 use Rattle.pm_authority.specs.declared.running.Refusal.{Refusal}
 use Rattle.pm_authority.specs.declared.message.Message.{Message}
 use Rattle.pm_authority.specs.declared.message.Message.TheVariants.{Submit as SubmitMessage, Ask as AskMessage}
 use Rattle.pm_authority.specs.declared.message.Answer.TheVariants.{WrongVersion}
 use Rattle.pm_authority.specs.declared.authority.Authority.{Authority}
-use Rattle.pm_authority.specs.Runs.{run, changes_of}
+use Rattle.pm_authority.specs.Runs.{run}
 use Rattle.pm_authority.specs.Presents.{tried, presented}
 use Rattle.pm_client.specs.declared.client.Client.{Client}
 use Rattle.pm_client.specs.declared.taken.Kind.{Kind}
@@ -20,6 +19,7 @@ use Rattle.pm_client.specs.Clients.{message_of, message_at}
 use Rattle.pm_client.specs.Kins.{IsOwn, MessageStands, Kin}
 use Rattle.pm_client.specs.Lists.{Each-front, Each-append}
 use Rattle.pm_client.specs.Takings.{get-index}
+use Rattle.pm_client.specs.Keeps.{doc-good}
 use Rattle.pm_client.specs.Answering.{After}
 use Rattle.pm_session.specs.Events.{State, placed}
 use Rattle.pm_session.specs.Sounds.{Sound, IsOfOne}
@@ -50,9 +50,7 @@ of-one client n (x ∷ log) l own = (omega (arith, l, own.0), of-one client n lo
 module _ {Rules Doc Reason C : Type 0} (m : Meaning Rules Doc Reason C) (rules : Rules) (laws : Laws m) where
   -- a client that stands to a log has a good document
   pub kin-good : (first : Doc) (log : List (Named C)) (c : Client C Rules Doc Reason) → Kin m rules first log c → m.is_good rules c.doc
-  kin-good first log c kin =
-      let base = fold-good m rules laws first c.base (changes_of kin.before) kin.first_good kin.base_is in
-      fold-good m rules laws c.base c.doc (changes_of c.pending) base kin.doc_is
+  kin-good first log c kin = doc-good m rules first log c kin laws
 
   -- the message of this number stands
   pub message-stands : (first : Doc) (log : List (Named C)) (c : Client C Rules Doc Reason) → Kin m rules first log c

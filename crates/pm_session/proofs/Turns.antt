@@ -17,7 +17,7 @@ pub turn-more : {Rules Doc Reason C : Type 0} (does : ℕ → State C Rules Doc 
 turn-more does k n s some = let rest : n - k ≡ suc (n - (k + 1)) = omega (arith, some) in rw rest refl
 
 module _ {Rules Doc Reason C : Type 0} (m : Meaning Rules Doc Reason C) (rules : Rules) (laws : Laws m) where
-  exchanged-sound : (kind : Kind) (i : ℕ) (s : State C Rules Doc Reason) → Sound m rules s → Sound m rules (exchanged m rules kind i s)
+  pub exchanged-sound : (kind : Kind) (i : ℕ) (s : State C Rules Doc Reason) → Sound m rules s → Sound m rules (exchanged m rules kind i s)
   exchanged-sound kind i s sound = from (slice_get s.clients i) refl
     where
       from : (o : Option (Client C Rules Doc Reason)) → slice_get s.clients i ≡ o → Sound m rules (by_some s i o (λ c. exchanges m rules s.authority c kind false)).1
@@ -26,7 +26,7 @@ module _ {Rules Doc Reason C : Type 0} (m : Meaning Rules Doc Reason C) (rules :
           moved-sound m rules laws s sound i c e true true (exchanges m rules s.authority c kind false).1 (exchanges m rules s.authority c kind false).2
           (exchanges-moved m rules laws s.authority sound.authority c (sound.stand i c e).1 kind false)
 
-  turns-sound : (does : ℕ → State C Rules Doc Reason → State C Rules Doc Reason) → ((i : ℕ) (s : State C Rules Doc Reason) → Sound m rules s → Sound m rules (does i s))
+  pub turns-sound : (does : ℕ → State C Rules Doc Reason → State C Rules Doc Reason) → ((i : ℕ) (s : State C Rules Doc Reason) → Sound m rules s → Sound m rules (does i s))
       → (k n : ℕ) (s : State C Rules Doc Reason) → Sound m rules s → Sound m rules (in_turn does k n s)
   turns-sound does keeps k zero s sound = sound
   turns-sound does keeps k (suc n) s sound = turns-sound does keeps (k + 1) n (does k s) (keeps k s sound)

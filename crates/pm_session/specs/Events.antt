@@ -1,5 +1,5 @@
 -- What a line makes of a room.
-use Rattle.std.specs.Prelude.{ℕ, ◌+◌, Bool, true, false, List, length, slice_get, slice_set, Option, Some, None, Result, Ok, Err}
+use Rattle.std.specs.Prelude.{ℕ, ℤ, ◌+◌, nat_lt, if◌then◌else◌, Bool, true, false, List, length, slice_get, slice_set, Option, Some, None, Result, Ok, Err}
 use Rattle.pm_change.specs.Changes.{Meaning}
 use Rattle.pm_authority.specs.declared.message.Message.{Message}
 use Rattle.pm_authority.specs.declared.message.Answer.{Answer}
@@ -10,16 +10,16 @@ use Rattle.pm_authority.specs.Presents.{presented}
 use Rattle.pm_client.specs.declared.client.Client.{Client}
 use Rattle.pm_client.specs.declared.taken.Kind.{Kind}
 use Rattle.pm_client.specs.declared.taken.Kind.TheVariants.{Submit as Submission, Ask as Asking}
-use Rattle.pm_client.specs.Clients.{edited, message_of, message_at, composed, kept, taken, taken_at}
+use Rattle.pm_client.specs.Clients.{edited, cursor_set, message_of, message_at, composed, kept, taken, taken_at}
 use Rattle.pm_session.specs.declared.line.Line.{Line}
 use Rattle.pm_session.specs.declared.line.Act.{Act}
-use Rattle.pm_session.specs.declared.line.Act.TheVariants.{Edit, Submit, Ask, Present, Take, Push, Pull}
+use Rattle.pm_session.specs.declared.line.Act.TheVariants.{Edit, Cursor, Submit, Ask, Present, Take, Push, Pull}
 use Rattle.pm_session.specs.declared.maker.NoSteps.{NoSteps}
 use Rattle.pm_session.specs.declared.maker.NoSteps.TheVariants.{Range, NotThere, NoFit as FitsNowhere, NoMemory}
 use Rattle.pm_session.specs.declared.outcome.Told.{Told}
 use Rattle.pm_session.specs.declared.outcome.Told.TheVariants.{Accepted as ToldAccepted, Version, Refused as ToldRefused, Entries as ToldEntries}
 use Rattle.pm_session.specs.declared.outcome.Outcome.{Outcome}
-use Rattle.pm_session.specs.declared.outcome.Outcome.TheVariants.{Made, NoRange, NoPlace, NoFit, Refused, Composed, Answered, Took, Exchanged}
+use Rattle.pm_session.specs.declared.outcome.Outcome.TheVariants.{Made, NoRange, NoPlace, NoFit, Refused, CursorAt, Composed, Answered, Took, Exchanged}
 use Rattle.pm_session.specs.declared.room.Room.{Room}
 
 -- A room, without where its clients lie in memory: the authority, and client i at place i.
@@ -70,6 +70,11 @@ module _ {Rules Doc Reason C : Type 0} where
       → Outcome C Rules Doc Reason × Authority C Rules Doc Reason × Client C Rules Doc Reason
   local a p = (p.0, a, p.1)
 
+module _ {Rules Doc Reason C : Type 0} (m : Meaning Rules Doc Reason C) where
+  -- a cursor is set, unless its position passes the document's size
+  abbrev pub sets : Client C Rules Doc Reason → ℕ → ℤ → Outcome C Rules Doc Reason × Client C Rules Doc Reason
+  sets c p side = if nat_lt (m.size c.doc) p then (NoRange, c) else (CursorAt p, cursor_set c p side)
+
 module _ {Rules Doc Reason C : Type 0} (m : Meaning Rules Doc Reason C) (rules : Rules) where
   -- an op's steps are made, or the outcome says why there are none; want of memory is no meaning of an op
   abbrev pub edits : Client C Rules Doc Reason → Result (List C) NoSteps → Outcome C Rules Doc Reason × Client C Rules Doc Reason
@@ -109,6 +114,7 @@ module _ {Rules Doc Reason C : Type 0} (m : Meaning Rules Doc Reason C) (rules :
     abbrev pub acted : Authority C Rules Doc Reason → Act Op → Client C Rules Doc Reason
         → Outcome C Rules Doc Reason × Authority C Rules Doc Reason × Client C Rules Doc Reason
     acted a (Edit op) c = local a (edits c (makes c.doc op))
+    acted a (Cursor p side) c = local a (sets m c p side)
     acted a Submit c = local a (composes c Submission)
     acted a Ask c = local a (composes c Asking)
     acted a (Present j) c = presents a c (message_at c j)

@@ -1,9 +1,10 @@
 -- Which lines may be played: those that name what was composed or kept by then.
+use Rattle.pm_map.specs.Moves.{IsSide}
 use Rattle.std.specs.Prelude.{◌≡◌, ℕ, ◌≤◌, ◌<◌, ◌==◌, ◌&&◌, Bool, true, false, List, [], ◌∷◌, ◌++◌, length, count_by, slice_get, Some}
 use Rattle.pm_client.specs.declared.client.Client.{Client}
 use Rattle.pm_session.specs.declared.line.Line.{Line}
 use Rattle.pm_session.specs.declared.line.Act.{Act}
-use Rattle.pm_session.specs.declared.line.Act.TheVariants.{Edit, Submit, Ask, Present, Take, Push, Pull}
+use Rattle.pm_session.specs.declared.line.Act.TheVariants.{Edit, Cursor, Submit, Ask, Present, Take, Push, Pull}
 use Rattle.pm_session.specs.Events.{State}
 
 module _ {Op : Type 0} where
@@ -14,6 +15,7 @@ module _ {Op : Type 0} where
   composes_one (Push lost) = true
   composes_one (Pull lost) = true
   composes_one (Edit op) = false
+  composes_one (Cursor p side) = false
   composes_one (Present j) = false
   composes_one (Take n) = false
 
@@ -25,6 +27,7 @@ module _ {Op : Type 0} where
   gets_one Submit = false
   gets_one Ask = false
   gets_one (Edit op) = false
+  gets_one (Cursor p side) = false
   gets_one (Take n) = false
 
   -- how many of these lines are the client's and do this
@@ -39,11 +42,12 @@ module _ {Op : Type 0} where
   abbrev pub answered_by : ℕ → List (Line Op) → ℕ
   answered_by i lines = done_by gets_one i lines
 
-  -- an act that names a message or an answer names one of so many
+  -- an act that names a message or an answer names one of so many, and a cursor's side is 1 or -1
   abbrev pub NamesOneOf : ℕ → ℕ → Act Op → Type 0
   NamesOneOf messages answers (Present j) = (0 < j) × (j ≤ messages)
   NamesOneOf messages answers (Take n) = (0 < n) × (n ≤ answers)
   NamesOneOf messages answers (Edit op) = Unit {0}
+  NamesOneOf messages answers (Cursor p side) = IsSide side
   NamesOneOf messages answers Submit = Unit {0}
   NamesOneOf messages answers Ask = Unit {0}
   NamesOneOf messages answers (Push lost) = Unit {0}

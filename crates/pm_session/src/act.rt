@@ -8,7 +8,7 @@ ghost use Rattle.pm_session.specs.Suits.{NamesOneOf};
 
 use crate::exchange::{exchange, present};
 use crate::line::Act;
-use crate::local::{compose, edit, take};
+use crate::local::{compose, edit, set_cursor, take};
 use crate::maker::Maker;
 use crate::outcome::Outcome;
 use pm_authority::Authority;
@@ -16,8 +16,8 @@ use pm_change::Change;
 use pm_client::{Client, Kind};
 use std::alloc::{AllocError, Global};
 
-/// The client does this act at this authority. The message or the answer that the act names must be there. Want of memory
-/// leaves the first parts of the act done and the others not.
+/// The client does this act at this authority. The message or the answer that the act names must be there, and a cursor's
+/// side must be 1 or -1. Want of memory leaves the first parts of the act done and the others not.
 pub fn act<C: Change, K: Maker<C>>(
     alloc: Global,
     rules: &C::Rules,
@@ -34,6 +34,7 @@ pub fn act<C: Change, K: Maker<C>>(
 {
     match act {
         Act::Edit { op } => edit(alloc, rules, maker, client, op),
+        Act::Cursor { pos, side } => set_cursor(client, *pos, *side),
         Act::Submit => compose(alloc, client, Kind::Submit),
         Act::Ask => compose(alloc, client, Kind::Ask),
         Act::Present { message } => present(alloc, rules, authority, client, *message),

@@ -5,6 +5,8 @@
 pub enum Act<O> {
     /// Makes the steps of this op.
     Edit { op: O },
+    /// Sets a cursor at this position of the client's document, in tokens, with this side, 1 or -1.
+    Cursor { pos: u64, side: i8 },
     /// Composes a submission of all pending steps.
     Submit,
     /// Composes an ask for the entries from the client's version on.

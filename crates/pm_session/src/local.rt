@@ -1,13 +1,15 @@
 //! Acts that are local to a client.
-ghost use Rattle.std.specs.Prelude.{◌≡◌, ◌<◌, ◌≤◌, length, IfOk, OnErr};
+ghost use Rattle.std.specs.Prelude.{◌≡◌, ◌<◌, ◌≤◌, ◌^◌, length, IfOk, OnErr};
+ghost use Rattle.pm_map.specs.Moves.{IsSide};
+ghost use Rattle.pm_client.specs.Cursors.{AreWithin};
 ghost use Rattle.pm_client.specs.Kins.{Kin};
-ghost use Rattle.pm_session.specs.Events.{edits, composes, takes};
+ghost use Rattle.pm_session.specs.Events.{edits, sets, composes, takes};
 
 use crate::maker::{Maker, NoSteps};
 use crate::outcome::Outcome;
 use pm_authority::Authority;
 use pm_change::Change;
-use pm_client::{Client, EditError, Kind};
+use pm_client::{Client, CursorError, EditError, Kind};
 use std::alloc::{AllocError, Global};
 
 /// The client makes the steps of an op. Want of memory leaves it as it was.
@@ -18,7 +20,8 @@ pub fn edit<C: Change, K: Maker<C>>(
     client: &mut Client<C>,
     op: &K::Op,
 ) -> Result<Outcome<C>, AllocError>
-    requires { C.means.is_good rules.now client.old.doc }
+    requires good { C.means.is_good rules.now client.old.doc }
+    requires cursors { AreWithin (C.means.size client.old.doc) client.old.cursors }
     ensures edits { IfOk result (λ o. (o, client.new) ≡ edits C.means rules.now client.old (K.makes maker.now rules.now client.old.doc op.now)) }
     ensures err { OnErr result (client.new ≡ client.old) }
 {
@@ -33,6 +36,24 @@ pub fn edit<C: Change, K: Maker<C>>(
         Ok(count) => Ok(Outcome::Made { count }),
         Err(EditError::Refused { index, reason }) => Ok(Outcome::Refused { index, reason }),
         Err(EditError::NoMemory) => Err(AllocError),
+    }
+}
+
+/// The client sets a cursor, or tells that the position passes the document's size. Want of memory leaves it as it was.
+pub fn set_cursor<C: Change>(
+    client: &mut Client<C>,
+    pos: u64,
+    side: i8,
+) -> Result<Outcome<C>, AllocError>
+    requires side { IsSide side }
+    requires small { C.means.size client.old.doc < 2 ^ 32 }
+    ensures sets { IfOk result (λ o. (o, client.new) ≡ sets C.means client.old pos side) }
+    ensures err { OnErr result (client.new ≡ client.old) }
+{
+    match client.set_cursor(pos, side) {
+        Ok(()) => Ok(Outcome::CursorAt { pos }),
+        Err(CursorError::Range) => Ok(Outcome::NoRange),
+        Err(CursorError::NoMemory) => Err(AllocError),
     }
 }
 

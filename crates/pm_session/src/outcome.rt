@@ -20,7 +20,7 @@ pub enum Told<C: Change> {
 pub enum Outcome<C: Change> {
     /// The op made `count` steps, which are pending.
     Made { count: u64 },
-    /// The op's positions are not in order within the document. Nothing changed.
+    /// The op's positions are not in order within the document, or the cursor's passes its size. Nothing changed.
     NoRange,
     /// What the op names is not there. Nothing changed.
     NoPlace,
@@ -28,6 +28,8 @@ pub enum Outcome<C: Change> {
     NoFit,
     /// Step `index`, counted from 0, does not apply, for this reason. Nothing changed.
     Refused { index: u64, reason: C::Reason },
+    /// A cursor was set at this position.
+    CursorAt { pos: u64 },
     /// The message of this number was composed.
     Composed { number: u64 },
     /// A message was presented, and its answer kept.

@@ -4,7 +4,7 @@ ghost use Rattle.pm_client.specs.declared.taken.Kind.TheVariants.{Ask};
 ghost use Rattle.pm_session.specs.Events.{state_of, played};
 ghost use Rattle.pm_session.specs.Left.{LeftByLine};
 ghost use Rattle.pm_session.specs.Sessions.{opened, session, exchanged, brought_up, in_turn, settled};
-ghost use Rattle.pm_session.specs.Sounds.{Sound, NamesDiffer};
+ghost use Rattle.pm_session.specs.Sounds.{Sound, AllCaughtUp, NamesDiffer};
 ghost use Rattle.pm_session.specs.Suits.{SuitsRoom, LinesSuit};
 
 use crate::act::act;
@@ -114,6 +114,8 @@ impl<C: Change> Room<C> {
     pub fn settle(&mut self, alloc: Global, rules: &C::Rules) -> Result<(), AllocError>
         requires { Sound C.means rules.now (state_of self.old) }
         ensures settles { OnOk result (state_of self.new ≡ settled C.means rules.now (state_of self.old)) }
+        // Each client has then the whole log and nothing pending, and its document is the authority's.
+        ensures caught_up { OnOk result (AllCaughtUp (state_of self.new)) }
         ensures sound { Sound C.means rules.now (state_of self.new) }
         ensures names { NamesDiffer self.new.authority.log }
     {

@@ -3,8 +3,8 @@ use Rattle.std.proofs.lemmas.List.{length-map}
 use Rattle.pm_session.specs.Events.{state_of}
 use Rattle.pm_session.specs.Suits.{AllSuit}
 use Rattle.pm_session.specs.Openings.{opened-suits}
-use Rattle.pm_program.specs.declared.flat.Replace.{Replace}
-use Rattle.pm_program.specs.declared.flat.Reason.{Reason}
+use Rattle.pm_flat.specs.declared.flat.Replace.{Replace}
+use Rattle.pm_flat.specs.declared.flat.Reason.{Reason}
 use Rattle.pm_program.specs.SessionViews.{session_view}
 use Rattle.pm_program.proofs.Reports.{if-ok, reported, rooms-sound}
 use Rattle.pm_program.proofs.answer.replay.Goals as goal

@@ -21,6 +21,7 @@ loop-line-preserved c =
       last = omega (arith, c.in_ok-op.ensures.number);
       composed = search rules;
       answered = search rules;
+      cursors = search rules;
       suit = rw c.in_ok-add.ensures.ok (AllSuit-more (length c.args.names.now) [] e.lines.items op inv.suit c.in_ok-op.ensures.suits);
       read = rw (c.in_ok-add.ensures.ok, c.letters_of-used.ensures) (ops-step names e.lines.items used n op line (lines_of c.loop-line.rest.now) (lines_of c.in-Some.after.now) (ops_of names [] c.args.used 4 (lines_of c.args.bytes.now)) c.in-Some.ensures.lines read inv.read);
     }

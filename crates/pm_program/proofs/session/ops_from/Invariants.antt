@@ -12,6 +12,7 @@ invariant-loop-line l = record {
   last : l.number ≤ 100004;
   composed : vec_len l.earlier.composed ≡ length l.names;
   answered : vec_len l.earlier.answered ≡ length l.names;
+  cursors : vec_len l.earlier.cursors ≡ length l.names;
   suit : AllSuit (length l.names) [] l.earlier.lines.items;
   read : with_front l.earlier.lines.items (ops_of (map string_bytes l.names) l.earlier.lines.items l.used l.number (lines_of l.rest)) ≡ ops_of (map string_bytes l.names) [] l.fn.used 4 (lines_of l.bytes);
 }

@@ -1,5 +1,6 @@
 use Rattle.std.proofs.Common.{rules}
 use Rattle.pm_session.specs.Suits.{composes_one, gets_one}
+use Rattle.pm_program.specs.Reading.{sets_one}
 use Rattle.pm_program.proofs.Tallies.{counted-more}
 use Rattle.pm_program.proofs.earlier.Earlier.add.Goals as goal
 
@@ -14,4 +15,7 @@ invariant_of-self-2 c =
       answered_is = λ k h. rw c.in_ok-push.ensures.items
           (counted-more gets_one s.answered.items c.count-2.new.counts.items s.lines.items line c.gets_one-gets.result
           c.gets_one-gets.ensures (search rules) (search rules) c.count-2.ensures.counted (λ j l. s.answered_is j (search rules)) k (search rules));
+      cursors_are = λ k h. rw c.in_ok-push.ensures.items
+          (counted-more sets_one s.cursors.items c.count-3.new.counts.items s.lines.items line c.sets_one-sets.result
+          c.sets_one-sets.ensures (search rules) (search rules) c.count-3.ensures.counted (λ j l. s.cursors_are j (search rules)) k (search rules));
     }

@@ -1,6 +1,6 @@
 //! The text of the one paragraph.
-ghost use Rattle.std.specs.Prelude.{◌≡◌, ◌≤◌, ◌++◌, length, take, drop, true, IfOk};
-ghost use Rattle.pm_program.specs.Letters.{is_printable, all_printable};
+ghost use Rattle.std.specs.Prelude.{◌≡◌, ◌≤◌, ◌-◌, ◌++◌, length, take, drop, true, IfOk};
+ghost use Rattle.pm_flat.specs.Letters.{is_printable, all_printable};
 
 use std::alloc::{AllocError, Global};
 use std::marker::Model;
@@ -13,7 +13,7 @@ pub struct Letters {
 
 impl Model for Letters {
     ghost use Rattle.std.specs.Prelude.{◌≡◌, true, List, ℕ, string_bytes};
-    ghost use Rattle.pm_program.specs.Letters.{all_printable};
+    ghost use Rattle.pm_flat.specs.Letters.{all_printable};
 
     ghost Value = { List ℕ };
 
@@ -52,6 +52,18 @@ impl Letters {
         ensures { IfOk result (λ l. l ≡ self.now) }
     {
         Letters::new(alloc, self.as_str())
+    }
+
+    /// Those from unit `from` to unit `to`.
+    #[tactic(auto, using(crate::proofs::LetterLists::printable))]
+    pub fn part(&self, alloc: Global, from: usize, to: usize) -> Result<Letters, AllocError>
+        requires ordered { from ≤ to }
+        requires within { to ≤ length self.now }
+        ensures { IfOk result (λ l. l ≡ take (to - from) (drop from self.now)) }
+    {
+        Ok(Letters {
+            text: String::from_str(alloc, &self.as_str()[from..to])?,
+        })
     }
 
     /// These with `more` in place of those from unit `from` to unit `to`.

@@ -2,7 +2,7 @@
 use Rattle.std.proofs.Common.{◌≡◌, ℕ, zero, suc, Bool, true, false, List, [], ◌∷◌, ◌++◌, take, drop, refl}
 use Rattle.std.specs.Prelude.{◌&&◌}
 use Rattle.std.proofs.lemmas.List.Folds.{list_all-append}
-use Rattle.pm_program.specs.Letters.{is_printable, all_printable}
+use Rattle.pm_flat.specs.Letters.{is_printable, all_printable}
 
 left : (a b : Bool) → (a && b) ≡ true → a ≡ true
 left true b h = refl

@@ -1,6 +1,7 @@
 //! A document of one paragraph, and its steps.
 use crate::letters::Letters;
 use pm_change::{Change, Failed};
+use pm_map::{Mapping, Span, StepMap};
 use std::alloc::{AllocError, Global};
 
 /// The greatest content size of a document, in tokens.
@@ -29,8 +30,8 @@ pub enum Reason {
 }
 
 impl Change for Replace {
-    ghost use Rattle.pm_program.specs.Flat.{meaning};
-    ghost use Rattle.pm_program.specs.FlatLaws.{laws};
+    ghost use Rattle.pm_flat.specs.Flat.{meaning};
+    ghost use Rattle.pm_flat.specs.FlatLaws.{laws};
 
     type Rules = ();
 
@@ -63,6 +64,43 @@ impl Change for Replace {
         Err(Failed::Reason(Reason::Content { at: 0 }))
     }
 
+    fn inverse(
+        &self,
+        alloc: Global,
+        _rules: &(),
+        doc: &Letters,
+    ) -> Result<Vec<Replace>, AllocError> {
+        let back = Replace {
+            from: self.from,
+            to: self.from + self.text.len() as u32,
+            text: taken_out(alloc, doc, self.from, self.to)?,
+        };
+        Ok(vec![in alloc; back]?)
+    }
+
+    fn step_map(&self) -> StepMap {
+        let range = Span {
+            start: u64::from(self.from),
+            old_size: u64::from(self.to - self.from),
+            new_size: self.text.len() as u64,
+        };
+        StepMap::new(Some(range), None, false)
+    }
+
+    fn carry(&self, alloc: Global, mapping: &Mapping) -> Result<Option<Replace>, AllocError> {
+        mapping.paired();
+        let from = mapping.map(u64::from(self.from), 1);
+        let to = mapping.map(u64::from(self.to), -1);
+        if from.across && to.across {
+            return Ok(None);
+        }
+        Ok(Some(Replace {
+            from: from.pos as u32,
+            to: if to.pos < from.pos { from.pos } else { to.pos } as u32,
+            text: self.text.copy(alloc)?,
+        }))
+    }
+
     fn size(doc: &Letters) -> usize {
         doc.len() + 2
     }
@@ -82,8 +120,20 @@ impl Change for Replace {
     ghost laws = { laws };
 }
 
-ghost use Rattle.std.specs.Prelude.{◌≡◌};
-ghost use Rattle.pm_program.specs.Flat.{is_inside};
+ghost use Rattle.std.specs.Prelude.{◌≡◌, ◌≤◌, ◌<◌, ◌-◌, length, take, drop, IfOk};
+ghost use Rattle.pm_flat.specs.Flat.{is_inside};
+
+/// What stands between two positions of a document, which are inside its paragraph where there is something.
+fn taken_out(alloc: Global, doc: &Letters, from: u32, to: u32) -> Result<Letters, AllocError>
+    requires inside { from < to → (1 ≤ from) × (to - 1 ≤ length doc.now) }
+    ensures { IfOk result (λ l. l ≡ take (to - from) (drop (from - 1) doc.now)) }
+{
+    if from < to {
+        doc.part(alloc, from as usize - 1, to as usize - 1)
+    } else {
+        Letters::new(alloc, "")
+    }
+}
 
 /// Whether a position is inside the paragraph.
 fn is_inside(position: usize, size: usize) -> bool

@@ -1,0 +1,33 @@
+use Rattle.std.proofs.Common.{◌-◌, length, take, drop, ap, ◌∙◌}
+use Rattle.std.proofs.lemmas.List.{take_rest}
+use Rattle.pm_client.proofs.Plannings.{carried-is, plan-is}
+use Rattle.pm_client.proofs.client.Client.plan_rest.Goals as goal
+
+pub move_all-requires : goal.move_all-requires
+move_all-requires g c =
+    let m = g.C.Change.means in
+    let client = c.args.self.now in
+    let own = c.own_steps-own.result in
+    let base = c.in_ok-base.base in
+    let rest = c.args.rest.now in
+    let pending = c.as_slice.result.now in
+    let is =
+    carried-is m c.args.rules.now client rest (take (length rest - own) (drop own rest)) (take (length pending - own) (drop own pending)) own base c.in_ok-rebasing.rebasing
+    c.in_ok-rebasing.ensures (take_rest rest own) (take_rest pending own ∙ ap (drop own) c.as_slice.ensures) in
+    rw (c.as_slice-4.ensures, is, c.own_steps-own.ensures.own) (c.requires.room base c.in_ok-base.ensures)
+
+pub returns-clause-plan : goal.returns-clause-plan
+returns-clause-plan g c =
+    let m = g.C.Change.means in
+    let client = c.args.self.now in
+    let rest = c.args.rest.now in
+    let own = c.own_steps-own.result in
+    let base = c.in_ok-base.base in
+    let pending = c.as_slice.result.now in
+    let is =
+    carried-is m c.args.rules.now client rest (take (length rest - own) (drop own rest)) (take (length pending - own) (drop own pending)) own base c.in_ok-rebasing.rebasing
+    c.in_ok-rebasing.ensures (take_rest rest own) (take_rest pending own ∙ ap (drop own) c.as_slice.ensures) in
+    let dropped_is = rw (c.as_slice-2.ensures, c.as_slice-3.ensures) at c.in_ok-merge.ensures in
+    let cursors_are = rw c.as_slice-4.ensures at c.in_ok-move_all.ensures in
+    plan-is m c.args.rules.now client rest own base c.in_ok-rebasing.rebasing c.in_ok-merge.field-0 c.in_ok-move_all.field-0 c.own_steps-own.ensures.own c.own_steps-own.ensures.within
+    c.if-own-rest.false c.in_ok-base.ensures is dropped_is cursors_are

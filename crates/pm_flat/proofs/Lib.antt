@@ -1,0 +1,2 @@
+pub mod LetterLists
+pub mod Carrying
