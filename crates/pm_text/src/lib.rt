@@ -6,7 +6,7 @@ mod lone;
 mod units;
 
 pub use fault::TextError;
-pub use lone::is_whole;
+pub use lone::{first_lone, is_whole};
 pub use units::{text_of, units_of};
 
 #[cfg(test)]
