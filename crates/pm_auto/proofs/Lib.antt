@@ -14,9 +14,10 @@ mod SetLaws
 mod OnceLaws
 mod StateLaws
 mod TypeLaws
-mod TreeLaws
+pub mod TreeLaws
 pub mod AcceptLaws
 mod FewLaws
 mod SearchLaws
 mod ShareLaws
 mod GraphLaws
+mod ReachLaws

@@ -18,7 +18,7 @@ get_or-front [] ys i l = absurd (omega arith)
 get_or-front (x ∷ xs) ys zero l = refl
 get_or-front (x ∷ xs) ys (suc i) l = get_or-front xs ys i (omega arith)
 
-graph-at : (n : ℕ) (links : List (List Edge)) (s : ℕ) → Is_graph n links → Parted (edges_at links s) × Inside n (edges_at links s)
+pub graph-at : (n : ℕ) (links : List (List Edge)) (s : ℕ) → Is_graph n links → Parted (edges_at links s) × Inside n (edges_at links s)
 graph-at n [] s g = (tt, tt)
 graph-at n (es ∷ ess) zero g = g.0
 graph-at n (es ∷ ess) (suc s) g = graph-at n ess s g.1
@@ -29,7 +29,7 @@ length-wider m [] bs = refl
 length-wider m (es ∷ ess) [] = ap suc (length-wider m ess [])
 length-wider m (es ∷ ess) (b ∷ bs) = ap suc (length-wider m ess bs)
 
-wider-at : (m : List Bool) (links : List (List Edge)) (bs : List Bool) (s : ℕ) → s < length links → get_or (wider m links bs) s false ≡ get_or bs s false || one_to m (edges_at links s)
+pub wider-at : (m : List Bool) (links : List (List Edge)) (bs : List Bool) (s : ℕ) → s < length links → get_or (wider m links bs) s false ≡ get_or bs s false || one_to m (edges_at links s)
 wider-at m [] bs s l = absurd (omega arith)
 wider-at m (es ∷ ess) [] zero l = refl
 wider-at m (es ∷ ess) [] (suc s) l = wider-at m ess [] s (omega arith)
@@ -47,7 +47,7 @@ target-to m k t (x ∷ es) e h = at (eqb x.kind k) refl (target-to m k t es)
     at false q i = let r : cond false (Some x.to) (target k es) ≡ Some t = subst (λ (b : Bool). cond b (Some x.to) (target k es) ≡ Some t) q e in
         ap (λ z. get_or m x.to false || z) (i r h) ∙ or-right (get_or m x.to false)
 
-target-inside : (n k t : ℕ) (es : List Edge) → Inside n es → target k es ≡ Some t → t < n
+pub target-inside : (n k t : ℕ) (es : List Edge) → Inside n es → target k es ≡ Some t → t < n
 target-inside n k t [] g e = absurd (cc)
 target-inside n k t (x ∷ es) g e = at (eqb x.kind k) refl (target-inside n k t es g.1)
   where
@@ -70,7 +70,7 @@ begun links goals s k w h = at (target k (edges_at links s)) refl
     at (Some t) e = record { to = t; is = e; on = subst (λ (o : Option ℕ). via (λ t. leads links goals t w) o ≡ true) e h }
 
 -- the first link to a marked node: it stands at or before that of any type that leads to one
-abbrev Its_link : List Edge → Edge → Type 0
+abbrev pub Its_link : List Edge → Edge → Type 0
 Its_link es f = (target f.kind es ≡ Some f.to) × (has f.kind (edge_kinds es) ≡ true)
 
 link-here : (x : Edge) (es : List Edge) → Its_link (x ∷ es) x
@@ -83,7 +83,7 @@ link-later x es f p i = skip (eqb x.kind f.kind) refl
     skip true q = absurd (let e : has x.kind (edge_kinds es) ≡ true = subst (λ (z : ℕ). has z (edge_kinds es) ≡ true) (sym (eqb-true x.kind f.kind q)) i.1 in let t : true ≡ false = sym e ∙ p in cc)
     skip false q = rw q (i.0, i.1)
 
-first-parted : (m : List Bool) (es : List Edge) → one_to m es ≡ true → Parted es → Its_link es (first_to m es)
+pub first-parted : (m : List Bool) (es : List Edge) → one_to m es ≡ true → Parted es → Its_link es (first_to m es)
 first-parted m [] h p = absurd (cc)
 first-parted m (x ∷ es) h p = at (get_or m x.to false) refl (first-parted m es)
   where
@@ -91,7 +91,7 @@ first-parted m (x ∷ es) h p = at (get_or m x.to false) refl (first-parted m es
     at true q i = subst (λ (b : Bool). Its_link (x ∷ es) (cond b x (first_to m es))) (sym q) (link-here x es)
     at false q i = subst (λ (b : Bool). Its_link (x ∷ es) (cond b x (first_to m es))) (sym q) (link-later x es (first_to m es) p.0 (i (or-cases (get_or m x.to false) (one_to m es) h q) p.1))
 
-first-marked : (m : List Bool) (es : List Edge) → one_to m es ≡ true → get_or m (first_to m es).to false ≡ true
+pub first-marked : (m : List Bool) (es : List Edge) → one_to m es ≡ true → get_or m (first_to m es).to false ≡ true
 first-marked m [] h = absurd (cc)
 first-marked m (x ∷ es) h = at (get_or m x.to false) refl (first-marked m es)
   where

@@ -9,6 +9,10 @@ abbrev pub leads : List (List Edge) → List Bool → ℕ → List ℕ → Bool
 leads links goals s [] = slice_index_or goals s false
 leads links goals s (k ∷ w) = via (λ t. leads links goals t w) (target k (edges_at links s))
 
+-- some list leads from the node to a goal
+abbrev pub Reaches : List (List Edge) → List Bool → ℕ → Type 0
+Reaches links goals s = (w : List ℕ) × (leads links goals s w ≡ true)
+
 -- how many links stand before the first of the type
 abbrev pub rank : ℕ → List Edge → ℕ
 rank k [] = 0

@@ -13,6 +13,7 @@ pub mod Types
 pub mod Automata
 pub mod GraphProps
 pub mod Fills
+pub mod Finish
 pub mod Wraps
 pub mod Built
 pub mod Graph

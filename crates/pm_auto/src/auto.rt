@@ -1,5 +1,5 @@
 //! Automata.
-ghost use Rattle.std.specs.Prelude.{◌≡◌, ◌<◌, ◌↔◌, ℕ, List, true, length, IfOk, IfErr, IfSome};
+ghost use Rattle.std.specs.Prelude.{◌≡◌, ◌<◌, ◌↔◌, ℕ, List, true, false, slice_index_or, length, IfOk, IfErr, IfSome};
 ghost use Rattle.pm_auto.specs.Graph.{Is_graph};
 ghost use Rattle.pm_auto.specs.GraphProps.{graph-prop};
 
@@ -11,7 +11,7 @@ use crate::expr::{Expr, TypeId};
 use crate::fills::{ends_of, keep_all};
 use crate::layout::lay_out;
 use crate::mixed::has_type;
-use crate::search::search;
+use crate::search::{reaching, search};
 use crate::sets::{PlaceSet, in_order};
 use crate::width::width;
 use crate::wraps::{hold_first, keep_wrappers, links_within};
@@ -54,6 +54,7 @@ impl Auto {
     ghost use Rattle.pm_auto.specs.Built.{Is_fault};
     ghost use Rattle.pm_auto.specs.Graph.{Is_shortest};
     ghost use Rattle.pm_auto.specs.Fills.{makeable, filled};
+    ghost use Rattle.pm_auto.specs.Finish.{Finishes};
     ghost use Rattle.pm_auto.specs.Wraps.{Compatible, wrap_links, wrap_goals};
 
     /// The automaton of the expression; `inline` says of each type whether it is inline;
@@ -155,6 +156,17 @@ impl Auto {
         let links = keep_all(alloc, can, self.edges.as_slice())?;
         let goals = ends_of(alloc, self, after, to_end)?;
         search(alloc, links.as_slice(), goals.as_slice(), state)
+    }
+
+    /// For each state whether some list of types that can be made, by `can`, leads from it to a valid end. A type without an
+    /// entry in `can` can't be made.
+    pub fn finishing(&self, alloc: Global, can: &[bool]) -> Result<Listed<bool>, AllocError>
+        ensures states { IfOk result (λ l. length l ≡ length self.now.sets) }
+        ensures finish { IfOk result (λ l. (s : ℕ) → s < length self.now.sets → (slice_index_or l s false ≡ true) ↔ Finishes can.now self.now s) }
+    {
+        let links = keep_all(alloc, can, self.edges.as_slice())?;
+        let goals = ends_of(alloc, self, &[], true)?;
+        reaching(alloc, links.as_slice(), goals.as_slice())
     }
 
     /// The shortest list of wrappers, by `may_wrap`, of which the first stands in the state, each later one stands first in

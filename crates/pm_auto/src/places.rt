@@ -62,12 +62,21 @@ pub(crate) fn either(a: Part, b: Part) -> Result<Part, AllocError>
         mut first,
         may_be_empty,
     } = a;
+    let ends = may_be_empty || b.may_be_empty;
+    // The first of several parts is taken as it is, so that brackets within brackets cost no more than their items.
+    if rows.is_empty() && first.is_empty() {
+        return Ok(Part {
+            rows: b.rows,
+            first: b.first,
+            may_be_empty: ends,
+        });
+    }
     rows.append(b.rows)?;
     first.append(b.first)?;
     Ok(Part {
         rows,
         first,
-        may_be_empty: may_be_empty || b.may_be_empty,
+        may_be_empty: ends,
     })
 }
 

@@ -1,6 +1,6 @@
 //! The shortest list of types along links.
-ghost use Rattle.std.specs.Prelude.{◌≡◌, ◌<◌, true, false, length, IfOk, slice_index_or};
-ghost use Rattle.pm_auto.specs.Graph.{Is_graph, Is_shortest};
+ghost use Rattle.std.specs.Prelude.{◌≡◌, ◌<◌, ◌↔◌, ℕ, true, false, length, IfOk, slice_index_or};
+ghost use Rattle.pm_auto.specs.Graph.{Is_graph, Is_shortest, Reaches};
 ghost use Rattle.pm_auto.specs.Near.{one_to as one_to_is, wider, first_to as first_to_is, trail};
 
 use crate::auto::Edge;
@@ -73,6 +73,27 @@ fn widen(alloc: Global, links: &[Listed<Edge>], marks: &[bool]) -> Result<Listed
         list.push(marked)?;
     }
     Ok(list)
+}
+
+/// The nodes from which some list of types leads to a goal.
+pub fn reaching(
+    alloc: Global,
+    links: &[Listed<Edge>],
+    goals: &[bool],
+) -> Result<Listed<bool>, AllocError>
+    requires graph { Is_graph (length links.now) links.now }
+    requires goals { length goals.now ≡ length links.now }
+    ensures full { IfOk result (λ l. length l ≡ length links.now) }
+    ensures reach { IfOk result (λ l. (s : ℕ) → s < length links.now → (slice_index_or l s false ≡ true) ↔ Reaches links.now goals.now s) }
+{
+    let mut last = copy(alloc, goals)?;
+    'rounds: loop {
+        let next = widen(alloc, links, last.as_slice())?;
+        if same_marks(next.as_slice(), last.as_slice()) {
+            return Ok(last);
+        }
+        last = next;
+    }
 }
 
 /// The list that goes one round nearer at each step, from the node that the last round reaches.

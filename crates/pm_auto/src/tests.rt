@@ -107,28 +107,6 @@ fn a_repetition_without_places_is_built(rt: HostRuntime) -> Result<(), Fail> {
 }
 
 #[test]
-fn lists_of_the_manual_are_accepted(rt: HostRuntime) -> Result<(), Fail> {
-    let alloc = rt.alloc();
-    let first = build(
-        alloc,
-        Expr::Seq(vec![in alloc; Expr::One(3), plus(alloc, Expr::One(1))?]?),
-    )?;
-    assert!(rt; !accepts(&first, first.start(), [3].as_slice()));
-    assert!(rt; accepts(&first, first.start(), [3, 1, 1].as_slice()));
-    assert!(rt; !accepts(&first, first.start(), [1].as_slice()));
-    let either = Expr::Choice(vec![in alloc; Expr::One(1), Expr::One(2)]?);
-    let some = build(alloc, plus(alloc, either)?)?;
-    assert!(rt; !accepts(&some, some.start(), [].as_slice()));
-    assert!(rt; accepts(&some, some.start(), [2, 1, 2].as_slice()));
-    let few = build(alloc, range(alloc, Expr::One(1), 2, Some(5))?)?;
-    assert!(rt; !accepts(&few, few.start(), [1].as_slice()));
-    assert!(rt; accepts(&few, few.start(), [1, 1].as_slice()));
-    assert!(rt; accepts(&few, few.start(), [1, 1, 1, 1, 1].as_slice()));
-    assert!(rt; !accepts(&few, few.start(), [1, 1, 1, 1, 1, 1].as_slice()));
-    Ok(())
-}
-
-#[test]
 fn the_small_schema_is_filled_and_wrapped(rt: HostRuntime) -> Result<(), Fail> {
     let alloc = rt.alloc();
     let autos = schema(alloc)?;

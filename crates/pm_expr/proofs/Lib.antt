@@ -1,0 +1,5 @@
+mod ReaderLaws
+mod SeenLaws
+mod ReadingLaws
+mod Scans
+mod Joins

@@ -1,0 +1,7 @@
+pub mod Tokens
+pub mod Names
+pub mod Grammar
+pub mod Reading
+pub mod Reader
+pub mod Tables
+pub mod Views

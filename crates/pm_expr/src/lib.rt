@@ -1,0 +1,16 @@
+//! Content expressions as text: `parse` reads one against the names of a schema.
+#![tactic(auto)]
+
+pub mod error;
+mod join;
+pub mod names;
+mod reader;
+mod reading;
+mod scan;
+#[cfg(test)]
+mod tests;
+mod tokens;
+
+pub use error::ExprError;
+pub use names::{NameGroups, Names};
+pub use reading::parse;
