@@ -1,0 +1,76 @@
+-- Automata of all types, and dead ends.
+use Rattle.std.proofs.Common.{◌≡◌, ◌⊎◌, ℕ, suc, ◌+◌, ◌<◌, ◌≤◌, ◌++◌, ◌∷◌, List, [], Bool, true, length, get_or, ap, ◌∙◌, sym, subst, inl, inr, arith, length-append}
+use Rattle.std.specs.Prelude.{Option, Some, None, is_some, MatchOption}
+use Rattle.pm_auto.specs.declared.auto.Auto.{Auto}
+use Rattle.pm_auto.specs.declared.error.AutoError.{AutoError}
+use Rattle.pm_auto.specs.declared.error.AutoError.TheVariants.{Mixed, TooWide, NoMemory}
+use Rattle.pm_auto.specs.Expand.{expand}
+use Rattle.pm_auto.specs.Table.{width, rows}
+use Rattle.pm_auto.specs.States.{start_of, Too_many}
+use Rattle.pm_auto.specs.Types.{Is_mixed}
+use Rattle.pm_auto.specs.Built.{Is_fault}
+use Rattle.pm_auto.specs.Finish.{Finishes}
+use Rattle.pm_schema.specs.declared.spec.NodeSpec.{NodeSpec}
+use Rattle.pm_schema.specs.declared.spec.SchemaSpec.{SchemaSpec}
+use Rattle.pm_schema.specs.Carried.{carried}
+use Rattle.pm_schema.specs.Types.{node_at}
+use Rattle.pm_schema.specs.Generated.{nth, IsAutoOf, AutosOf, Finishing, DeadState, IsGeneratable, FirstDeadEnd}
+use Rattle.pm_schema.specs.Refusals.{inline_table, HasAutomaton, IsNamed, IsRefused}
+use Rattle.pm_schema.proofs.Orders.{le_or_lt}
+use Rattle.pm_schema.proofs.Tables.{nth-is, autos-more}
+
+-- what is known of an automaton that was built
+pub record Built (n : NodeSpec) (inline : List Bool) (a : Auto) : Type 0 where
+  pub auto : IsAutoOf n.content a
+  pub pure : Is_mixed n.content inline → ⊥
+  pub narrow : width (expand n.content) < 4097
+  pub few : Too_many (rows 0 (expand n.content)) (start_of (expand n.content)) → ⊥
+
+built-has : (s : SchemaSpec) (i : ℕ) (a : Auto) → Built (node_at s i) (inline_table s) a → HasAutomaton s i
+built-has s i a b = record { pure = b.pure; narrow = λ f. at f.1 }
+  where
+    at : (4096 < width (expand (node_at s i).content)) ⊎ Too_many (rows 0 (expand (node_at s i).content)) (start_of (expand (node_at s i).content)) → ⊥
+    at (inl l) = omega (arith, l, b.narrow)
+    at (inr m) = b.few m
+
+-- one more automaton
+pub built-more : (s : SchemaSpec) (as' new : List Auto) (i : ℕ) (n : NodeSpec) (a : Auto) (inline : List Bool) → length as' ≡ i → i < length s.nodes → n ≡ get_or s.nodes i n → inline ≡ inline_table s
+    → new ≡ as' ++ a ∷ [] → AutosOf s.nodes as' → ((j : ℕ) → j < i → HasAutomaton s j) → Built n inline a
+    → (length new ≡ i + 1) × AutosOf s.nodes new × ((j : ℕ) → j < i + 1 → HasAutomaton s j)
+built-more s as' new i n a inline li l en ei e all have b =
+    let len : length (as' ++ a ∷ []) ≡ suc (length as') = rw length-append (omega arith) in
+    let m : length new ≡ i + 1 = ap length e ∙ omega (arith, len, li) in
+    let q : n ≡ node_at s i = nth-is s.nodes i n l en in
+    let c : Built (node_at s i) (inline_table s) a = subst (λ (t : List Bool). Built (node_at s i) t a) ei (subst (λ (x : NodeSpec). Built x inline a) q b) in
+    let d : IsAutoOf (nth s.nodes (length as')).content a = subst (λ (j : ℕ). IsAutoOf (nth s.nodes j).content a) (sym li) c.auto in
+    (m, subst (AutosOf s.nodes) (sym e) (autos-more s.nodes as' a d all), λ j k. at c j (le_or_lt i j) k)
+  where
+    at : Built (node_at s i) (inline_table s) a → (j : ℕ) → (i ≤ j) ⊎ (j < i) → j < i + 1 → HasAutomaton s j
+    at c j (inl x) k = let z : i ≡ j = omega (arith, x, k) in subst (HasAutomaton s) z (built-has s i a c)
+    at c j (inr x) k = have j x
+
+-- the fault of the first type without automaton
+pub fault-refused : (s : SchemaSpec) (i : ℕ) (n : NodeSpec) (inline : List Bool) (e : AutoError) → IsNamed s → i < length s.nodes → n ≡ get_or s.nodes i n → inline ≡ inline_table s → ((j : ℕ) → j < i → HasAutomaton s j)
+    → Is_fault n.content inline e → IsRefused s (carried e)
+fault-refused s i n inline e named l en ei have f = at e (subst (λ (t : List Bool). Is_fault (node_at s i).content t e) ei (subst (λ (x : NodeSpec). Is_fault x.content inline e) (nth-is s.nodes i n l en) f))
+  where
+    at : (e : AutoError) → Is_fault (node_at s i).content (inline_table s) e → IsRefused s (carried e)
+    at Mixed f = (named, record { kind = i; inside = l; fault = f; before = have })
+    at TooWide f = (named, record { kind = i; inside = l; fault = f; before = have })
+    at NoMemory f = tt
+
+pub dead-at : (table : List Bool) (a : Auto) (o : Option ℕ) → is_some o ≡ true → MatchOption o (Unit {0}) (λ s. s < length a.sets) → MatchOption o (Finishing table a) (λ s. Finishes table a s → ⊥) → DeadState table a
+dead-at table a None h i d = absurd (cc)
+dead-at table a (Some s) h i d = record { state = s; inside = i; stuck = d }
+
+-- the first type with a dead end
+pub dead-first : (s : SchemaSpec) (autos : List Auto) (table : List Bool) (k : ℕ) (a : Auto) → k < length autos → length autos ≡ length s.nodes → AutosOf s.nodes autos → IsGeneratable s.nodes table → a ≡ get_or autos k a
+    → ((j : ℕ) (d : Auto) → j < k → Finishing table (get_or autos j d)) → DeadState table a → FirstDeadEnd s.nodes k
+dead-first s autos table k a l full autos-of g e before d =
+    record {
+      table = table;
+      generatable = g;
+      inside = omega (arith, l, full);
+      dead = record { auto = a; of_content = subst (λ (b : Auto). IsAutoOf (nth s.nodes k).content b) (sym e) (autos-of k a l); dead = d };
+      before = λ j m. record { auto = get_or autos j a; of_content = autos-of j a (omega (arith, l, m)); live = before j a m };
+    }

@@ -1,0 +1,10 @@
+mod Orders
+mod Places
+mod Tables
+mod Shares
+mod Rounds
+mod Rows
+mod Dead
+mod Makes
+mod Pairs
+mod Differ

@@ -1,0 +1,116 @@
+-- Rounds over the types that add those that can be made.
+use Rattle.std.proofs.Common.{◌≡◌, ◌<◌, ◌≤◌, ◌⊎◌, ◌↔◌, ℕ, zero, suc, ◌+◌, Bool, true, false, ◌&&◌, List, [], ◌∷◌, length, get_or, set, replicate, refl, ap, ◌∙◌, sym, subst, inl, inr, arith}
+use Rattle.pm_schema.proofs.Orders.{le_or_lt}
+use Rattle.pm_auto.specs.Finish.{all_can, Finishes}
+use Rattle.pm_auto.specs.declared.auto.Auto.{Auto}
+use Rattle.pm_schema.specs.declared.spec.NodeSpec.{NodeSpec}
+use Rattle.pm_schema.specs.Contents.{Runs}
+use Rattle.pm_schema.specs.Made.{can_be_made}
+use Rattle.pm_schema.specs.Generated.{nth, Has, IsMade, IsLeast, falses}
+
+-- the table after the first k types of a round
+pub record Round (nodes : List NodeSpec) (old table : List Bool) (more : Bool) (k : ℕ) : Type 0 where
+  pub full : length table ≡ length nodes
+  pub least : IsLeast nodes old → IsLeast nodes table
+  pub fewer : more ≡ true → falses table < falses old
+  pub same : more ≡ false → table ≡ old
+  pub closed : more ≡ false → (j : ℕ) → j < k → IsMade (nth nodes j) table → Has table j
+
+-- the automaton of a content tells whether the type is made
+pub made-is : (n : NodeSpec) (a : Auto) (table : List Bool) (b : Bool) → Runs n.content a → can_be_made n ≡ true → (b ≡ true) ↔ Finishes table a 0 → (b ≡ true) ↔ IsMade n table
+made-is n a table b r c f = (
+  (λ e. let g : Finishes table a 0 = f.0 e in record { can = c; list = g.list; of_table = g.makeable; fit = sym (r.accepts g.list) ∙ g.ends }),
+  (λ m. f.1 record { list = m.list; makeable = m.of_table; ends = r.accepts m.list ∙ m.fit }),
+)
+
+pub not-made : (n : NodeSpec) (table : List Bool) → can_be_made n ≡ false → (false ≡ true) ↔ IsMade n table
+not-made n table c = ((λ e. absurd (cc)), (λ m. absurd (let z : true ≡ false = sym m.can ∙ c in cc)))
+
+falses-set : (bs : List Bool) (i : ℕ) → i < length bs → get_or bs i false ≡ false → falses (set bs i true) < falses bs
+falses-set [] i l e = absurd (omega arith)
+falses-set (true ∷ bs) zero l e = absurd (cc)
+falses-set (false ∷ bs) zero l e = omega arith
+falses-set (true ∷ bs) (suc i) l e = falses-set bs i (omega arith) e
+falses-set (false ∷ bs) (suc i) l e = let z : falses (set bs i true) < falses bs = falses-set bs i (omega arith) e in omega (arith, z)
+
+has-set : (bs : List Bool) (i j : ℕ) → Has (set bs i true) j → (i ≡ j) ⊎ Has bs j
+has-set [] i j h = inr h
+has-set (b ∷ bs) zero zero h = inl refl
+has-set (b ∷ bs) zero (suc j) h = inr h
+has-set (b ∷ bs) (suc i) zero h = inr h
+has-set (b ∷ bs) (suc i) (suc j) h = next (has-set bs i j h)
+  where
+    next : (i ≡ j) ⊎ Has bs j → (suc i ≡ suc j) ⊎ Has bs j
+    next (inl e) = inl (ap suc e)
+    next (inr h) = inr h
+
+both : (b c : Bool) → b && c ≡ true → (b ≡ true) × (c ≡ true)
+both true c h = (refl, h)
+both false c h = absurd (cc)
+
+-- a list of types of a table is one of a table around it
+all_can-more : (table other : List Bool) → ((k : ℕ) → Has table k → Has other k) → (w : List ℕ) → all_can table w ≡ true → all_can other w ≡ true
+all_can-more table other f [] h = refl
+all_can-more table other f (k ∷ w) h =
+    let b : (get_or table k false ≡ true) × (all_can table w ≡ true) = both (get_or table k false) (all_can table w) h in
+    rw (f k b.0, all_can-more table other f w b.1) refl
+
+made-more : (n : NodeSpec) (table other : List Bool) → ((k : ℕ) → Has table k → Has other k) → IsMade n table → IsMade n other
+made-more n table other f m = record { can = m.can; list = m.list; of_table = all_can-more table other f m.list m.of_table; fit = m.fit }
+
+-- adding a type that is made keeps the table within each closed one
+least-more : (nodes : List NodeSpec) (table : List Bool) (i : ℕ) → i < length nodes → IsMade (nth nodes i) table → IsLeast nodes table → IsLeast nodes (set table i true)
+least-more nodes table i l m least other closed j h = at (has-set table i j h)
+  where
+    at : (i ≡ j) ⊎ Has table j → Has other j
+    at (inl e) = subst (Has other) e (closed i l (made-more (nth nodes i) table other (λ k x. least other closed k x) m))
+    at (inr x) = least other closed j x
+
+length-set : (bs : List Bool) (i : ℕ) → length (set bs i true) ≡ length bs
+length-set [] i = refl
+length-set (b ∷ bs) zero = refl
+length-set (b ∷ bs) (suc i) = ap suc (length-set bs i)
+
+pub round-begins : (nodes : List NodeSpec) (table : List Bool) → length table ≡ length nodes → Round nodes table table false 0
+round-begins nodes table l =
+    record { full = l; least = λ x. x; fewer = λ e. absurd (cc); same = λ e. refl; closed = λ e j k m. absurd (omega arith) }
+
+-- a type that is made goes into the table
+pub round-adds : (nodes : List NodeSpec) (old table : List Bool) (more : Bool) (k : ℕ) → k < length nodes → get_or table k false ≡ false → IsMade (nth nodes k) table → Round nodes old table more k
+    → Round nodes old (set table k true) true (k + 1)
+round-adds nodes old table more k l e m r =
+    let f : falses (set table k true) < falses table = falses-set table k (omega (arith, r.full)) e in
+    record {
+      full = length-set table k ∙ r.full;
+      least = λ x. least-more nodes table k l m (r.least x);
+      fewer = λ t. at more refl f;
+      same = λ t. absurd (cc);
+      closed = λ t j i n. absurd (cc);
+    }
+  where
+    at : (b : Bool) → more ≡ b → falses (set table k true) < falses table → falses (set table k true) < falses old
+    at true q f = let g : falses table < falses old = r.fewer q in omega (arith, f, g)
+    at false q f = subst (λ (t : List Bool). falses (set table k true) < falses t) (r.same q) f
+
+-- one that is in the table already, or isn't made, changes nothing
+pub round-passes : (nodes : List NodeSpec) (old table : List Bool) (more : Bool) (k : ℕ) → (IsMade (nth nodes k) table → Has table k) → Round nodes old table more k → Round nodes old table more (k + 1)
+round-passes nodes old table more k p r =
+    record {
+      full = r.full;
+      least = r.least;
+      fewer = r.fewer;
+      same = r.same;
+      closed = λ t j i m. at t j (le_or_lt k j) i m;
+    }
+  where
+    at : more ≡ false → (j : ℕ) → (k ≤ j) ⊎ (j < k) → j < k + 1 → IsMade (nth nodes j) table → Has table j
+    at t j (inl a) i m = let z : k ≡ j = omega (arith, a, i) in subst (Has table) z (p (subst (λ (n : ℕ). IsMade (nth nodes n) table) (sym z) m))
+    at t j (inr a) i m = r.closed t j a m
+
+none-has : (n k : ℕ) → Has (replicate n false) k → ⊥
+none-has zero k h = absurd (cc)
+none-has (suc n) zero h = absurd (cc)
+none-has (suc n) (suc k) h = none-has n k h
+
+pub least-begins : (nodes : List NodeSpec) (n : ℕ) → IsLeast nodes (replicate n false)
+least-begins nodes n other closed k h = absurd (none-has n k h)

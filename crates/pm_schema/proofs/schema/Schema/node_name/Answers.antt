@@ -1,0 +1,9 @@
+use Rattle.std.proofs.Common.{◌∙◌, ap, List, ℕ}
+use Rattle.pm_schema.specs.Names.{place_of}
+use Rattle.pm_schema.specs.Types.{names_of_nodes}
+use Rattle.pm_schema.proofs.Differ.{node-found}
+use Rattle.pm_schema.proofs.schema.Schema.node_name.Goals as goal
+
+pub returns-clause-found : goal.returns-clause-found
+returns-clause-found c =
+    ap (λ (n : List ℕ). place_of n (names_of_nodes c.args.self.now.spec)) c.name_of_node.ensures ∙ node-found c.args.self.now.spec c.args.kind c.requires c.args.self.now.names_differ

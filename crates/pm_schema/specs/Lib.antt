@@ -1,0 +1,10 @@
+pub mod Carried
+pub mod Names
+pub mod Types
+pub mod Contents
+pub mod MarkTexts
+pub mod Made
+pub mod Documents
+pub mod Attrs
+pub mod Generated
+pub mod Refusals

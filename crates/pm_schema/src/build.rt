@@ -1,0 +1,70 @@
+//! Building a schema.
+ghost use Rattle.std.specs.Prelude.{◌≡◌, length, map, IfOk, IfErr, OnOk};
+ghost use Rattle.pm_schema.specs.Made.{can_wrap};
+ghost use Rattle.pm_schema.specs.Generated.{AutosOf, AllFinishing, IsGeneratable};
+ghost use Rattle.pm_schema.specs.Refusals.{HasAutomata, IsNamed, IsRefused};
+
+use crate::ends::{build_autos, check_ends};
+use crate::error::SchemaError;
+use crate::generated::generatable;
+use crate::marks::{allowed_rows, check_marks, exclude_rules};
+use crate::naming::name_types;
+use crate::schema::Schema;
+use crate::spec::{NodeSpec, SchemaSpec};
+use crate::types::find_types;
+use pm_list::Listed;
+use std::alloc::{AllocError, Global};
+
+/// For each type whether it may be put around others.
+fn wrappers(alloc: Global, nodes: &[NodeSpec]) -> Result<Listed<bool>, AllocError>
+    ensures { IfOk result (λ l. l ≡ map can_wrap nodes.now) }
+{
+    let mut list = Listed::new(alloc);
+    for node in nodes {
+        list.push(node.can_wrap())?;
+    }
+    Ok(list)
+}
+
+impl Schema {
+    /// The schema of these types. A schema that is built has no dead end: from each state of each type a valid end can be
+    /// reached through types that can be made.
+    ///
+    /// The refusals, in the order in which they are looked for: `NoTop` where no type has the top name or it is `text`;
+    /// `NoText` where no type is called `text`; `TextAttrs` where that type has an attribute or content; `DoubleName` where
+    /// two types, of nodes or of marks, have one name; `UnknownMark` where a name in `marks` or `excludes` is that of no mark
+    /// type and of no group; `Content` with the fault of the first type for whose content there is no automaton; `DeadEnd`
+    /// with the first type that has a state from which no generatable types lead to a valid end.
+    pub fn build(alloc: Global, spec: SchemaSpec) -> Result<Schema, SchemaError>
+        ensures spec { IfOk result (λ s. s.spec ≡ spec) }
+        ensures named { OnOk result (IsNamed spec) }
+        ensures full { IfOk result (λ s. length s.autos ≡ length spec.nodes) }
+        ensures automata { IfOk result (λ s. AutosOf spec.nodes s.autos) }
+        ensures have { OnOk result (HasAutomata spec) }
+        ensures generatable { IfOk result (λ s. IsGeneratable spec.nodes s.generatable) }
+        ensures no_dead_end { IfOk result (λ s. AllFinishing s.generatable s.autos) }
+        ensures refused { IfErr result (IsRefused spec) }
+    {
+        let (top, text) = find_types(&spec)?;
+        let (node_names, mark_names) = name_types(alloc, &spec)?;
+        check_marks(alloc, &spec)?;
+        let autos = build_autos(alloc, &spec)?;
+        let generatable = generatable(alloc, spec.nodes.as_slice(), autos.as_slice())?;
+        check_ends(alloc, &spec, autos.as_slice(), generatable.as_slice())?;
+        let allowed = allowed_rows(alloc, &spec, autos.as_slice())?;
+        let rules = exclude_rules(alloc, &spec)?;
+        let may_wrap = wrappers(alloc, spec.nodes.as_slice())?;
+        Ok(Schema {
+            spec,
+            node_names,
+            mark_names,
+            top,
+            text,
+            autos,
+            allowed,
+            rules,
+            generatable,
+            may_wrap,
+        })
+    }
+}

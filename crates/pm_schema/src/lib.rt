@@ -1,0 +1,26 @@
+//! Schemas: the types of nodes and marks, what may stand in what, and which attributes they have.
+#![tactic(auto)]
+
+mod attrs;
+mod build;
+mod ends;
+mod error;
+mod generated;
+mod kinds;
+pub mod laws;
+mod mark_texts;
+mod marks;
+mod names;
+mod naming;
+mod schema;
+mod spec;
+mod types;
+
+pub use error::{AttrError, SchemaError};
+pub use kinds::AnyType;
+pub use pm_attrs::Attrs;
+pub use schema::Schema;
+pub use spec::{AttrSpec, MarkSpec, NodeSpec, SchemaSpec};
+
+#[cfg(test)]
+mod tests;

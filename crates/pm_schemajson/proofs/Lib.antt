@@ -1,0 +1,3 @@
+mod Ascii
+mod Fronts
+mod Unbuilt

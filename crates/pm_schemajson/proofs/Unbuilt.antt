@@ -1,0 +1,177 @@
+-- Reading alone never tells a fault of building.
+use Rattle.std.proofs.Common.{◌≡◌, ℕ, ◌+◌, List, [], ◌∷◌, Bool, true, false, Option, Some, None, Result, Ok, Err, map, sym, subst}
+use Rattle.std.specs.Prelude.{codes, option_and_then, IfErr, if◌then◌else◌}
+use Rattle.std.specs.Result.{IsErrAnd}
+use Rattle.serde_json.specs.Data.{Data, Items, no_items, item, Members, no_members, member}
+use Rattle.serde_json.specs.Find.{get, as_str, as_bool, as_array, as_object}
+use Rattle.pm_list.specs.Readings.{◌>>=◌}
+use Rattle.pm_auto.specs.Tree.{Tree}
+use Rattle.pm_expr.specs.Names.{Named}
+use Rattle.pm_expr.specs.Reader.{expr_of}
+use Rattle.pm_expr.specs.declared.error.ExprError.{ExprError}
+use Rattle.pm_expr.specs.declared.error.ExprError.TheVariants as expr
+use Rattle.pm_value.specs.Plain.{Plain}
+use Rattle.pm_value.specs.Reading.{value_of}
+use Rattle.pm_value.specs.declared.fault.ValueError.{ValueError}
+use Rattle.pm_value.specs.declared.fault.ValueError.TheVariants as value
+use Rattle.pm_schemajson.specs.declared.error.Field.{Field}
+use Rattle.pm_schemajson.specs.declared.error.Field.TheVariants as the
+use Rattle.pm_schemajson.specs.declared.error.SchemaReadError.{SchemaReadError}
+use Rattle.pm_schemajson.specs.declared.error.SchemaReadError.TheVariants.{Shape, Expr, Schema, Attr, NoMemory, Name}
+use Rattle.pm_schemajson.specs.Answers.{Fails}
+use Rattle.pm_schemajson.specs.Types.{NodeType}
+use Rattle.pm_schemajson.specs.Words.{is_name, names_in}
+use Rattle.pm_schemajson.specs.Fields.{field, of_kind, text_if, text_or, truth_or}
+use Rattle.pm_schemajson.specs.Reading.{name_of, well_formed, groups_of, default_from, default_of, attr_list, attrs_of, node_fields, mark_fields, node_list, mark_list, marks_of, types_of}
+use Rattle.pm_schemajson.specs.Contents.{named, with_content, content_of, contents_of, schema_of}
+use Rattle.pm_schemajson.specs.Views.{IsFault}
+
+abbrev Unbuilt : {A : Type 0} → Result A SchemaReadError → Type 0
+Unbuilt (Ok x) = Unit {0}
+Unbuilt (Err (Schema e)) = ⊥
+Unbuilt (Err _) = Unit {0}
+
+onward : {A B : Type 0} (r : Result A SchemaReadError) (f : A → Result B SchemaReadError) → Unbuilt r → ((x : A) → Unbuilt (f x)) → Unbuilt (r >>= f)
+onward (Ok x) f h g = g x
+onward (Err (Schema e)) f h g = absurd h
+onward (Err (Shape a)) f h g = tt
+onward (Err (Expr k e)) f h g = tt
+onward (Err (Attr e)) f h g = tt
+onward (Err NoMemory) f h g = tt
+onward (Err (Name a)) f h g = tt
+
+kinds : {A : Type 0} (a : Field) (o : Option A) → Unbuilt (of_kind a o)
+kinds a None = tt
+kinds a (Some x) = tt
+
+texts : (absent : List ℕ) (a : Field) (o : Option Data) → Unbuilt (text_or absent a o)
+texts absent a None = tt
+texts absent a (Some d) = kinds a (as_str d)
+
+texts-if : (a : Field) (o : Option Data) → Unbuilt (text_if a o)
+texts-if a None = tt
+texts-if a (Some d) = onward (of_kind a (as_str d)) (λ t. Ok (Some t)) (kinds a (as_str d)) (λ t. tt)
+
+truths : (absent : Bool) (a : Field) (o : Option Data) → Unbuilt (truth_or absent a o)
+truths absent a None = tt
+truths absent a (Some d) = kinds a (as_bool d)
+
+names : (d : Data) → Unbuilt (name_of d)
+unfolding name_of
+names d = onward (of_kind the.Name (option_and_then as_str (get (codes "name") d))) _ (kinds the.Name (option_and_then as_str (get (codes "name") d))) (λ n. at n (is_name n))
+  where
+    at : (n : List ℕ) (b : Bool) → Unbuilt {A = List ℕ} (if b then Ok n else Err (Name the.Name))
+    at n true = tt
+    at n false = tt
+
+forms : (a : Field) (o : Option (List (List ℕ))) → Unbuilt (well_formed a o)
+forms a None = tt
+forms a (Some w) = tt
+
+groups : (d : Data) → Unbuilt (groups_of d)
+unfolding groups_of
+groups d = onward (text_or [] the.Group (field (codes "group") d)) _ (texts [] the.Group (field (codes "group") d)) (λ t. forms the.Group (names_in t))
+
+values : (r : Result Plain ValueError) → Unbuilt (default_from r)
+values (Ok v) = tt
+values (Err value.Float) = tt
+values (Err value.Wide) = tt
+values (Err value.Deep) = tt
+values (Err value.NoMemory) = tt
+
+defaults : (o : Option Data) → Unbuilt (default_of o)
+defaults None = tt
+defaults (Some d) = values (value_of d)
+
+attributes : (ms : Members) → Unbuilt (attr_list ms)
+unfolding attr_list
+attributes no_members = tt
+attributes (member k d ms) =
+    onward (of_kind the.Attrs (as_object d)) _ (kinds the.Attrs (as_object d))
+    (λ ns. onward (default_of (get (codes "default") d)) _ (defaults (get (codes "default") d))
+    (λ v. onward (attr_list ms) (λ rest. Ok (record { name = k; default = v } ∷ rest)) (attributes ms) (λ rest. tt)))
+
+attrs : (o : Option Data) → Unbuilt (attrs_of o)
+unfolding attrs_of
+attrs None = tt
+attrs (Some d) = onward (of_kind the.Attrs (as_object d)) attr_list (kinds the.Attrs (as_object d)) attributes
+
+node : (d : Data) → Unbuilt (node_fields d)
+unfolding node_fields
+node d =
+    onward (name_of d) _ (names d)
+    (λ name. onward (text_or [] the.Content (field (codes "content") d)) _ (texts [] the.Content (field (codes "content") d))
+    (λ content. onward (groups_of d) _ (groups d)
+    (λ groups. onward (text_if the.Marks (field (codes "marks") d)) _ (texts-if the.Marks (field (codes "marks") d))
+    (λ marks. onward (truth_or false the.Inline (field (codes "inline") d)) _ (truths false the.Inline (field (codes "inline") d))
+    (λ inline. onward (truth_or false the.Atom (field (codes "atom") d)) _ (truths false the.Atom (field (codes "atom") d))
+    (λ atom. onward (attrs_of (field (codes "attrs") d)) _ (attrs (field (codes "attrs") d)) (λ _. tt)))))))
+
+mark : (d : Data) → Unbuilt (mark_fields d)
+unfolding mark_fields
+mark d =
+    onward (name_of d) _ (names d)
+    (λ name. onward (attrs_of (field (codes "attrs") d)) _ (attrs (field (codes "attrs") d))
+    (λ attrs. onward (truth_or true the.Inclusive (field (codes "inclusive") d)) _ (truths true the.Inclusive (field (codes "inclusive") d))
+    (λ inclusive. onward (text_if the.Excludes (field (codes "excludes") d)) _ (texts-if the.Excludes (field (codes "excludes") d))
+    (λ excludes. onward (groups_of d) _ (groups d) (λ _. tt)))))
+
+nodes : (ds : Items) → Unbuilt (node_list ds)
+unfolding node_list
+nodes no_items = tt
+nodes (item d ds) =
+    onward (of_kind the.Nodes (as_object d)) _ (kinds the.Nodes (as_object d))
+    (λ _. onward (node_fields d) _ (node d) (λ first. onward (node_list ds) (λ rest. Ok (first ∷ rest)) (nodes ds) (λ _. tt)))
+
+marks : (ds : Items) → Unbuilt (mark_list ds)
+unfolding mark_list
+marks no_items = tt
+marks (item d ds) =
+    onward (of_kind the.Marks (as_object d)) _ (kinds the.Marks (as_object d))
+    (λ _. onward (mark_fields d) _ (mark d) (λ first. onward (mark_list ds) (λ rest. Ok (first ∷ rest)) (marks ds) (λ _. tt)))
+
+marks-field : (o : Option Data) → Unbuilt (marks_of o)
+unfolding marks_of
+marks-field None = tt
+marks-field (Some d) = onward (of_kind the.Marks (as_array d)) mark_list (kinds the.Marks (as_array d)) marks
+
+types : (d : Data) → Unbuilt (types_of d)
+unfolding types_of
+types d =
+    onward (of_kind the.Nodes (option_and_then as_array (get (codes "nodes") d))) _ (kinds the.Nodes (option_and_then as_array (get (codes "nodes") d)))
+    (λ items. onward (node_list items) _ (nodes items)
+    (λ ns. onward (marks_of (field (codes "marks") d)) _ (marks-field (field (codes "marks") d))
+    (λ ms. onward (text_or (codes "doc") the.TopNode (field (codes "topNode") d)) _ (texts (codes "doc") the.TopNode (field (codes "topNode") d)) (λ _. tt))))
+
+content : (k : ℕ) (r : Result Tree ExprError) → Unbuilt (content_of k r)
+content k (Ok e) = tt
+content k (Err (expr.Syntax a)) = tt
+content k (Err (expr.UnknownName a)) = tt
+content k (Err (expr.Range a)) = tt
+content k (Err expr.NoMemory) = tt
+
+contents : (ns : List Named) (k : ℕ) (xs : List (NodeType (List ℕ))) → Unbuilt (contents_of ns k xs)
+unfolding contents_of
+contents ns k [] = tt
+contents ns k (x ∷ xs) =
+    onward (content_of k (expr_of ns x.content)) _ (content k (expr_of ns x.content))
+    (λ e. onward (contents_of ns (k + 1) xs) (λ rest. Ok (with_content x e ∷ rest)) (contents ns (k + 1) xs) (λ _. tt))
+
+schema : (d : Data) → Unbuilt (schema_of d)
+unfolding schema_of
+schema d =
+    onward (types_of d) _ (types d)
+    (λ t. onward (contents_of (map named t.nodes) 0 t.nodes) _ (contents (map named t.nodes) 0 t.nodes) (λ _. tt))
+
+-- a fault of the reading is why the JSON is no schema
+fault-is : (d : Data) (f : SchemaReadError) → Fails f (schema_of d) → IsFault d f
+fault-is d (Schema e) h = absurd (subst Unbuilt h (schema d))
+fault-is d (Shape a) h = h
+fault-is d (Expr k e) h = h
+fault-is d (Attr e) h = h
+fault-is d NoMemory h = tt
+fault-is d (Name a) h = h
+
+pub handed-is : {X : Type 0} (d : Data) (f : SchemaReadError) (r : Result X SchemaReadError) → IsErrAnd r (λ e. e ≡ f) → Fails f (schema_of d) → IfErr r (IsFault d)
+handed-is d f (Ok x) h i = absurd h
+handed-is d f (Err e) h i = subst (IsFault d) (sym h) (fault-is d f i)

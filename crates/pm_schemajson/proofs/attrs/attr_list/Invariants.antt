@@ -1,0 +1,9 @@
+use Rattle.std.proofs.Common.{◌≡◌}
+use Rattle.serde_json.specs.View.{members_view}
+use Rattle.pm_list.specs.Readings.{with_front}
+use Rattle.pm_schemajson.specs.Reading.{attr_list}
+use Rattle.pm_schemajson.specs.Views.{attributes}
+use Rattle.pm_schemajson.proofs.attrs.attr_list.Given as goal
+
+abbrev pub invariant-loop-name : goal.invariant-loop-name
+invariant-loop-name l = with_front (attributes l.attrs) (attr_list (members_view l.name-iterator)) ≡ attr_list (members_view l.members.entries)

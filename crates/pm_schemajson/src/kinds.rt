@@ -1,0 +1,16 @@
+//! Node types as they are read, before their content.
+use pm_list::Listed;
+use pm_schema::AttrSpec;
+use pm_value::Text;
+
+/// A node type whose content is still a text.
+#[derive(Drop)]
+pub(crate) struct NodeText {
+    pub name: Text,
+    pub content: Text,
+    pub groups: Listed<Text>,
+    pub marks: Option<Text>,
+    pub inline: bool,
+    pub atom: bool,
+    pub attrs: Listed<AttrSpec>,
+}

@@ -1,0 +1,18 @@
+//! Schemas from JSON: `read_schema` answers the schema that a JSON value writes, or its first fault.
+#![tactic(auto)]
+
+mod attrs;
+mod error;
+mod exprs;
+mod fields;
+mod kinds;
+mod marks;
+mod named;
+mod nodes;
+mod reading;
+#[cfg(test)]
+mod tests;
+mod words;
+
+pub use error::{Field, SchemaReadError};
+pub use reading::read_schema;

@@ -1,0 +1,60 @@
+//! Mark types.
+ghost use Rattle.std.specs.Prelude.{◌≡◌, codes};
+ghost use Rattle.serde_json.specs.View.{view, items_view};
+ghost use Rattle.pm_schemajson.specs.Answers.{Gives};
+ghost use Rattle.pm_schemajson.specs.Fields.{field as field_of};
+ghost use Rattle.pm_schemajson.specs.Reading.{mark_fields as fields_of_mark, mark_list as list_of_marks, marks_of as marks_from};
+ghost use Rattle.pm_schemajson.specs.Views.{mark_type, mark_types};
+
+use crate::attrs::attrs_of;
+use crate::error::{Field, SchemaReadError};
+use crate::fields::{array, field, object, text_if, truth_or};
+use crate::named::{groups_of, name_of};
+use pm_list::Listed;
+use pm_schema::MarkSpec;
+use serde_json::Value;
+use std::alloc::Global;
+
+#[tactic(auto, unfolding(crate::specs::Reading::mark_fields))]
+fn mark_fields(alloc: Global, json: &Value) -> Result<MarkSpec, SchemaReadError>
+    ensures { Gives mark_type result (fields_of_mark (view json.now)) }
+{
+    let name = name_of(alloc, json)?;
+    let attrs = attrs_of(alloc, json)?;
+    let inclusive = truth_or(json, "inclusive", Field::Inclusive, true)?;
+    let excludes = text_if(alloc, json, "excludes", Field::Excludes)?;
+    let groups = groups_of(alloc, json)?;
+    Ok(MarkSpec {
+        name,
+        attrs,
+        inclusive,
+        excludes,
+        groups,
+    })
+}
+
+#[tactic(auto, unfolding(crate::specs::Reading::mark_list))]
+fn mark_list(alloc: Global, items: &[Value]) -> Result<Listed<MarkSpec>, SchemaReadError>
+    ensures { Gives mark_types result (list_of_marks (items_view items.now)) }
+{
+    let mut marks = Listed::new(alloc);
+    for item in items {
+        object(item, Field::Marks)?;
+        marks.push(mark_fields(alloc, item)?)?;
+    }
+    Ok(marks)
+}
+
+/// The field `marks` of a schema.
+#[tactic(auto, unfolding(crate::specs::Reading::marks_of))]
+pub(crate) fn marks_of(alloc: Global, json: &Value) -> Result<Listed<MarkSpec>, SchemaReadError>
+    ensures { Gives mark_types result (marks_from (field_of (codes "marks") (view json.now))) }
+{
+    match field(json, "marks") {
+        None => Ok(Listed::new(alloc)),
+        Some(value) => {
+            let items = array(value, Field::Marks)?;
+            mark_list(alloc, items)
+        }
+    }
+}
