@@ -1,0 +1,17 @@
+pub mod TreeLaws
+pub mod Pairs
+pub mod Fronts
+pub mod Content
+pub mod Depth
+pub mod TokenFronts
+pub mod Bodies
+pub mod SetLaws
+pub mod ValueLaws
+pub mod AttrsAgain
+pub mod ObjectLaws
+pub mod MarksAgain
+pub mod NodeLaws
+pub mod Lone
+pub mod NodesAgain
+pub mod ListPuts
+pub mod ValueAnswers

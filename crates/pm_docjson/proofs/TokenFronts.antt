@@ -1,0 +1,67 @@
+-- Nodes that are read one by one: the tokens of those that were read, and then of the rest.
+use Rattle.std.proofs.Common.{◌≡◌, ℕ, suc, ◌+◌, ◌<◌, List, [], ◌∷◌, ◌++◌, length, take, drop, drop-cons, get_or, refl, ap, sym, ◌∙◌, append_assoc, add-one, length-append}
+use Rattle.std.proofs.Math.Seq.{take-suc}
+use Rattle.std.proofs.lemmas.List.{append-nil}
+use Rattle.std.specs.Prelude.{Result, Ok, Err}
+use Rattle.serde_json.specs.Data.{Data, Items, no_items, item}
+use Rattle.serde_json.specs.View.{view, items_view}
+use Rattle.serde_json.specs.declared.value.Value.{Value}
+use Rattle.pm_list.specs.Readings.{◌>>=◌}
+use Rattle.pm_schema.specs.declared.spec.SchemaSpec.{SchemaSpec}
+use Rattle.pm_tokens.specs.Tokens.{Token}
+use Rattle.pm_node.specs.Trees.{node_tokens, nodes_tokens}
+use Rattle.pm_node.specs.declared.node.Node.{Node}
+use Rattle.pm_docjson.specs.declared.fault.DocReadError.{DocReadError}
+use Rattle.pm_docjson.specs.Reading.{node_of, node_list}
+
+abbrev pub with_tokens : List Token → Result (List Token) DocReadError → Result (List Token) DocReadError
+with_tokens front (Ok rest) = Ok (front ++ rest)
+with_tokens front (Err e) = Err e
+
+pub with_tokens-none : (r : Result (List Token) DocReadError) → with_tokens [] r ≡ r
+with_tokens-none (Ok rest) = refl
+with_tokens-none (Err e) = refl
+
+pub nodes_tokens-last : (ns : List Node) (n : Node) → nodes_tokens (ns ++ n ∷ []) ≡ nodes_tokens ns ++ node_tokens n
+nodes_tokens-last [] n = append-nil (node_tokens n)
+nodes_tokens-last (x ∷ ns) n = ap (λ ts. node_tokens x ++ ts) (nodes_tokens-last ns n) ∙ sym (append_assoc (node_tokens x) (nodes_tokens ns) (node_tokens n))
+
+with_tokens-more : (front more : List Token) (r : Result (List Token) DocReadError) → with_tokens (front ++ more) r ≡ with_tokens front (with_tokens more r)
+with_tokens-more front more (Ok rest) = ap Ok (append_assoc front more rest)
+with_tokens-more front more (Err e) = refl
+
+node_list-opened : (s : SchemaSpec) (d : Data) (ds : Items) (n : Node) → node_of s d ≡ Ok n → node_list s (item d ds) ≡ with_tokens (node_tokens n) (node_list s ds)
+unfolding node_list
+node_list-opened s d ds n is = rw is (given (node_list s ds))
+  where
+    given : (r : Result (List Token) DocReadError) → (r >>= λ rest. Ok (node_tokens n ++ rest)) ≡ with_tokens (node_tokens n) r
+    given (Ok rest) = refl
+    given (Err e) = refl
+
+-- one more node
+pub node_list-more : (s : SchemaSpec) (ns : List Node) (n : Node) (d : Data) (ds : Items) → node_of s d ≡ Ok n
+    → with_tokens (nodes_tokens (ns ++ n ∷ [])) (node_list s ds) ≡ with_tokens (nodes_tokens ns) (node_list s (item d ds))
+node_list-more s ns n d ds is =
+    ap (λ front. with_tokens front (node_list s ds)) (nodes_tokens-last ns n)
+    ∙ with_tokens-more (nodes_tokens ns) (node_tokens n) (node_list s ds)
+    ∙ ap (with_tokens (nodes_tokens ns)) (sym (node_list-opened s d ds n is))
+
+pub with_tokens-all : (front : List Token) → with_tokens front (Ok []) ≡ Ok front
+with_tokens-all front = ap Ok (append-nil front)
+
+pub ruleset token_fronts = (with_tokens-none, node_list-more, with_tokens-all)
+
+-- how many tokens one more node gives
+pub tokens-more : (ns : List Node) (i : ℕ) (n : Node) → i < length ns → n ≡ get_or ns i n → length (nodes_tokens (take (i + 1) ns)) ≡ length (nodes_tokens (take i ns)) + length (node_tokens n)
+tokens-more ns i n within is =
+    let taken : take (i + 1) ns ≡ take i ns ++ n ∷ [] = rw add-one (take-suc ns i n within ∙ ap (λ x. take i ns ++ x ∷ []) (sym is)) in
+    ap (λ xs. length (nodes_tokens xs)) taken ∙ ap length (nodes_tokens-last (take i ns) n) ∙ length-append (nodes_tokens (take i ns)) (node_tokens n)
+
+pub node_list-step : (s : SchemaSpec) (ns ms : List Node) (n : Node) (vs : List Value) (i : ℕ) (v : Value) (whole : Result (List Token) DocReadError) → i < length vs → v ≡ get_or vs i v → node_of s (view v) ≡ Ok n → ms ≡ ns ++ n ∷ []
+    → with_tokens (nodes_tokens ns) (node_list s (items_view (drop i vs))) ≡ whole → with_tokens (nodes_tokens ms) (node_list s (items_view (drop (i + 1) vs))) ≡ whole
+node_list-step s ns ms n vs i v whole within is read more h =
+    let split : drop i vs ≡ v ∷ drop (i + 1) vs = rw add-one (drop-cons vs i v within ∙ ap (λ x. x ∷ drop (suc i) vs) (sym is)) in
+    ap (λ xs. with_tokens (nodes_tokens xs) (node_list s (items_view (drop (i + 1) vs)))) more
+    ∙ node_list-more s ns n (view v) (items_view (drop (i + 1) vs)) read
+    ∙ ap (λ xs. with_tokens (nodes_tokens ns) (node_list s (items_view xs))) (sym split)
+    ∙ h

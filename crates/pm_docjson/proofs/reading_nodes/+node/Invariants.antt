@@ -1,0 +1,22 @@
+use Rattle.std.proofs.Common.{◌≡◌, drop, ◌*◌, ◌+◌}
+use Rattle.serde_json.specs.Data.{depth, items_depth}
+use Rattle.serde_json.specs.View.{view, items_view}
+use Rattle.pm_node.specs.Trees.{nodes_tokens}
+use Rattle.pm_docjson.proofs.TokenFronts.{with_tokens}
+use Rattle.pm_docjson.specs.Reading.{node_list}
+use Rattle.pm_docjson.proofs.reading_nodes.+node.Given as goal
+
+abbrev pub decreases-read_node : goal.decreases-read_node
+decreases-read_node l = 4 * depth (view l.json.now) + 3
+
+abbrev pub decreases-branch_from : goal.decreases-branch_from
+decreases-branch_from l = 4 * depth (view l.json.now) + 2
+
+abbrev pub decreases-content_of : goal.decreases-content_of
+decreases-content_of l = 4 * depth (view l.json.now) + 1
+
+abbrev pub decreases-node_list : goal.decreases-node_list
+decreases-node_list l = 4 * items_depth (items_view l.items.now) + 4
+
+abbrev pub invariant-node_list-loop-item : goal.invariant-node_list-loop-item
+invariant-node_list-loop-item l = with_tokens (nodes_tokens l.nodes.items) (node_list l.schema.spec (items_view (drop l.item-index l.items))) ≡ node_list l.schema.spec (items_view l.items)

@@ -1,0 +1,9 @@
+pub mod Answers
+pub mod Fields
+pub mod Values
+pub mod Reading
+pub mod Trees
+pub mod Writing
+pub mod Writable
+pub mod Orderly
+pub mod Members

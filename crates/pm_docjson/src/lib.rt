@@ -1,0 +1,18 @@
+//! Nodes and marks as JSON values.
+#![tactic(auto)]
+
+mod fault;
+mod fields;
+mod reading_attrs;
+mod reading_marks;
+mod reading_nodes;
+mod types;
+mod writing_attrs;
+mod writing_marks;
+mod writing_nodes;
+
+pub use fault::DocReadError;
+pub use reading_marks::read_mark;
+pub use reading_nodes::read_node;
+pub use writing_marks::write_mark;
+pub use writing_nodes::write_node;

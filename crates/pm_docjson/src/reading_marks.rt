@@ -1,0 +1,75 @@
+//! JSON values as marks.
+ghost use Rattle.std.specs.Prelude.{codes};
+ghost use Rattle.serde_json.specs.View.{view, items_view};
+ghost use Rattle.pm_docjson.specs.Answers.{Gives};
+ghost use Rattle.pm_docjson.specs.Fields.{field};
+ghost use Rattle.pm_docjson.specs.Reading.{mark_of, mark_list, marks_of, as_set};
+
+use crate::fault::DocReadError;
+use crate::fields::{field, text_at};
+use crate::reading_attrs::attrs_read;
+use pm_attrs::Attrs;
+use pm_marks::{Mark, MarkSet, SetError};
+use pm_schema::{AnyType, Schema};
+use serde_json::Value as Json;
+use std::alloc::{AllocError, Global};
+
+/// The mark of a JSON value, or its first fault in the order `type`, `attrs`: `Shape` where it is no object with a text
+/// `type`, `UnknownType` where no mark type has that name, `Shape` where `attrs` is no object, and `Attr` where a value in
+/// it is none, or is for an attribute that the type does not have, or one without default is missing.
+#[tactic(auto, unfolding(crate::specs::Reading::mark_of))]
+pub fn read_mark(alloc: Global, schema: &Schema, json: &Json) -> Result<Mark<Attrs>, DocReadError>
+    ensures { Gives (λ m. m) result (mark_of schema.now.spec (view json.now)) }
+{
+    let name = text_at(json, "type")?;
+    let kind = schema.mark_named(name).ok_or(DocReadError::UnknownType)?;
+    let attrs = attrs_read(alloc, schema, AnyType::Mark(kind), json)?;
+    Ok(Mark { kind, attrs })
+}
+
+#[tactic(auto, unfolding(crate::specs::Reading::mark_list))]
+fn mark_list(
+    alloc: Global,
+    schema: &Schema,
+    items: &[Json],
+) -> Result<Vec<Mark<Attrs>>, DocReadError>
+    ensures { Gives (λ v. v.items) result (mark_list schema.now.spec (items_view items.now)) }
+{
+    let mut marks = Vec::new(alloc);
+    for item in items {
+        marks.push(read_mark(alloc, schema, item)?)?;
+    }
+    Ok(marks)
+}
+
+/// The marks that the field `marks` gives, which are to be a set.
+#[tactic(auto, unfolding(crate::specs::Reading::marks_of))]
+pub fn marks_of(alloc: Global, schema: &Schema, json: &Json) -> Result<MarkSet<Attrs>, DocReadError>
+    ensures { Gives (λ s. s) result (marks_of schema.now.spec (field (codes "marks") (view json.now))) }
+{
+    match field(json, "marks") {
+        None => Ok(MarkSet::empty(alloc)),
+        Some(value) => match value.as_array() {
+            Some(items) => {
+                let marks = mark_list(alloc, schema, items)?;
+                as_set(alloc, schema, marks)
+            }
+            None => Err(DocReadError::Shape),
+        },
+    }
+}
+
+/// The set of these marks.
+fn as_set(
+    alloc: Global,
+    schema: &Schema,
+    marks: Vec<Mark<Attrs>>,
+) -> Result<MarkSet<Attrs>, DocReadError>
+    ensures { Gives (λ s. s) result (as_set schema.now.spec marks.items) }
+{
+    match MarkSet::from_list(alloc, schema.rules(), marks) {
+        Ok(set) => Ok(set),
+        Err(SetError::NotASet) => Err(DocReadError::NotASet),
+        Err(SetError::NoMemory) => Err(DocReadError::NoMemory),
+    }
+}

@@ -1,0 +1,155 @@
+//! JSON values as nodes.
+ghost use Rattle.std.specs.Prelude.{◌≡◌, ◌<◌, codes, length, min};
+ghost use Rattle.serde_json.specs.View.{view, items_view};
+ghost use Rattle.pm_node.specs.Trees.{nodes_tokens};
+ghost use Rattle.pm_docjson.specs.Answers.{Gives};
+ghost use Rattle.pm_docjson.specs.Fields.{field};
+ghost use Rattle.pm_docjson.specs.Reading.{text_from, branch_from, body_of, bounded, node_of, node_list, content_at};
+
+use crate::fault::DocReadError;
+use crate::fields::{field, text_at};
+use crate::reading_attrs::attrs_read;
+use crate::reading_marks::marks_of;
+use crate::types::{is_leaf, text_type};
+use pm_auto::TypeId;
+use pm_node::{Body, Fragment, Node, Units};
+use pm_schema::{AnyType, Schema};
+use pm_text::units_of;
+use serde_json::Value as Json;
+use std::alloc::Global;
+
+/// The greatest number of tokens in a list of nodes.
+const MAX_TOKENS: usize = 4_294_967_295;
+
+/// The node of a JSON value, or its first fault, depth first in the order `type`, `text` (of a text alone), `attrs`,
+/// `marks`, `content` (of a text not read). `Shape` comes where a field is missing that must be there, or is of another
+/// kind; `UnknownType` where no type has the name; `EmptyText` at an empty text; `Attr` as in `read_mark`; `NotASet` where
+/// the marks are no set; `Large` after the last node of a list of more than 4,294,967,295 tokens. Neighbouring texts with
+/// equal marks are one text. Content that a leaf type has all the same is kept, so that a check of the document finds it.
+#[cycle(node)]
+#[tactic(auto, using(crate::proofs::Content::fields), unfolding(crate::specs::Reading::node_from))]
+pub fn read_node(alloc: Global, schema: &Schema, json: &Json) -> Result<Node, DocReadError>
+    ensures { Gives (λ n. n) result (node_of schema.now.spec (view json.now)) }
+{
+    let name = text_at(json, "type")?;
+    let kind = schema.node_named(name).ok_or(DocReadError::UnknownType)?;
+    if kind == text_type(schema) {
+        text_from(alloc, schema, json)
+    } else {
+        branch_from(alloc, schema, kind, json)
+    }
+}
+
+/// A text, whose content is not read.
+#[tactic(auto, unfolding(crate::specs::Reading::text_from))]
+fn text_from(alloc: Global, schema: &Schema, json: &Json) -> Result<Node, DocReadError>
+    ensures { Gives (λ n. n) result (text_from schema.now.spec (view json.now)) }
+{
+    let text = text_at(json, "text")?;
+    if text.is_empty() {
+        return Err(DocReadError::EmptyText);
+    }
+    let kind = text_type(schema);
+    let attrs = attrs_read(alloc, schema, AnyType::Node(kind), json)?;
+    let marks = marks_of(alloc, schema, json)?;
+    let units = units_of(alloc, text)?;
+    let body = Body::Text(Units::new(units));
+    Ok(Node {
+        kind,
+        attrs,
+        marks,
+        body,
+    })
+}
+
+/// A node of another type, whose content is read last.
+#[cycle(node)]
+#[tactic(auto, unfolding(crate::specs::Reading::branch_from))]
+fn branch_from(
+    alloc: Global,
+    schema: &Schema,
+    kind: TypeId,
+    json: &Json,
+) -> Result<Node, DocReadError>
+    requires { kind < length schema.now.spec.nodes }
+    ensures { Gives (λ n. n) result (branch_from schema.now.spec kind (view json.now)
+        (content_at schema.now.spec (field (codes "content") (view json.now)))) }
+{
+    let attrs = attrs_read(alloc, schema, AnyType::Node(kind), json)?;
+    let marks = marks_of(alloc, schema, json)?;
+    let content = content_of(alloc, schema, json)?;
+    let body = body_of(schema, kind, content);
+    Ok(Node {
+        kind,
+        attrs,
+        marks,
+        body,
+    })
+}
+
+/// What a node of the type holds: nothing where the type is a leaf's and there is no content.
+#[tactic(auto, using(crate::proofs::Bodies::bodies))]
+fn body_of(schema: &Schema, kind: TypeId, content: Fragment) -> Body
+    requires { kind < length schema.now.spec.nodes }
+    ensures { result ≡ body_of schema.now.spec kind content }
+{
+    if content.size() > 0 {
+        return Body::Children(content);
+    }
+    if is_leaf(schema, kind) {
+        Body::Leaf
+    } else {
+        Body::Children(content)
+    }
+}
+
+/// The nodes that the field `content` gives.
+#[cycle(node)]
+fn content_of(alloc: Global, schema: &Schema, json: &Json) -> Result<Fragment, DocReadError>
+    ensures { Gives (λ f. f) result (content_at schema.now.spec (field (codes "content") (view json.now))) }
+{
+    match field(json, "content") {
+        None => Ok(Fragment::new(alloc)),
+        Some(value) => match value.as_array() {
+            Some(items) => {
+                let nodes = node_list(alloc, schema, items)?;
+                joined(alloc, nodes)
+            }
+            None => Err(DocReadError::Shape),
+        },
+    }
+}
+
+#[cycle(node)]
+#[tactic(auto, using(crate::proofs::TokenFronts::token_fronts), unfolding(crate::specs::Reading::node_list))]
+fn node_list(alloc: Global, schema: &Schema, items: &[Json]) -> Result<Vec<Node>, DocReadError>
+    ensures { Gives (λ v. nodes_tokens v.items) result (node_list schema.now.spec (items_view items.now)) }
+{
+    let mut nodes = Vec::new(alloc);
+    for item in items {
+        nodes.push(read_node(alloc, schema, item)?)?;
+    }
+    Ok(nodes)
+}
+
+/// The nodes as a fragment, where they have not too many tokens.
+#[tactic(auto, using(crate::proofs::Bodies::bodies))]
+fn joined(alloc: Global, nodes: Vec<Node>) -> Result<Fragment, DocReadError>
+    ensures { Gives (λ f. f) result (bounded (nodes_tokens nodes.items)) }
+{
+    if token_count(&nodes) > MAX_TOKENS {
+        return Err(DocReadError::Large);
+    }
+    Ok(Fragment::from_nodes(alloc, nodes)?)
+}
+
+/// The number of the nodes' tokens, or the greatest number where they have more.
+fn token_count(nodes: &[Node]) -> usize
+    ensures { result ≡ min (length (nodes_tokens nodes.now)) usize.MAX }
+{
+    let mut count: usize = 0;
+    for node in nodes {
+        count = count.saturating_add(node.size());
+    }
+    count
+}

@@ -1,0 +1,172 @@
+//! Nodes as JSON values.
+ghost use Rattle.std.specs.Prelude.{◌≡◌, ◌<◌, ◌==◌, true, false, map, codes, IfOk, OnOk, Ok, Some, length};
+ghost use Rattle.std.specs.List.{AllByRecursion};
+ghost use Rattle.std.specs.Arc.{arc_value};
+ghost use Rattle.serde_json.specs.View.{view, items_view, items_of, members_view};
+ghost use Rattle.pm_text.specs.Units.{utf16, utf8};
+ghost use Rattle.pm_text.specs.Lone.{HasNoLone};
+ghost use Rattle.serde_json.specs.Data.{string};
+ghost use Rattle.pm_schema.specs.Documents.{documents_of};
+ghost use Rattle.pm_schema.specs.Names.{place_of};
+ghost use Rattle.pm_schema.specs.Types.{names_of_nodes, node_at};
+ghost use Rattle.pm_docjson.specs.Values.{keys};
+ghost use Rattle.pm_docjson.specs.Orderly.{IsOrderly};
+ghost use Rattle.pm_docjson.specs.Members.{attrs_field, put_list};
+ghost use Rattle.pm_docjson.specs.Reading.{attrs_read, mark_of, node_of};
+ghost use Rattle.pm_docjson.specs.Writing.{mark_written, text_written, branch_written, node_written, as_read};
+ghost use Rattle.pm_docjson.specs.Writable.{marks_fit, type_fits, IsWritable};
+
+use crate::types::text_type;
+use crate::writing_attrs::put_attrs;
+use crate::writing_marks::{typed, write_marks};
+use pm_attrs::Attrs;
+use pm_auto::TypeId;
+use pm_marks::Mark;
+use pm_node::{Body, Node, Units};
+use pm_schema::{AnyType, Schema};
+use pm_text::{TextError, text_of};
+use serde_json::{Map, Value as Json, put};
+use std::alloc::{AllocError, Global};
+use std::sync::Arc;
+
+/// The JSON value of a node, which is read back as the same node; a text is read back as one of the type of texts.
+pub fn write_node(alloc: Global, schema: &Schema, node: &Node) -> Result<Json, AllocError>
+    requires orderly { IsOrderly schema.now.spec }
+    requires writable { IsWritable schema.now.spec node.now }
+    ensures written { IfOk result (λ j. view j ≡ node_written schema.now.spec node.now) }
+    ensures again { IfOk result (λ j. node_of schema.now.spec (view j) ≡ Ok (as_read schema.now.spec node.now)) }
+{
+    node_json(alloc, schema, node)
+}
+
+#[cycle(write)]
+fn node_json(alloc: Global, schema: &Schema, node: &Node) -> Result<Json, AllocError>
+    requires orderly { IsOrderly schema.now.spec }
+    requires writable { IsWritable schema.now.spec node.now }
+    ensures written { IfOk result (λ j. view j ≡ node_written schema.now.spec node.now) }
+    ensures again { OnOk result (node_of schema.now.spec (node_written schema.now.spec node.now) ≡ Ok (as_read schema.now.spec node.now)) }
+{
+    let marks = node.marks.marks();
+    match &node.body {
+        Body::Text(units) => {
+            let json = text_json(alloc, schema, units, marks)?;
+            Ok(json)
+        }
+        Body::Leaf => {
+            let none = Vec::new(alloc);
+            let json = branch_json(alloc, schema, node.kind, &node.attrs, marks, none)?;
+            Ok(json)
+        }
+        Body::Children(content) => {
+            let _ = content.size();
+            let items = nodes_json(alloc, schema, content.children())?;
+            let json = branch_json(alloc, schema, node.kind, &node.attrs, marks, items)?;
+            Ok(json)
+        }
+    }
+}
+
+/// The JSON values of nodes.
+#[cycle(write)]
+fn nodes_json(
+    alloc: Global,
+    schema: &Schema,
+    nodes: &[Arc<Node, Global>],
+) -> Result<Vec<Json>, AllocError>
+    requires orderly { IsOrderly schema.now.spec }
+    requires each { AllByRecursion (λ x. IsWritable schema.now.spec (arc_value x)) nodes.now }
+    ensures written { IfOk result (λ v. items_view v.items ≡ items_of (map (λ x. node_written schema.now.spec (arc_value x)) nodes.now)) }
+    ensures again { OnOk result (AllByRecursion (λ x. node_of schema.now.spec (node_written schema.now.spec (arc_value x)) ≡ Ok (as_read schema.now.spec (arc_value x))) nodes.now) }
+{
+    let mut items = Vec::new(alloc);
+    for node in nodes {
+        items.push(node_json(alloc, schema, node)?)?;
+    }
+    Ok(items)
+}
+
+/// The JSON value of a text of these units and marks.
+#[tactic(auto, using(crate::proofs::ObjectLaws::puts))]
+fn text_json(
+    alloc: Global,
+    schema: &Schema,
+    units: &Units,
+    marks: &[Mark<Attrs>],
+) -> Result<Json, AllocError>
+    requires orderly { IsOrderly schema.now.spec }
+    requires marks { marks_fit schema.now.spec marks.now ≡ true }
+    requires whole { HasNoLone units.now }
+    ensures written { IfOk result (λ j. view j ≡ text_written schema.now.spec units.now marks.now) }
+    ensures named { OnOk result (place_of (node_at schema.now.spec (documents_of schema.now.spec).text).name
+        (names_of_nodes schema.now.spec) ≡ Some (documents_of schema.now.spec).text) }
+    ensures units { OnOk result (utf16 (utf8 units.now) ≡ units.now) }
+    ensures again { OnOk result (AllByRecursion (λ m. mark_of schema.now.spec (mark_written schema.now.spec m) ≡ Ok m) marks.now) }
+{
+    let name = schema.node_name(text_type(schema));
+    let mut map = typed(alloc, name)?;
+    let text = text_value(alloc, units)?;
+    put(&mut map, alloc, "text", text)?;
+    let marks = write_marks(alloc, schema, marks)?;
+    put_list(&mut map, alloc, "marks", marks)?;
+    Ok(Json::Object(map))
+}
+
+/// The text that the units spell.
+fn text_value(alloc: Global, units: &Units) -> Result<Json, AllocError>
+    requires { HasNoLone units.now }
+    ensures written { IfOk result (λ j. view j ≡ string (utf8 units.now)) }
+    ensures units { OnOk result (utf16 (utf8 units.now) ≡ units.now) }
+{
+    match text_of(alloc, units.as_slice()) {
+        Ok(text) => Ok(Json::try_from_str(alloc, text.as_str())?),
+        Err(TextError::NoMemory) => Err(AllocError),
+        Err(TextError::Lone { at: _ }) => unreachable!(),
+    }
+}
+
+/// The JSON value of a node that is no text, with the JSON values of its children.
+#[tactic(auto, using(crate::proofs::ObjectLaws::puts))]
+fn branch_json(
+    alloc: Global,
+    schema: &Schema,
+    kind: TypeId,
+    attrs: &Attrs,
+    marks: &[Mark<Attrs>],
+    content: Vec<Json>,
+) -> Result<Json, AllocError>
+    requires orderly { IsOrderly schema.now.spec }
+    requires fits { type_fits schema.now.spec kind attrs.now ≡ true }
+    requires marks { marks_fit schema.now.spec marks.now ≡ true }
+    ensures written { IfOk result (λ j. view j
+        ≡ branch_written schema.now.spec kind attrs.now marks.now (items_view content.items)) }
+    ensures named { OnOk result (place_of (node_at schema.now.spec kind).name (names_of_nodes schema.now.spec) ≡ Some kind) }
+    ensures attrs { OnOk result (attrs_read (node_at schema.now.spec kind).attrs
+        (attrs_field (keys (node_at schema.now.spec kind).attrs) attrs.now) ≡ Ok attrs.now) }
+    ensures again { OnOk result (AllByRecursion (λ m. mark_of schema.now.spec (mark_written schema.now.spec m) ≡ Ok m) marks.now) }
+{
+    let name = schema.node_name(kind);
+    let mut map = typed(alloc, name)?;
+    let marks = write_marks(alloc, schema, marks)?;
+    put_list(&mut map, alloc, "marks", marks)?;
+    put_list(&mut map, alloc, "content", content)?;
+    put_attrs(&mut map, alloc, schema, AnyType::Node(kind), attrs)?;
+    Ok(Json::Object(map))
+}
+
+/// Puts a list in, where it is not empty.
+#[tactic(auto, using(crate::proofs::ListPuts::filled))]
+fn put_list(
+    map: &mut Map<String, Json>,
+    alloc: Global,
+    key: &str,
+    items: Vec<Json>,
+) -> Result<(), AllocError>
+    ensures { OnOk result (members_view map.new.entries
+        ≡ put_list key.now (items_view items.items) (members_view map.old.entries)) }
+{
+    if items.is_empty() {
+        Ok(())
+    } else {
+        put(map, alloc, key, Json::Array(items))
+    }
+}

@@ -1,0 +1,9 @@
+pub mod TreeLaws
+pub mod WalkLaws
+pub mod KindLaws
+pub mod DeepLaws
+pub mod PairWalk
+pub mod FaultWalk
+pub mod ValueLaws
+pub mod AutoWalk
+pub mod ValidAnswers

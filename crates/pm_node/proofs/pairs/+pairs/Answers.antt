@@ -1,0 +1,47 @@
+use Rattle.std.proofs.Common.{◌≡◌, ℕ, ◌+◌, ◌*◌, ◌<◌, ◌≤◌, ◌^◌, length, arith, ap, sym, ◌∙◌, refl, subst}
+use Rattle.std.specs.Prelude.{Option, Some, None, option_map}
+use Rattle.std.specs.Arc.{arc_value}
+use Rattle.pm_tokens.specs.Faults.{Fault, Pair, first_broken}
+use Rattle.pm_node.specs.Trees.{node_tokens}
+use Rattle.pm_node.proofs.WalkLaws.{Child, child-within, child-at}
+use Rattle.pm_text.specs.Lone.{HasNoLone, IsFirstLone}
+use Rattle.pm_node.proofs.PairWalk.{Walked, walked-more, walked-broken, walked-room, walked-end, broken-content, broken-lone, broken-none}
+use Rattle.pm_node.proofs.pairs.+pairs.Goals as goal
+
+pub broken_in-returns-in-Some : goal.broken_in-returns-in-Some
+broken_in-returns-in-Some t c = sym (broken-lone c.args.at c.args.node.now c.in-Text.units c.in-Some.i c.in-Text.is (subst (λ us. IsFirstLone us c.in-Some.i) c.as_slice.ensures c.in-Some.ensures.found))
+
+pub broken_in-returns-in-None : goal.broken_in-returns-in-None
+broken_in-returns-in-None t c = sym (broken-none c.args.at c.args.node.now c.in-Text.units c.in-Text.is (subst HasNoLone c.as_slice.ensures (c.in-None.ensures.none refl)))
+
+pub broken_in-returns-in-Children : goal.broken_in-returns-in-Children
+broken_in-returns-in-Children t c = c.first_broken.ensures ∙ sym (broken-content c.args.at c.args.node.now c.in-Children.content c.in-Children.is)
+
+pub first_broken-broken_in-requires : goal.first_broken-broken_in-requires
+first_broken-broken_in-requires t c =
+    let xs = c.children-child-items.result.now in
+    let e = c.children-child-items.ensures in
+    let d : 2 * length c.args.content.now + 1 ≡ t = c.decreases in
+    let w = child-within xs _ c.child-item.result c.loop-child-test.true c.child-item.is in
+    let room = walked-room xs _ _ (child-at xs c.loop-child.child-index c.child-item.result e.normal e.each c.loop-child-test.true c.child-item.is) c.args.at c.loop-child.at c.loop-child.invariant in
+    let g : 2 * length (node_tokens c.deref-in-loop-child.result.now) < t = omega (arith, d, w, ap (λ m. length (node_tokens m)) c.deref-in-loop-child.ensures, ap length e.tokens) in
+    (g, omega (arith, room, c.requires, ap (λ m. length (node_tokens m)) c.deref-in-loop-child.ensures, ap length e.tokens))
+
+pub first_broken-returns-in-Some : goal.first_broken-returns-in-Some
+first_broken-returns-in-Some t c =
+    let xs = c.children-child-items.result.now in
+    let e = c.children-child-items.ensures in
+    let i = c.loop-child.child-index in
+    let n = c.deref-in-loop-child.result.now in
+    let k : Child xs i n = subst (Child xs i) (sym c.deref-in-loop-child.ensures) (child-at xs i c.child-item.result e.normal e.each c.loop-child-test.true c.child-item.is) in
+    sym (ap (first_broken c.args.at None) (sym e.tokens) ∙ walked-broken xs i n k c.args.at c.loop-child.at (Pair c.in-Some.place) c.loop-child.invariant (sym c.in-Some.ensures))
+
+pub first_broken-loop-child-preserved : goal.first_broken-loop-child-preserved
+first_broken-loop-child-preserved t c =
+    let xs = c.children-child-items.result.now in
+    let e = c.children-child-items.ensures in
+    let i = c.loop-child.child-index in
+    let n = c.deref-in-loop-child.result.now in
+    let k : Child xs i n = subst (Child xs i) (sym c.deref-in-loop-child.ensures) (child-at xs i c.child-item.result e.normal e.each c.loop-child-test.true c.child-item.is) in
+    let size : length (node_tokens n) ≡ c.size-size.result = ap (λ m. length (node_tokens m)) (c.deref-in-loop-child.ensures ∙ sym c.deref.ensures) ∙ sym c.size-size.ensures.size in
+    subst (λ s. Walked xs (i + 1) c.args.at (c.loop-child.at + s)) size (walked-more xs i n k c.args.at c.loop-child.at c.loop-child.invariant (sym c.broken_in.ensures ∙ ap (option_map Pair) c.in_default.is))

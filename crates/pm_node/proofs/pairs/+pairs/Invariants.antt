@@ -1,0 +1,15 @@
+use Rattle.std.proofs.Common.{◌≡◌, ◌+◌, ◌*◌, length}
+use Rattle.std.specs.Prelude.{None}
+use Rattle.pm_tokens.specs.Faults.{first_broken}
+use Rattle.pm_node.specs.Trees.{node_tokens}
+use Rattle.pm_node.proofs.PairWalk.{Walked}
+use Rattle.pm_node.proofs.pairs.+pairs.Given as goal
+
+abbrev pub invariant-first_broken-loop-child : goal.invariant-first_broken-loop-child
+invariant-first_broken-loop-child l = Walked l.child-items l.child-index l.fn.at l.at
+
+abbrev pub decreases-first_broken : goal.decreases-first_broken
+decreases-first_broken l = 2 * length l.content.now + 1
+
+abbrev pub decreases-broken_in : goal.decreases-broken_in
+decreases-broken_in l = 2 * length (node_tokens l.node.now)

@@ -1,0 +1,128 @@
+//! Fragments: made of nodes, copied, and their children by number.
+ghost use Rattle.std.specs.Prelude.{◌≡◌, ◌<◌, ◌^◌, length, slice_index_or, [], ◌++◌, ◌↔◌, IsTrue, IfOk};
+ghost use Rattle.pm_tokens.specs.Kids.{children};
+ghost use Rattle.pm_node.specs.Trees.{node_tokens, nodes_tokens, Meets};
+
+use crate::node::{Body, Fragment, Node};
+use std::alloc::{AllocError, Global};
+use std::sync::Arc;
+
+/// The greatest number of tokens of a fragment.
+const MAX_TOKENS: usize = 0xFFFF_FFFF;
+
+impl Fragment {
+    /// Whether the nodes have at most 2^32 - 1 tokens together. It takes no memory.
+    pub fn can_hold(nodes: &[Node]) -> bool
+        ensures { IsTrue result ↔ (length (nodes_tokens nodes.now) < 2 ^ 32) }
+    {
+        let mut total = 0;
+        for node in nodes {
+            let size = node.size();
+            if size > MAX_TOKENS - total {
+                return false;
+            }
+            total += size;
+        }
+        true
+    }
+
+    /// The nodes in order, with neighbouring texts of equal marks joined and empty texts let go.
+    pub fn from_nodes(alloc: Global, nodes: Vec<Node>) -> Result<Fragment, AllocError>
+        requires { length (nodes_tokens nodes.items) < 2 ^ 32 }
+        ensures { IfOk result (λ f. f ≡ nodes_tokens nodes.items) }
+    {
+        let mut made = Fragment::new(alloc);
+        let mut last = None;
+        for node in nodes {
+            last = Some(match last {
+                None => node,
+                Some(before) => {
+                    if meets(&before, &node) {
+                        joined(before, &node)?
+                    } else {
+                        made.push(alloc, Arc::new(alloc, before)?)?;
+                        node
+                    }
+                }
+            });
+        }
+        if let Some(node) = last {
+            made.push(alloc, Arc::new(alloc, node)?)?;
+        }
+        Ok(made)
+    }
+
+    /// The same nodes, shared with these.
+    pub fn copy(&self, alloc: Global) -> Result<Fragment, AllocError>
+        ensures { IfOk result (λ f. f ≡ self.now) }
+    {
+        let mut made = Fragment::new(alloc);
+        let _ = self.size();
+        for child in self.children() {
+            let child = Arc::try_clone(child)?;
+            made.push(alloc, child)?;
+        }
+        Ok(made)
+    }
+
+    /// The number of children: each leaf, each open up to its close, and each longest run of neighbouring units with equal
+    /// marks. It takes no memory.
+    pub fn len(&self) -> usize
+        ensures { result ≡ length (children self.now) }
+    {
+        self.children().len()
+    }
+
+    /// Child `i`, counted from 0. It takes no memory.
+    pub fn child(&self, i: usize) -> &Node
+        requires { i < length (children self.now) }
+        ensures { node_tokens result.now ≡ slice_index_or (children self.now) i [] }
+    {
+        &self.children()[i]
+    }
+}
+
+/// Whether both are texts, with equal marks.
+fn meets(left: &Node, right: &Node) -> bool
+    ensures { IsTrue result ↔ Meets left.now right.now }
+{
+    match (&left.body, &right.body) {
+        (Body::Text(_), Body::Text(_)) => left.marks.same(&right.marks),
+        _ => false,
+    }
+}
+
+/// The text with the units of the next one put behind its own.
+fn joined(text: Node, next: &Node) -> Result<Node, AllocError>
+    requires { Meets text next.now }
+    ensures { IfOk result (λ n. node_tokens n ≡ node_tokens text ++ node_tokens next.now) }
+{
+    let Node {
+        kind,
+        attrs,
+        marks,
+        body,
+    } = text;
+    let more = match &next.body {
+        Body::Text(units) => units.as_slice(),
+        _ => &[],
+    };
+    match body {
+        Body::Text(units) => {
+            let mut units = units;
+            units.append(more)?;
+            Ok(Node {
+                kind,
+                attrs,
+                marks,
+                body: Body::Text(units),
+            })
+        }
+        body => Ok(Node {
+            kind,
+            attrs,
+            marks,
+            body,
+        }),
+    }
+}
