@@ -1,0 +1,19 @@
+pub mod OutcomeLaws
+pub mod ReplaceLaws
+pub mod AroundLaws
+pub mod MapLaws
+pub mod RunLaws
+pub mod TokenMarks
+pub mod MarkSuits
+pub mod EffectLaws
+pub mod MarkStepLaws
+pub mod StepLaws
+pub mod LooseLaws
+pub mod PairedLaws
+pub mod MixedLaws
+pub mod MixedNodes
+pub mod HalvedPairs
+pub mod LooseRuns
+pub mod UndoLaws
+pub mod ChangeLaws
+mod Examples

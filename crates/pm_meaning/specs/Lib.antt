@@ -1,0 +1,7 @@
+pub mod Steps
+pub mod Marked
+pub mod Outcomes
+pub mod Runs
+pub mod Inverses
+pub mod Maps
+pub mod Meanings
