@@ -1,0 +1,130 @@
+-- Lemmas: a history goes on standing for its timeline, and what holds of its last event.
+use Rattle.std.specs.Prelude.{◌≡◌, ℕ, false, List, [], ◌∷◌, ◌++◌, Some, refl}
+use Rattle.std.specs.List.{AllByRecursion as Each}
+use Rattle.std.proofs.Common.{sym, ap, subst, ◌∙◌, ⊎_elim, inl, inr, append_assoc}
+use Rattle.pm_change.specs.declared.name.Name.{Name}
+use Rattle.pm_change.specs.Changes.{Meaning, Laws, fold}
+use Rattle.pm_change.specs.Folds.{fold-append, fold-good}
+use Rattle.pm_history.specs.declared.item.Item.{Item}
+use Rattle.pm_history.specs.declared.branch.Event.{Event}
+use Rattle.pm_history.specs.declared.branches.Branches.{Branches}
+use Rattle.pm_history.specs.Items.{same_name, one_step}
+use Rattle.pm_history.specs.Histories.{new_history}
+use Rattle.pm_history.specs.Timelines.{Step, changes_of, items_from}
+use Rattle.pm_history.specs.Tidy.{Differ, IsTidy}
+use Rattle.pm_history.specs.Remembers.{names_of, live_names, Lacks, StandFor, Remembers}
+use Rattle.pm_history.specs.Shows.{ShowsTo}
+use Rattle.pm_history.specs.Standing.{IsHistoryOf}
+use Rattle.pm_history.specs.Folding.{changes-append}
+use Rattle.pm_history.specs.Keeps.{stand-shows}
+
+pub each-front : {A : Type 0} (P : A → Type 0) (xs ys : List A) → Each P (xs ++ ys) → Each P xs
+each-front P [] ys h = tt
+each-front P (x ∷ xs) ys h = (h.0, each-front P xs ys h.1)
+
+pub each-back : {A : Type 0} (P : A → Type 0) (xs ys : List A) → Each P (xs ++ ys) → Each P ys
+each-back P [] ys h = h
+each-back P (x ∷ xs) ys h = each-back P xs ys h.1
+
+pub each-append : {A : Type 0} (P : A → Type 0) (xs ys : List A) → Each P xs → Each P ys → Each P (xs ++ ys)
+each-append P [] ys h k = k
+each-append P (x ∷ xs) ys h k = (h.0, each-append P xs ys h.1 k)
+
+pub differ-front : (xs ys : List Name) → Differ (xs ++ ys) → Differ xs
+differ-front [] ys h = tt
+differ-front (x ∷ xs) ys h = (each-front (λ k. same_name x k ≡ false) xs ys h.0, differ-front xs ys h.1)
+
+differ-back : (xs ys : List Name) → Differ (xs ++ ys) → Differ ys
+differ-back [] ys h = h
+differ-back (x ∷ xs) ys h = differ-back xs ys h.1
+
+pub names-append : (es fs : List Event) → names_of (es ++ fs) ≡ names_of es ++ names_of fs
+names-append [] fs = refl
+names-append (e ∷ es) fs = ap (λ ns. e.names ++ ns) (names-append es fs) ∙ sym (append_assoc e.names (names_of es) (names_of fs))
+
+-- the names of the last event are among those of all events
+last-names : (P : Name → Type 0) (es rest : List Event) (e : Event) → es ≡ rest ++ e ∷ [] → Each P (names_of es) → Each P e.names
+last-names P es rest e u h =
+    each-front P e.names [] (each-back P (names_of rest) (e.names ++ []) (subst (Each P) (ap names_of u ∙ names-append rest (e ∷ [])) h))
+
+last-differ : (es rest : List Event) (e : Event) → es ≡ rest ++ e ∷ [] → Differ (names_of es) → Differ e.names
+last-differ es rest e u h =
+    differ-front e.names [] (differ-back (names_of rest) (e.names ++ []) (subst Differ (ap names_of u ∙ names-append rest (e ∷ [])) h))
+
+pub stands-fewer : {C : Type 0} (live ns : List Name) (is js : List (Item C)) → ((P : Name → Type 0) → Each P live → Each P ns) → StandFor live is js → StandFor ns is js
+stands-fewer live ns [] [] pick h = tt
+stands-fewer live ns [] (j ∷ js) pick h = absurd h
+stands-fewer live ns (i ∷ is) [] pick h = absurd h
+stands-fewer live ns (i ∷ is) (j ∷ js) pick h = (
+  record {
+    name_is = h.0.name_is;
+    map_is = h.0.map_is;
+    undoes_is = h.0.undoes_is;
+    inverse_is = ⊎_elim (λ (e : i.inverse ≡ j.inverse). inl e)
+        (λ (k : (i.inverse ≡ []) × Each (λ n. one_step (Some n) j.name ≡ false) live). inr (k.0, pick (λ n. one_step (Some n) j.name ≡ false) k.1)) h.0.inverse_is;
+  },
+  stands-fewer live ns is js pick h.1,
+)
+
+module _ {Rules Doc Reason C : Type 0} (m : Meaning Rules Doc Reason C) (rules : Rules) where
+  pub remembers-fewer : (live ns : List Name) (first : Doc) (steps : List (Step C)) (items : List (Item C)) → ((P : Name → Type 0) → Each P live → Each P ns)
+      → Remembers m rules live first steps items → Remembers m rules ns first steps items
+  remembers-fewer live ns first steps items pick h = record {
+    gone = h.gone;
+    kept = h.kept;
+    mid = h.mid;
+    steps_are = h.steps_are;
+    reaches = h.reaches;
+    stand = stands-fewer live ns items (items_from m rules h.mid h.kept) pick h.stand;
+    lacks = pick (Lacks (items_from m rules first h.gone)) h.lacks;
+  }
+
+  -- what an undo of the last event asks of the history
+  pub undo-remembers : (client drawn : ℕ) (first : Doc) (steps : List (Step C)) (h : Branches C) (rest : List Event) (e : Event) → IsHistoryOf m rules client drawn first steps h
+      → h.undo ≡ rest ++ e ∷ [] → Remembers m rules e.names first steps h.items × IsTidy (items_from m rules first steps) e.names
+  undo-remembers client drawn first steps h rest e s u = (
+    remembers-fewer (live_names h) e.names first steps h.items (λ P k. last-names P h.undo rest e u (each-front P (names_of h.undo) (names_of h.redo) k)) s.remembers,
+    record {
+      names_differ = s.tidy.names_differ;
+      once = s.tidy.once;
+      differ = last-differ h.undo rest e u (differ-front (names_of h.undo) (names_of h.redo) s.tidy.differ);
+      live = last-names _ h.undo rest e u (each-front _ (names_of h.undo) (names_of h.redo) s.tidy.live);
+    },
+  )
+
+  -- and what a redo asks
+  pub redo-remembers : (client drawn : ℕ) (first : Doc) (steps : List (Step C)) (h : Branches C) (rest : List Event) (e : Event) → IsHistoryOf m rules client drawn first steps h
+      → h.redo ≡ rest ++ e ∷ [] → Remembers m rules e.names first steps h.items × IsTidy (items_from m rules first steps) e.names
+  redo-remembers client drawn first steps h rest e s u = (
+    remembers-fewer (live_names h) e.names first steps h.items (λ P k. last-names P h.redo rest e u (each-back P (names_of h.undo) (names_of h.redo) k)) s.remembers,
+    record {
+      names_differ = s.tidy.names_differ;
+      once = s.tidy.once;
+      differ = last-differ h.redo rest e u (differ-back (names_of h.undo) (names_of h.redo) s.tidy.differ);
+      live = last-names _ h.redo rest e u (each-back _ (names_of h.undo) (names_of h.redo) s.tidy.live);
+    },
+  )
+
+  pub kept-fold : (live : List Name) (first end : Doc) (steps : List (Step C)) (items : List (Item C)) (h : Remembers m rules live first steps items)
+      → fold m rules first (changes_of steps) ≡ Some end → fold m rules h.mid (changes_of h.kept) ≡ Some end
+  kept-fold live first end steps items h e =
+      sym (ap (λ ss. fold m rules first (changes_of ss)) h.steps_are ∙ ap (fold m rules first) (changes-append h.gone h.kept)
+      ∙ fold-append m rules first h.mid (changes_of h.gone) (changes_of h.kept) h.reaches) ∙ e
+
+  -- the items stand for steps that lead to the client's document
+  pub history-shows : Laws m → (live : List Name) (first end : Doc) (steps : List (Step C)) (items : List (Item C)) → m.is_good rules first
+      → fold m rules first (changes_of steps) ≡ Some end → Remembers m rules live first steps items → ShowsTo m rules items end
+  history-shows laws live first end steps items good e h = (
+    h.mid,
+    fold-good m rules laws first h.mid (changes_of h.gone) good h.reaches,
+    stand-shows m rules live h.mid end h.kept items h.stand (kept-fold live first end steps items h e),
+  )
+
+  -- a new client's history
+  pub history-new : (client : ℕ) (first : Doc) → IsHistoryOf m rules client 0 first [] new_history
+  history-new client first = record {
+    remembers = record { gone = []; kept = []; mid = first; steps_are = refl; reaches = refl; stand = tt; lacks = tt };
+    tidy = record { names_differ = tt; once = tt; differ = tt; live = tt };
+    stand = tt;
+    drawn_are = tt;
+  }

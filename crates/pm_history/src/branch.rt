@@ -1,0 +1,128 @@
+//! Events one after another.
+ghost use Rattle.std.specs.Prelude.{◌≡◌, ◌<◌, ◌↔◌, [], ◌∷◌, ◌++◌, length, IsTrue, OnOk, OnErr};
+ghost use Rattle.pm_list.specs.Ends.{OnLast};
+ghost use Rattle.pm_history.specs.Histories.{put_event, extended, last_number, with_event, without_last};
+
+use pm_change::Name;
+use pm_list::Listed;
+use std::alloc::{AllocError, Global};
+use std::marker::Model;
+
+/// An event: the steps that are undone together. `number`: the number that its edits gave, if any. `names`: the names of its
+/// steps, in order.
+#[derive(Drop)]
+pub struct Event {
+    pub number: Option<u32>,
+    pub names: Listed<Name>,
+}
+
+/// Events, oldest first, seen as their list.
+#[derive(Drop)]
+pub struct Branch {
+    events: Vec<Event>,
+}
+
+impl Model for Branch {
+    ghost use Rattle.std.specs.Prelude.{List};
+    ghost use Rattle.pm_history.specs.declared.branch.Event.{Event};
+
+    ghost Value = { List Event };
+
+    ghost view = { λ b. b.events.items };
+}
+
+impl Branch {
+    /// No event. It takes no memory until one comes.
+    pub(crate) fn new(alloc: Global) -> Branch
+        ensures { result ≡ [] }
+    {
+        Branch {
+            events: Vec::new(alloc),
+        }
+    }
+
+    /// These events, in their order. It takes no memory.
+    pub(crate) fn from_vec(events: Vec<Event>) -> Branch
+        ensures { result ≡ events.items }
+    {
+        Branch { events }
+    }
+
+    /// The events, oldest first.
+    pub fn events(&self) -> &[Event]
+        ensures { result.now ≡ self.now }
+    {
+        self.events.as_slice()
+    }
+
+    /// The number of the last event; None where it has none or there is no event.
+    pub(crate) fn last_number(&self) -> Option<u32>
+        ensures { result ≡ last_number self.now }
+    {
+        match self.events.len().checked_sub(1) {
+            Some(last) => self.events[last].number,
+            None => None,
+        }
+    }
+
+    /// Steps that open an event, or join the last one. For want of memory the branch stays as it was.
+    pub(crate) fn put(
+        &mut self,
+        opens: bool,
+        number: Option<u32>,
+        names: Listed<Name>,
+    ) -> Result<(), AllocError>
+        ensures ok { OnOk result (self.new ≡ put_event opens number self.old names) }
+        ensures err { OnErr result (self.new ≡ self.old) }
+    {
+        if opens || self.events.is_empty() {
+            self.events.push(Event { number, names })?;
+            Ok(())
+        } else {
+            self.extend(names)
+        }
+    }
+
+    fn extend(&mut self, names: Listed<Name>) -> Result<(), AllocError>
+        requires { 0 < length self.old }
+        ensures ok { OnOk result (self.new ≡ extended self.old names) }
+        ensures err { OnErr result (self.new ≡ self.old) }
+    {
+        let last = self.events.len() - 1;
+        self.events[last].names.append(names)
+    }
+
+    /// An event more, unless it has no step. For want of memory the branch stays as it was.
+    pub(crate) fn add(&mut self, event: Event) -> Result<(), AllocError>
+        ensures ok { OnOk result (self.new ≡ with_event self.old event) }
+        ensures err { OnErr result (self.new ≡ self.old) }
+    {
+        if event.names.is_empty() {
+            return Ok(());
+        }
+        self.events.push(event)?;
+        Ok(())
+    }
+
+    /// Takes the last event out; None where there is none. It takes no memory.
+    pub(crate) fn pop(&mut self) -> Option<Event>
+        ensures { OnLast self.old result self.new }
+    {
+        self.events.pop()
+    }
+
+    /// Lets the last event go, where there is one.
+    pub(crate) fn drop_last(&mut self)
+        ensures { self.new ≡ without_last self.old }
+    {
+        let kept = self.events.len().saturating_sub(1);
+        self.events.truncate(kept);
+    }
+
+    /// Lets all events go.
+    pub(crate) fn clear(&mut self)
+        ensures { self.new ≡ [] }
+    {
+        self.events.clear();
+    }
+}

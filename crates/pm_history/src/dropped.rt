@@ -1,0 +1,105 @@
+//! What a rebase does to the items and the events.
+ghost use Rattle.std.specs.Prelude.{◌≡◌, IfOk};
+ghost use Rattle.pm_history.specs.Histories.{holds, is_dropped, still_named, without_dropped, foreign_items};
+ghost use Rattle.pm_history.specs.Drops.{any_dropped, is_lost};
+
+use crate::branch::{Branch, Event};
+use crate::item::Item;
+use crate::lane::one_step;
+use pm_change::Name;
+use pm_list::Listed;
+use pm_map::StepMap;
+use std::alloc::{AllocError, Global};
+
+/// Whether one of these items has this name.
+fn holds<C>(name: Name, items: &[Item<C>]) -> bool
+    ensures { result ≡ holds name items.now }
+{
+    for item in items {
+        if one_step(Some(name), item.name) {
+            return true;
+        }
+    }
+    false
+}
+
+/// Whether one of the own steps gone is not kept.
+pub fn any_dropped<C>(gone: &[Item<C>], kept: &[Item<C>]) -> bool
+    ensures { result ≡ any_dropped gone.now kept.now }
+{
+    for item in gone {
+        if is_lost(item.name, kept) {
+            return true;
+        }
+    }
+    false
+}
+
+fn is_lost<C>(name: Option<Name>, kept: &[Item<C>]) -> bool
+    ensures { result ≡ is_lost name kept.now }
+{
+    match name {
+        Some(n) => !holds(n, kept),
+        None => false,
+    }
+}
+
+/// The events without the steps that are gone and not kept.
+pub fn without_dropped<C>(
+    alloc: Global,
+    events: &[Event],
+    gone: &[Item<C>],
+    kept: &[Item<C>],
+) -> Result<Branch, AllocError>
+    ensures { IfOk result (λ b. b ≡ without_dropped gone.now kept.now events.now) }
+{
+    let mut left = Vec::new(alloc);
+    for event in events {
+        left.push(Event {
+            number: event.number,
+            names: still_named(alloc, event.names.as_slice(), gone, kept)?,
+        })?;
+    }
+    Ok(Branch::from_vec(left))
+}
+
+fn still_named<C>(
+    alloc: Global,
+    names: &[Name],
+    gone: &[Item<C>],
+    kept: &[Item<C>],
+) -> Result<Listed<Name>, AllocError>
+    ensures { IfOk result (λ ns. ns ≡ still_named gone.now kept.now names.now) }
+{
+    let mut left = Listed::new(alloc);
+    for name in names {
+        if !is_dropped(*name, gone, kept) {
+            left.push(*name)?;
+        }
+    }
+    Ok(left)
+}
+
+fn is_dropped<C>(name: Name, gone: &[Item<C>], kept: &[Item<C>]) -> bool
+    ensures { result ≡ is_dropped gone.now kept.now name }
+{
+    holds(name, gone) && !holds(name, kept)
+}
+
+/// The items of foreign steps with these maps.
+pub fn foreign_items<C>(alloc: Global, maps: &[StepMap]) -> Result<Vec<Item<C>>, AllocError>
+where
+    C: Drop,
+    ensures { IfOk result (λ v. v.items ≡ foreign_items maps.now) }
+{
+    let mut items = Vec::new(alloc);
+    for map in maps {
+        items.push(Item {
+            name: None,
+            map: map.copy(),
+            inverse: Listed::new(alloc),
+            undoes: None,
+        })?;
+    }
+    Ok(items)
+}

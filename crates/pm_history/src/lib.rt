@@ -1,0 +1,18 @@
+//! What a client keeps of its steps, so that it can undo them.
+//!
+//! The timeline is each step that led to the client's document, its own and those of others. A history keeps an item for
+//! each step, and the events that can be undone and redone. Undoing an event carries the changes that undo its steps over
+//! all that came later. This crate knows nothing of documents.
+#![tactic(auto)]
+
+mod branch;
+mod branches;
+mod dropped;
+mod item;
+mod lane;
+mod undoing;
+
+pub use branch::{Branch, Event};
+pub use branches::{Branches, Side};
+pub use item::Item;
+pub use undoing::{Undone, undo_event};

@@ -1,0 +1,234 @@
+//! Undoing the steps of an event.
+ghost use Rattle.std.specs.Prelude.{◌≡◌, ◌<◌, ◌≤◌, ◌+◌, ◌++◌, ◌∷◌, [], drop, length, IfOk, IfSome, Ok, Some};
+ghost use Rattle.pm_history.specs.Items.{one_step};
+ghost use Rattle.pm_history.specs.Lanes.{placed};
+ghost use Rattle.pm_history.specs.Made.{IsMade};
+ghost use Rattle.pm_history.specs.Pairs.{paired};
+ghost use Rattle.pm_history.specs.Shows.{ShowsTo};
+ghost use Rattle.pm_history.specs.Undos.{undo_steps, undo_event, undo_found, then_made, find, tried};
+ghost use Rattle.pm_history.specs.Restores.{RestoresAll, IsOfWhole};
+ghost use Rattle.pm_history.specs.Tries.{MayUndo, put_one, item_from};
+
+use crate::item::Item;
+use crate::lane::{Placed, lane_of, lay, mapping_of, one_step};
+use pm_change::{Change, Failed, Name};
+use pm_list::Listed;
+use std::alloc::{AllocError, Global};
+
+/// What an undo has made. `doc`: the document behind it. `serial`: the next serial. `made`: the changes made, in order, and
+/// `items`: their items.
+#[derive(Drop)]
+pub struct Undone<D, C> {
+    pub doc: D,
+    pub serial: u64,
+    pub made: Listed<C>,
+    pub items: Listed<Item<C>>,
+}
+
+/// What an undo has made so far, and the maps of the timeline and of what it has made.
+#[derive(Drop)]
+pub struct Going<D, C> {
+    pub undone: Undone<D, C>,
+    pub lane: Vec<Placed>,
+}
+
+/// What `client` makes to undo the steps of these names, from the last to the first, on the document behind the timeline
+/// `items`. Each change that undoes a step is carried over the maps of all later items, those made by this call among them;
+/// one that is lost or does not apply is left out. The changes made are named by `client` and serials from `serial` on. The
+/// items must stand for steps that lead to `doc`. Where nothing has changed since, the document is the one before the first
+/// of these steps. A serial past 2^64 counts as want of memory.
+pub fn undo_event<C: Change>(
+    alloc: Global,
+    rules: &C::Rules,
+    client: u32,
+    names: &[Name],
+    items: &[Item<C>],
+    doc: C::Doc,
+    serial: u64,
+) -> Result<Undone<C::Doc, C>, AllocError>
+    requires { ShowsTo C.means rules.now items.now doc }
+    ensures made { IfOk result (λ w. w ≡ undo_event C.means rules.now client names.now items.now doc serial) }
+    ensures steps { IfOk result (IsMade C.means rules.now client doc serial) }
+    ensures shows { IfOk result (λ w. ShowsTo C.means rules.now (items.now ++ w.items) w.doc) }
+    ensures whole { IfOk result (IsOfWhole C.means rules.now client names.now items.now doc serial) }
+    ensures restores { IfOk result (RestoresAll C.means rules.now names.now items.now doc) }
+{
+    let mut going = Going {
+        undone: Undone {
+            doc,
+            serial,
+            made: Listed::new(alloc),
+            items: Listed::new(alloc),
+        },
+        lane: lane_of(alloc, items)?,
+    };
+    let mut i = names.len();
+    while i > 0 {
+        i -= 1;
+        going = undo_named(alloc, rules, client, names[i], items, going)?;
+    }
+    Ok(going.undone)
+}
+
+/// The step of this name, where it stands in the timeline.
+fn undo_named<C: Change>(
+    alloc: Global,
+    rules: &C::Rules,
+    client: u32,
+    name: Name,
+    items: &[Item<C>],
+    going: Going<C::Doc, C>,
+) -> Result<Going<C::Doc, C>, AllocError>
+    requires shows { ShowsTo C.means rules.now (items.now ++ going.undone.items) going.undone.doc }
+    requires lane { going.lane.items ≡ placed (items.now ++ going.undone.items) }
+    ensures made { IfOk result (λ g. g.undone ≡ then_made going.undone (undo_found C.means rules.now client name (find name items.now) going.undone.items going.undone.doc going.undone.serial)) }
+    ensures lane { IfOk result (λ g. g.lane.items ≡ placed (items.now ++ g.undone.items)) }
+{
+    match place_of(name, items) {
+        Some(k) => undo_steps(
+            alloc,
+            rules,
+            client,
+            name,
+            items[k].inverse.as_slice(),
+            items,
+            k + 1,
+            going,
+        ),
+        None => Ok(going),
+    }
+}
+
+/// The place of the item of this name.
+pub fn place_of<C>(name: Name, items: &[Item<C>]) -> Option<usize>
+    ensures found { find name items.now ≡ item_from items.now result }
+    ensures within { IfSome result (λ k. k < length items.now) }
+{
+    let mut passed = 0;
+    for item in items {
+        if one_step(Some(name), item.name) {
+            return Some(passed);
+        }
+        passed += 1;
+    }
+    None
+}
+
+/// Each of these changes, which undo the step before place `from`, in order.
+fn undo_steps<C: Change>(
+    alloc: Global,
+    rules: &C::Rules,
+    client: u32,
+    name: Name,
+    steps: &[C],
+    items: &[Item<C>],
+    from: usize,
+    going: Going<C::Doc, C>,
+) -> Result<Going<C::Doc, C>, AllocError>
+    requires may { MayUndo C.means rules.now steps.now (drop from items.now ++ going.undone.items) going.undone.doc }
+    requires lane { going.lane.items ≡ placed (items.now ++ going.undone.items) }
+    requires from_in { from ≤ length items.now }
+    ensures made { IfOk result (λ g. g.undone ≡ then_made going.undone (undo_steps C.means rules.now client name steps.now (drop from items.now ++ going.undone.items) going.undone.doc going.undone.serial)) }
+    ensures lane { IfOk result (λ g. g.lane.items ≡ placed (items.now ++ g.undone.items)) }
+{
+    let mut going = going;
+    for step in steps {
+        going = undo_step(alloc, rules, client, name, step, items, from, going)?;
+    }
+    Ok(going)
+}
+
+/// One of the changes that undo a step.
+fn undo_step<C: Change>(
+    alloc: Global,
+    rules: &C::Rules,
+    client: u32,
+    name: Name,
+    step: &C,
+    items: &[Item<C>],
+    from: usize,
+    going: Going<C::Doc, C>,
+) -> Result<Going<C::Doc, C>, AllocError>
+    requires may { MayUndo C.means rules.now (step.now ∷ []) (drop from items.now ++ going.undone.items) going.undone.doc }
+    requires lane { going.lane.items ≡ placed (items.now ++ going.undone.items) }
+    requires from_in { from ≤ length items.now }
+    ensures made { IfOk result (λ g. g.undone ≡ put_one C.means rules.now client (tried C.means rules.now client (C.means.carry step.now (paired (drop from items.now ++ going.undone.items))) going.undone.doc) name going.undone) }
+    ensures lane { IfOk result (λ g. g.lane.items ≡ placed (items.now ++ g.undone.items)) }
+{
+    let mapping = mapping_of(alloc, &going.lane[from..])?;
+    let carried = step.carry(alloc, &mapping)?;
+    put_one(alloc, rules, client, name, carried, items, going)
+}
+
+/// A carried change, which may be lost or not apply.
+fn put_one<C: Change>(
+    alloc: Global,
+    rules: &C::Rules,
+    client: u32,
+    name: Name,
+    carried: Option<C>,
+    items: &[Item<C>],
+    going: Going<C::Doc, C>,
+) -> Result<Going<C::Doc, C>, AllocError>
+    requires good { C.means.is_good rules.now going.undone.doc }
+    requires lane { going.lane.items ≡ placed (items.now ++ going.undone.items) }
+    ensures made { IfOk result (λ g. g.undone ≡ put_one C.means rules.now client (tried C.means rules.now client carried going.undone.doc) name going.undone) }
+    ensures lane { IfOk result (λ g. g.lane.items ≡ placed (items.now ++ g.undone.items)) }
+{
+    let Some(change) = carried else {
+        return Ok(going);
+    };
+    match change.apply(alloc, rules, &going.undone.doc) {
+        Ok(next) => put_in(alloc, rules, client, name, change, next, items, going),
+        Err(Failed::Reason(_)) => Ok(going),
+        Err(Failed::NoMemory) => Err(AllocError),
+    }
+}
+
+/// A change that was made, and the document behind it.
+fn put_in<C: Change>(
+    alloc: Global,
+    rules: &C::Rules,
+    client: u32,
+    name: Name,
+    change: C,
+    next: C::Doc,
+    items: &[Item<C>],
+    going: Going<C::Doc, C>,
+) -> Result<Going<C::Doc, C>, AllocError>
+    requires good { C.means.is_good rules.now going.undone.doc }
+    requires applies { C.means.outcome rules.now change going.undone.doc ≡ Ok next }
+    requires lane { going.lane.items ≡ placed (items.now ++ going.undone.items) }
+    ensures made { IfOk result (λ g. g.undone ≡ put_one C.means rules.now client (Some (change, next)) name going.undone) }
+    ensures lane { IfOk result (λ g. g.lane.items ≡ placed (items.now ++ g.undone.items)) }
+{
+    let _ = items;
+    let Going { undone, lane } = going;
+    let Undone {
+        doc,
+        serial,
+        mut made,
+        items: mut more,
+    } = undone;
+    let Some(after) = serial.checked_add(1) else {
+        return Err(AllocError);
+    };
+    let item = Item {
+        name: Some(Name { client, serial }),
+        map: change.step_map(),
+        inverse: Listed::from_vec(change.inverse(alloc, rules, &doc)?),
+        undoes: Some(name),
+    };
+    let lane = lay(lane, &item)?;
+    more.push(item)?;
+    made.push(change)?;
+    Ok(Going {
+        undone: Undone {
+            doc: next,
+            serial: after,
+            made,
+            items: more,
+        },
+        lane,
+    })
+}
