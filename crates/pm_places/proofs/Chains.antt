@@ -6,12 +6,12 @@ use Rattle.pm_auto.specs.Table.{width, rows, firsts}
 use Rattle.pm_auto.specs.Numbers.{number}
 use Rattle.pm_auto.specs.Runs.{look}
 use Rattle.pm_places.specs.Words.{numbered}
-use Rattle.pm_places.proofs.HasLaws.{Has, Found, has-find, has-back, has-map, has-unmap}
-use Rattle.pm_places.proofs.LangLaws.{Begin}
-use Rattle.pm_places.proofs.FirstLaws.{first-lang, lang-first}
-use Rattle.pm_places.proofs.FollowLaws.{follow-lang, lang-follow}
-use Rattle.pm_places.proofs.TableLaws.{firsts-first}
-use Rattle.pm_places.proofs.LookLaws.{look-row}
+use Rattle.pm_auto.proofs.HasLaws.{Has, Found, has-find, has-back, has-map, has-unmap}
+use Rattle.pm_auto.proofs.LangLaws.{Begin}
+use Rattle.pm_auto.proofs.FirstLaws.{first-lang, lang-first}
+use Rattle.pm_auto.proofs.FollowLaws.{follow-lang, lang-follow}
+use Rattle.pm_auto.proofs.TableLaws.{firsts-first}
+use Rattle.pm_auto.proofs.LookLaws.{look-row}
 use Rattle.pm_places.proofs.Members.{Is_in}
 use Rattle.pm_places.proofs.Links.{Linked}
 use Rattle.pm_places.proofs.Numbering.{width-numbered, kind-number, number-below, length-rows, firsts-numbered, follow-numbered}

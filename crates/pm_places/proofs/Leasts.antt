@@ -2,7 +2,7 @@
 use Rattle.std.proofs.Common.{◌≡◌, ℕ, suc, ◌≤◌, List, [], ◌∷◌, ◌++◌, map, Bool, true, false, cond, refl, ap, sym, ◌∙◌, subst, arith, inl, inr, ◌⊎◌}
 use Rattle.pm_auto.specs.declared.places.Row.{Row}
 use Rattle.pm_auto.specs.States.{has, kinds, once}
-use Rattle.pm_places.proofs.HasLaws.{has-left, has-right}
+use Rattle.pm_auto.proofs.HasLaws.{has-left, has-right}
 use Rattle.pm_places.proofs.Members.{Is_in, has-is, is-has, Rising, rising-lower, rising-least}
 use Rattle.pm_places.proofs.Links.{kind_at}
 

@@ -6,7 +6,7 @@ use Rattle.pm_auto.specs.declared.sets.PlaceSet.{PlaceSet}
 use Rattle.pm_auto.specs.Core.{when}
 use Rattle.pm_auto.specs.Runs.{look, next_rows}
 use Rattle.pm_auto.specs.States.{has, in_order, step, kinds, Leads_to}
-use Rattle.pm_places.proofs.HasLaws.{Has, has-find, has-back, has-split, has-left, has-right, has-when, has-unwhen, or-split, or-left, or-right}
+use Rattle.pm_auto.proofs.HasLaws.{Has, has-find, has-back, has-split, has-left, has-right, has-when, has-unwhen, or-split, or-left, or-right}
 use Rattle.pm_places.proofs.Members.{Is_in, order-in, in-order}
 
 -- the type of a place

@@ -4,7 +4,7 @@ use Rattle.std.specs.Prelude.{Contains}
 use Rattle.std.proofs.lemmas.Bool.{eqb-true, eq-eqb}
 use Rattle.pm_auto.specs.declared.places.Row.{Row}
 use Rattle.pm_auto.specs.States.{has, in_order}
-use Rattle.pm_places.proofs.HasLaws.{Has, or-split, or-left, or-right}
+use Rattle.pm_auto.proofs.HasLaws.{Has, or-split, or-left, or-right}
 
 -- the number is in the list
 abbrev pub Is_in : ℕ → List ℕ → Type 0

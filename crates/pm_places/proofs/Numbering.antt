@@ -8,7 +8,7 @@ use Rattle.pm_auto.specs.Table.{width, rows, firsts, onward, again}
 use Rattle.pm_auto.specs.Numbers.{number}
 use Rattle.pm_auto.specs.Runs.{look}
 use Rattle.pm_places.specs.Words.{numbered, place_types}
-use Rattle.pm_places.proofs.TableLaws.{map-join}
+use Rattle.pm_auto.proofs.TableLaws.{map-join}
 
 pub width-numbered : (n : ℕ) (e : Core) → width (numbered n e) ≡ width e
 width-numbered n Never = refl

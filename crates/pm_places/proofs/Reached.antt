@@ -15,7 +15,7 @@ use Rattle.pm_auto.proofs.AcceptLaws.{accepted-in, edges-of-at, both-ways}
 use Rattle.pm_places.specs.Words.{spelled, type_at}
 use Rattle.pm_places.specs.Nexts.{BeginsWith, IsBegun, ComesNext, led_to, IsStateAfter, IsLeast, AreTypesNext, AreAlike}
 use Rattle.pm_places.specs.Laws.{IsAutomatonOf}
-use Rattle.pm_places.proofs.HasLaws.{has-back}
+use Rattle.pm_auto.proofs.HasLaws.{has-back}
 use Rattle.pm_places.proofs.Members.{Is_in, has-is, in-contains, contains-in, Rising, rising-next, rising-same, order-in, in-order, order-rising}
 use Rattle.pm_places.proofs.Links.{kind_at, Linked, Within, order-within, in-kinds, Spelled, leads-linked, linked-leads, leads-one}
 use Rattle.pm_places.proofs.Numbering.{kind-type}

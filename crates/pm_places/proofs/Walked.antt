@@ -8,7 +8,7 @@ use Rattle.pm_auto.specs.States.{has, kinds, once, edge_kinds, set_at, Edges_of,
 use Rattle.pm_auto.specs.Walks.{edges_at}
 use Rattle.pm_auto.proofs.AcceptLaws.{lead-target, no-target, edges-of-at}
 use Rattle.pm_places.specs.Nexts.{led_to}
-use Rattle.pm_places.proofs.HasLaws.{has-split}
+use Rattle.pm_auto.proofs.HasLaws.{has-split}
 use Rattle.pm_places.proofs.Members.{Is_in, has-is, is-has}
 
 -- the types that come first are types of the list
