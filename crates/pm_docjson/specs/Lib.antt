@@ -5,5 +5,4 @@ pub mod Reading
 pub mod Trees
 pub mod Writing
 pub mod Writable
-pub mod Orderly
 pub mod Members

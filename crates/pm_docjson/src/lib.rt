@@ -16,3 +16,6 @@ pub use reading_marks::read_mark;
 pub use reading_nodes::read_node;
 pub use writing_marks::write_mark;
 pub use writing_nodes::write_node;
+
+#[cfg(test)]
+mod tests;

@@ -11,7 +11,7 @@ ghost use Rattle.pm_schemajson.specs.Views.{attributes};
 use crate::error::{Field, SchemaReadError};
 use crate::fields::{field, object};
 use pm_list::Listed;
-use pm_schema::AttrSpec;
+use pm_schema::{AttrSpec, AttrSpecs};
 use pm_value::{Text, Value};
 use serde_json::{Map, Value as Json};
 use std::alloc::{AllocError, Global};
@@ -43,10 +43,7 @@ fn push_attr(
 }
 
 #[tactic(auto, using(crate::proofs::Fronts::attrs), unfolding(crate::specs::Reading::attr_list))]
-fn attr_list(
-    alloc: Global,
-    members: &Map<String, Json>,
-) -> Result<Listed<AttrSpec>, SchemaReadError>
+fn attr_list(alloc: Global, members: &Map<String, Json>) -> Result<AttrSpecs, SchemaReadError>
     ensures { Gives attributes result (attr_list_of (members_view members.now.entries)) }
 {
     let mut attrs = Listed::new(alloc);
@@ -55,16 +52,16 @@ fn attr_list(
         let default = default_of(alloc, value)?;
         push_attr(alloc, &mut attrs, name.as_str(), default)?;
     }
-    Ok(attrs)
+    Ok(AttrSpecs::from_list(attrs))
 }
 
 /// The field `attrs` of a type.
 #[tactic(auto, unfolding(crate::specs::Reading::attrs_of))]
-pub(crate) fn attrs_of(alloc: Global, json: &Json) -> Result<Listed<AttrSpec>, SchemaReadError>
+pub(crate) fn attrs_of(alloc: Global, json: &Json) -> Result<AttrSpecs, SchemaReadError>
     ensures { Gives attributes result (attrs_from (field_of (codes "attrs") (view json.now))) }
 {
     match field(json, "attrs") {
-        None => Ok(Listed::new(alloc)),
+        None => Ok(AttrSpecs::new(alloc)),
         Some(value) => {
             let members = object(value, Field::Attrs)?;
             attr_list(alloc, members)
