@@ -6,3 +6,4 @@ pub mod Trees
 pub mod Writing
 pub mod Writable
 pub mod Members
+pub mod KeyOrder

@@ -1,5 +1,7 @@
 //! Tables of what is read, with ample memory. The types are 0 doc, 1 paragraph, 2 heading, 3 image, 4 text; the marks are 0 link, 1 em,
 //! 2 strong, 3 code.
+mod writing;
+
 use crate::{DocReadError, read_mark, read_node};
 use pm_auto::Expr;
 use pm_list::Listed;

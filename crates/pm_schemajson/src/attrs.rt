@@ -3,6 +3,7 @@ ghost use Rattle.std.specs.Prelude.{◌≡◌, ◌++◌, ◌∷◌, [], codes, o
 ghost use Rattle.serde_json.specs.Find.{get};
 ghost use Rattle.serde_json.specs.View.{view, members_view};
 ghost use Rattle.pm_value.specs.Views.{plain};
+ghost use Rattle.pm_schema.specs.AttrNames.{attr_names};
 ghost use Rattle.pm_schemajson.specs.Answers.{Gives};
 ghost use Rattle.pm_schemajson.specs.Fields.{field as field_of};
 ghost use Rattle.pm_schemajson.specs.Reading.{default_of as default_from_json, attr_list as attr_list_of, attrs_of as attrs_from};
@@ -35,7 +36,8 @@ fn push_attr(
     name: &str,
     default: Option<Value>,
 ) -> Result<(), AllocError>
-    ensures { OnOk result (attributes attrs.new ≡ attributes attrs.old ++ (record { name = name.now; default = option_map plain default }) ∷ []) }
+    ensures attributes { OnOk result (attributes attrs.new ≡ attributes attrs.old ++ (record { name = name.now; default = option_map plain default }) ∷ []) }
+    ensures names { OnOk result (attr_names attrs.new ≡ attr_names attrs.old ++ name.now ∷ []) }
 {
     let name = Text::from_str(alloc, name)?;
     attrs.push(AttrSpec { name, default })?;
