@@ -2,7 +2,7 @@
 use crate::{Body, FillError, make_filled};
 use pm_auto::{Expr, TypeId};
 use pm_list::Listed;
-use pm_schema::{AttrSpec, NodeSpec, Schema, SchemaSpec};
+use pm_schema::{AttrSpec, AttrSpecs, NodeSpec, Schema, SchemaSpec};
 use pm_value::Text;
 use std::alloc::{AllocError, Global};
 use std::test::Fail;
@@ -41,6 +41,15 @@ fn content(alloc: Global, kind: TypeId) -> Result<Expr, AllocError> {
     }
 }
 
+fn declared(alloc: Global, kind: TypeId) -> Result<AttrSpecs, AllocError> {
+    if kind != IMAGE {
+        return Ok(AttrSpecs::new(alloc));
+    }
+    let name = Text::from_str(alloc, "src")?;
+    let default = None;
+    AttrSpecs::one(alloc, AttrSpec { name, default })
+}
+
 fn schema(alloc: Global) -> Result<Schema, Fail> {
     let mut nodes = Listed::new(alloc);
     for kind in TEXT..LAST_TWO + 1 {
@@ -49,13 +58,7 @@ fn schema(alloc: Global) -> Result<Schema, Fail> {
         } else {
             Text::from_str(alloc, format!(in alloc; "type {kind}")?.as_str())?
         };
-        let mut attrs = Listed::new(alloc);
-        if kind == IMAGE {
-            attrs.push(AttrSpec {
-                name: Text::from_str(alloc, "src")?,
-                default: None,
-            })?;
-        }
+        let attrs = declared(alloc, kind)?;
         nodes.push(NodeSpec {
             name,
             content: content(alloc, kind)?,
