@@ -1,19 +1,18 @@
 -- Clipped parts: of nodes one after another, and of one node.
-use Rattle.std.specs.Prelude.{◌≡◌, ℕ, ◌+◌, ◌-◌, ◌≤◌, ◌<◌, ◌⊎◌, List, [], ◌∷◌, ◌++◌, length, take, drop, reverse, replicate}
+use Rattle.std.specs.Prelude.{◌≡◌, ℕ, ◌+◌, ◌-◌, ◌≤◌, ◌<◌, List, [], ◌∷◌, ◌++◌, length, take, drop, reverse, replicate}
 use Rattle.std.proofs.Common.{zero, suc, inl, inr, refl, ap, sym, ◌∙◌, subst, arith, append_assoc, length-append}
 use Rattle.std.proofs.lemmas.List.{append-nil, take_all, replicate_more}
 use Rattle.std.proofs.lemmas.Bool.{cases_lt}
-use Rattle.pm_tokens.specs.Tokens.{Attrs, Marks, Token, Open, Close, Leaf, CodeUnit}
+use Rattle.pm_tokens.specs.Tokens.{Marks, Token, Open, Close, CodeUnit}
 use Rattle.pm_tokens.specs.Kids.{text_tokens}
-use Rattle.pm_tokens.specs.Scan.{unclosed, around, part, depth_at, Balanced, none}
-use Rattle.pm_tokens.proofs.ListLaws.{part-append, part_all, part_past, part_none, drop-nil, take-nil}
+use Rattle.pm_tokens.specs.Scan.{unclosed, around, part, depth_at, Balanced}
+use Rattle.pm_tokens.proofs.ListLaws.{part-append, part_all, part_past, part_none}
 use Rattle.pm_tokens.proofs.BalanceLaws.{unclosed-balanced}
 use Rattle.pm_tokens.proofs.CutLaws.{around-length}
 use Rattle.std.proofs.lemmas.List.{nil_from_length}
 use Rattle.pm_node.specs.declared.node.Node.{Node}
-use Rattle.pm_node.specs.declared.node.Body.{Body}
-use Rattle.pm_node.specs.declared.node.Body.TheVariants.{Text, Leaf as Childless, Children}
-use Rattle.pm_node.specs.Trees.{node_tokens, body_tokens}
+use Rattle.pm_node.specs.declared.node.Body.TheVariants.{Text, Children}
+use Rattle.pm_node.specs.Trees.{node_tokens}
 use Rattle.pm_node.proofs.TreeLaws.{node_tokens_at, balanced-node, length-text_tokens}
 use Rattle.pm_tokens.proofs.OwnedParts.{length-part}
 use Rattle.pm_build.specs.Positions.{path}

@@ -1,16 +1,16 @@
 -- A walk over the children of a content that clips them one after another.
-use Rattle.std.specs.Prelude.{◌≡◌, ℕ, ◌+◌, ◌-◌, ◌≤◌, ◌<◌, Option, Some, None, List, [], ◌∷◌, ◌++◌, length, take, drop, get_or}
+use Rattle.std.specs.Prelude.{◌≡◌, ℕ, ◌+◌, ◌-◌, ◌≤◌, ◌<◌, List, [], ◌++◌, length, drop, get_or}
 use Rattle.std.specs.declared.sync.Arc.{Arc}
 use Rattle.std.specs.Arc.{arc_value}
-use Rattle.std.proofs.Common.{zero, suc, refl, ap, sym, ◌∙◌, subst, arith, length-append}
-use Rattle.std.proofs.lemmas.List.{append-nil, take_all}
+use Rattle.std.proofs.Common.{ap, sym, ◌∙◌, subst, arith, length-append}
+use Rattle.std.proofs.lemmas.List.{take_all}
 use Rattle.pm_tokens.specs.Tokens.{Token}
 use Rattle.pm_tokens.specs.Scan.{Balanced, none}
 use Rattle.pm_tokens.proofs.BalanceLaws.{balanced-append}
 use Rattle.pm_node.specs.declared.node.Node.{Node}
 use Rattle.pm_node.specs.Trees.{node_tokens, list_tokens}
 use Rattle.pm_node.proofs.WalkLaws.{front, front-more, list-split}
-use Rattle.pm_slice.specs.Sides.{clipped, some_arc_tokens}
+use Rattle.pm_slice.specs.Sides.{clipped}
 use Rattle.pm_slice.proofs.ClipLaws.{clipped-append, clipped-past}
 
 -- the walk after i children: m is what was made of them, start and end are where the rest of the part lies in the rest
@@ -37,8 +37,8 @@ module _ {Z : Type 0} (xs : List (Arc Node Z)) (f t : ℕ) (h : f ≤ t) where
       let ts = node_tokens (arc_value x) in
       let g : front xs (i + 1) ≡ front xs i ++ ts = front-more xs i x k r in
       let both : clipped (front xs (i + 1)) f t ≡ clipped (front xs i) f t ++ clipped ts s e =
-          ap (λ z. clipped z f t) g ∙ (clipped-append (front xs i) ts f t w.whole h
-          ∙ (ap (λ z. clipped (front xs i) f t ++ clipped ts z (t - length (front xs i))) (sym w.starts) ∙ ap (λ z. clipped (front xs i) f t ++ clipped ts s z) (sym w.ends))) in
+      ap (λ z. clipped z f t) g ∙ (clipped-append (front xs i) ts f t w.whole h
+      ∙ (ap (λ z. clipped (front xs i) f t ++ clipped ts z (t - length (front xs i))) (sym w.starts) ∙ ap (λ z. clipped (front xs i) f t ++ clipped ts s z) (sym w.ends))) in
       record {
         made = tokens ∙ (ap (λ z. z ++ piece) w.made ∙ (ap (λ z. clipped (front xs i) f t ++ z) is ∙ sym both));
         starts = omega (arith, es, ln, w.starts, ap length g, length-append (front xs i) ts);

@@ -1,14 +1,14 @@
 -- A walk over the children of a content to the one that a part begins in.
-use Rattle.std.specs.Prelude.{◌≡◌, ℕ, ◌+◌, ◌-◌, ◌≤◌, ◌<◌, ◌==◌, true, cond, List, [], ◌∷◌, ◌++◌, length, take, drop, get_or}
+use Rattle.std.specs.Prelude.{◌≡◌, ℕ, ◌+◌, ◌-◌, ◌≤◌, ◌<◌, cond, List, [], ◌∷◌, ◌++◌, length, take, drop, get_or}
 use Rattle.std.specs.declared.sync.Arc.{Arc}
 use Rattle.std.specs.Arc.{arc_value}
-use Rattle.std.proofs.Common.{zero, suc, inl, inr, refl, ap, sym, ◌∙◌, subst, arith, append_assoc, length-append}
+use Rattle.std.proofs.Common.{inl, inr, refl, ap, sym, ◌∙◌, subst, arith, append_assoc, length-append}
 use Rattle.std.proofs.lemmas.List.{take_all, take_at, take-append-drop}
 use Rattle.std.proofs.lemmas.Bool.{cases_lt, ne_eqb}
 use Rattle.pm_tokens.specs.Tokens.{Token, Open, Close}
 use Rattle.pm_tokens.specs.Scan.{unclosed, unmet, part, depth_at, shared_depth, Balanced, none}
-use Rattle.pm_tokens.specs.Slices.{Slice, is_slice, slice_size, slice_tokens, closed_over, cut}
-use Rattle.pm_tokens.proofs.ScanLaws.{Whole, unmet-from}
+use Rattle.pm_tokens.specs.Slices.{Slice, slice_size, slice_tokens, closed_over, cut}
+use Rattle.pm_tokens.proofs.ScanLaws.{unmet-from}
 use Rattle.pm_tokens.proofs.BalanceLaws.{balanced-append, balanced-whole, unclosed-balanced}
 use Rattle.pm_tokens.proofs.PartLaws.{split-at, cut-slice, cut-size, cut-tokens}
 use Rattle.pm_tokens.proofs.CutLaws.{cut-inside, cut-across, front-met}
@@ -117,9 +117,9 @@ module _ {Z : Type 0} (xs : List (Arc Node Z)) (from to : ℕ) where
       let rest = list_tokens (drop (i + 1) xs) in
       let left : from - length (front xs i) ≡ start = omega (arith, w.at_from) in
       let e : depth_at (list_tokens xs) from ≡ 0 =
-          ap (λ z. depth_at z from) (list-split xs i x k r)
-          ∙ (depth-behind (front xs i) (ts ++ rest) from w.whole (omega (arith, w.at_from))
-          ∙ (ap (depth_at (ts ++ rest)) left ∙ (depth-first ts rest start lt ∙ depth-flat n start other))) in
+      ap (λ z. depth_at z from) (list-split xs i x k r)
+      ∙ (depth-behind (front xs i) (ts ++ rest) from w.whole (omega (arith, w.at_from))
+      ∙ (ap (depth_at (ts ++ rest)) left ∙ (depth-first ts rest start lt ∙ depth-flat n start other))) in
       record { at = from; after = omega arith; before = o; flat = e }
 
   -- no child has both positions inside
@@ -147,7 +147,7 @@ module _ {Z : Type 0} (xs : List (Arc Node Z)) (from to : ℕ) where
       let rest = list_tokens (drop (i + 1) xs) in
       let ts : node_tokens n ≡ Open n.kind n.attrs n.marks ∷ (inner ++ (Close ∷ [])) = node_tokens_at n (Children inner) s.is in
       let all : list_tokens xs ≡ before ++ (Open n.kind n.attrs n.marks ∷ (inner ++ (Close ∷ rest))) =
-          list-split xs i x k r ∙ (ap (λ z. before ++ (z ++ rest)) ts ∙ ap (λ z. before ++ (Open n.kind n.attrs n.marks ∷ z)) (append_assoc inner (Close ∷ []) rest)) in
+      list-split xs i x k r ∙ (ap (λ z. before ++ (z ++ rest)) ts ∙ ap (λ z. before ++ (Open n.kind n.attrs n.marks ∷ z)) (append_assoc inner (Close ∷ []) rest)) in
       let len : length (node_tokens n) ≡ length inner + 2 = omega (arith, ap length ts, length-append inner (Close ∷ [])) in
       let f : from ≡ length before + 1 + (start - 1) = omega (arith, w.at_from, s.after_open) in
       let t : to ≡ length before + 1 + (end - 1) = omega (arith, w.at_from, w.at_to, s.after_open, o) in

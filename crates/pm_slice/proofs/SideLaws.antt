@@ -1,14 +1,14 @@
 -- A content with open sides is a slice exactly where its first tokens are opens and its last ones closes.
-use Rattle.std.specs.Prelude.{◌≡◌, ℕ, ◌+◌, ◌-◌, ◌≤◌, ◌<◌, ◌==◌, Bool, true, false, ◌&&◌, cond, nat_le, List, [], ◌∷◌, ◌++◌, length, take, drop, reverse}
-use Rattle.std.proofs.Common.{zero, suc, refl, ap, sym, ◌∙◌, subst, arith, append_assoc, length-append, length-take, length-drop}
-use Rattle.std.proofs.lemmas.Bool.{leb-true, le-leb, eq-eqb, ne_eqb}
+use Rattle.std.specs.Prelude.{◌≡◌, ℕ, ◌+◌, ◌-◌, ◌≤◌, Bool, true, false, ◌&&◌, cond, List, [], ◌∷◌, ◌++◌, length, take, drop, reverse}
+use Rattle.std.proofs.Common.{zero, suc, refl, ap, sym, ◌∙◌, subst, arith, length-drop}
+use Rattle.std.proofs.lemmas.Bool.{eq-eqb, ne_eqb}
 use Rattle.std.proofs.lemmas.List.{reverse-append, length-reverse, take-append-drop, take_at}
 use Rattle.pm_tokens.specs.Tokens.{Token, Open, Close, Leaf, CodeUnit}
-use Rattle.pm_tokens.specs.Scan.{is_whole, are_opens, are_closes, Balanced}
-use Rattle.pm_tokens.specs.Slices.{Slice, is_slice, slice_size, content_end}
+use Rattle.pm_tokens.specs.Scan.{are_opens, are_closes, Balanced}
+use Rattle.pm_tokens.specs.Slices.{is_slice, slice_size}
 use Rattle.pm_tokens.proofs.ScanLaws.{of-whole}
 use Rattle.pm_tokens.proofs.BalanceLaws.{balanced-whole}
-use Rattle.pm_tokens.proofs.PartLaws.{IsSlice, slice-is, is-slice}
+use Rattle.pm_tokens.proofs.PartLaws.{slice-is, is-slice}
 use Rattle.pm_slice.specs.Sides.{sides, no_slice, or_none, opens_first, closes_first, closes_last}
 
 pub record First (test : Bool) (d n : ℕ) : Type 0 where

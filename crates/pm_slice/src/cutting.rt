@@ -51,12 +51,7 @@ fn cut_below(alloc: Global, top: &Node, from: usize, to: usize) -> Result<Slice,
 /// The greatest number of tokens of a fragment. A text of more units has no room in one.
 const MAX_TOKENS: usize = 0xFFFF_FFFF;
 
-fn cut_range(
-    alloc: Global,
-    content: &Fragment,
-    from: usize,
-    to: usize,
-) -> Result<Slice, CutError>
+fn cut_range(alloc: Global, content: &Fragment, from: usize, to: usize) -> Result<Slice, CutError>
     ensures { Cuts content.now from to result }
 {
     if to < from {

@@ -80,7 +80,10 @@ fn a_cut_opens_what_is_around_one_end(rt: HostRuntime) -> Result<(), Fail> {
         let slice = cut(alloc, &document, *from, *to)?.copy(alloc)?;
         assert_eq!(rt; slice.size(), to.saturating_sub(*from));
         assert_eq!(rt; slice.content().size(), *content_size);
-        assert_eq!(rt; (slice.open_start(), slice.open_end()), (*open_start, *open_end));
+        assert_eq!(rt;
+            (slice.open_start(), slice.open_end()),
+            (*open_start, *open_end)
+        );
         assert!(rt; first_units(slice.content()) == Some(*units));
     }
     Ok(())
@@ -91,10 +94,16 @@ fn a_cut_out_of_range_is_refused(rt: HostRuntime) -> Result<(), Fail> {
     let alloc = rt.alloc();
     let document = document(alloc, 0)?;
     for (from, to) in &[(3, 2), (0, 5), (5, 5)] {
-        assert_eq!(rt; cut(alloc, &document, *from, *to).err(), Some(CutError::Range));
+        assert_eq!(rt;
+            cut(alloc, &document, *from, *to).err(),
+            Some(CutError::Range)
+        );
     }
     let nothing = cut(alloc, &document, 2, 2)?;
-    assert_eq!(rt; (nothing.size(), nothing.open_start(), nothing.open_end()), (0, 0, 0));
+    assert_eq!(rt;
+        (nothing.size(), nothing.open_start(), nothing.open_end()),
+        (0, 0, 0)
+    );
     Ok(())
 }
 
@@ -114,7 +123,10 @@ fn a_side_is_not_deeper_than_the_content(rt: HostRuntime) -> Result<(), Fail> {
     }
     let empty = alone(alloc, block(alloc, PARAGRAPH, text(alloc, &[])?)?)?;
     if let Ok(slice) = Slice::new(alloc, empty, 1, 1) {
-        assert_eq!(rt; (slice.size(), slice.open_start(), slice.content().size()), (0, 0, 0));
+        assert_eq!(rt;
+            (slice.size(), slice.open_start(), slice.content().size()),
+            (0, 0, 0)
+        );
     }
     assert_eq!(rt; Slice::empty(alloc).size(), 0);
     Ok(())

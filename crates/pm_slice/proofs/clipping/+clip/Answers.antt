@@ -1,4 +1,4 @@
-use Rattle.std.proofs.Common.{◌≡◌, min, ℕ, ◌+◌, ◌-◌, ◌*◌, ◌<◌, ◌≤◌, ◌++◌, [], ◌∷◌, List, length, arith, sym, ap, ◌∙◌, subst, refl, IfOk}
+use Rattle.std.proofs.Common.{◌≡◌, min, ℕ, ◌+◌, ◌-◌, ◌*◌, ◌<◌, ◌≤◌, ◌++◌, [], ◌∷◌, List, length, arith, sym, ap, ◌∙◌, subst, IfOk}
 use Rattle.std.specs.Arc.{arc_value}
 use Rattle.std.proofs.lemmas.Result.{IfOk-weaker}
 use Rattle.pm_tokens.specs.Tokens.{Open, Close}
@@ -91,7 +91,7 @@ clip_part-returns-in_ok-cut-in-Text-clause-small t c =
     let n = c.args.node.now in
     let same = cut_is us c.in_ok-cut-in-Text.cut c.args.from c.args.to _ _ c.in_ok-cut-in-Text.ensures c.min-end.ensures c.len.ensures in
     let small : length (text_tokens n.marks c.in_ok-cut-in-Text.cut) ≤ length (node_tokens n) =
-        omega (arith, text-small n.marks us c.args.from c.args.to, ap (λ z. length (text_tokens n.marks z)) same, ap length (node_tokens_at n (Text us) c.in-Text.is)) in
+    omega (arith, text-small n.marks us c.args.from c.args.to, ap (λ z. length (text_tokens n.marks z)) same, ap length (node_tokens_at n (Text us) c.in-Text.is)) in
     IfOk-weaker c.with_body.result (λ m. node_tokens m ≡ text_tokens n.marks c.in_ok-cut-in-Text.cut) (λ m. length (node_tokens m) ≤ length (node_tokens n)) (λ m e. omega (arith, small, ap length e)) c.with_body.ensures
 
 pub clip_part-returns-in_ok-inner-in-Children-clause-tokens : goal.clip_part-returns-in_ok-inner-in-Children-clause-tokens
@@ -99,7 +99,7 @@ clip_part-returns-in_ok-inner-in-Children-clause-tokens t c =
     let n = c.args.node.now in
     let inner = c.in-Children.content in
     let same : clipped (node_tokens n) c.args.from c.args.to ≡ Open n.kind n.attrs n.marks ∷ (clipped inner (c.args.from - 1) (c.args.to - 1) ++ (Close ∷ [])) =
-        clipped-node n inner c.args.from c.args.to c.in-Children.is c.size.ensures.whole c.requires.order c.requires.start c.requires.some c.requires.parted in
+    clipped-node n inner c.args.from c.args.to c.in-Children.is c.size.ensures.whole c.requires.order c.requires.start c.requires.some c.requires.parted in
     let made : c.in_ok-inner-in-Children.inner ≡ clipped inner (c.args.from - 1) (c.args.to - 1) =
-        c.in_ok-inner-in-Children.ensures.tokens ∙ ap (λ z. clipped inner z (c.args.to - 1)) c.saturating_sub-start.ensures in
+    c.in_ok-inner-in-Children.ensures.tokens ∙ ap (λ z. clipped inner z (c.args.to - 1)) c.saturating_sub-start.ensures in
     subst (λ z. IfOk c.with_body-in-Children.result (λ m. node_tokens m ≡ z)) (ap (λ z. Open n.kind n.attrs n.marks ∷ (z ++ (Close ∷ []))) made ∙ sym same) c.with_body-in-Children.ensures

@@ -1,5 +1,4 @@
-use Rattle.std.proofs.Common.{◌≡◌, ℕ, ◌+◌, ◌-◌, ◌<◌, ◌≤◌, length, arith, sym, ap, ◌∙◌, subst, refl, IfOk}
-use Rattle.std.proofs.lemmas.Result.{IfOk-equal}
+use Rattle.std.proofs.Common.{◌≡◌, ◌<◌, length, arith, ap, ◌∙◌, subst, refl, IfOk}
 use Rattle.std.specs.Arc.{arc_value}
 use Rattle.pm_tokens.specs.Scan.{Balanced}
 use Rattle.pm_tokens.specs.Slices.{cut}

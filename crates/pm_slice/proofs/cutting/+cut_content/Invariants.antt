@@ -1,4 +1,4 @@
-use Rattle.std.proofs.Common.{ℕ, length}
+use Rattle.std.proofs.Common.{length}
 use Rattle.pm_slice.proofs.CutWalk.{Sought}
 use Rattle.pm_slice.proofs.cutting.+cut_content.Given as goal
 

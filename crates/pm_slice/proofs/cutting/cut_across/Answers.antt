@@ -1,4 +1,3 @@
-use Rattle.std.proofs.Common.{◌≡◌, ◌≤◌, length}
 use Rattle.pm_slice.proofs.CutWalk.{across-made, across-kept}
 use Rattle.pm_slice.proofs.cutting.cut_across.Goals as goal
 

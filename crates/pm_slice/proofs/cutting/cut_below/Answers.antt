@@ -1,6 +1,4 @@
-use Rattle.std.proofs.Common.{◌≡◌, length, List, arith, ap, ◌∙◌}
-use Rattle.pm_tokens.specs.Tokens.{Token}
-use Rattle.pm_node.specs.declared.node.Body.TheVariants.{Text}
+use Rattle.std.proofs.Common.{◌≡◌, length, arith, ap, ◌∙◌}
 use Rattle.pm_node.specs.Documents.{content_tokens}
 use Rattle.pm_node.proofs.TreeLaws.{length-text_tokens}
 use Rattle.pm_slice.proofs.cutting.cut_below.Goals as goal

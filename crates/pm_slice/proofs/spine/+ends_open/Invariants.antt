@@ -1,4 +1,3 @@
-use Rattle.std.proofs.Common.{length}
 use Rattle.pm_slice.proofs.spine.+ends_open.Given as goal
 
 abbrev pub decreases-ends_open : goal.decreases-ends_open

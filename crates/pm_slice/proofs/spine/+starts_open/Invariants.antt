@@ -1,4 +1,3 @@
-use Rattle.std.proofs.Common.{length}
 use Rattle.pm_slice.proofs.spine.+starts_open.Given as goal
 
 abbrev pub decreases-starts_open : goal.decreases-starts_open

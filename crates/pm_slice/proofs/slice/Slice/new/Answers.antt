@@ -1,24 +1,25 @@
-use Rattle.std.proofs.Common.{◌≡◌, ◌+◌, ◌≤◌, ◌<◌, length, ap, sym, ◌∙◌, arith, true, false, refl, Fits, w64}
-use Rattle.pm_tokens.specs.Slices.{is_slice}
+use Rattle.std.proofs.Common.{◌≡◌, sym, ◌∙◌, arith, true, false, refl}
 use Rattle.pm_tokens.proofs.PartLaws.{slice-is}
-use Rattle.pm_slice.specs.Sides.{sides, or_none}
+use Rattle.pm_slice.specs.Sides.{sides}
 use Rattle.pm_slice.proofs.SideLaws.{made-slice, sides-fit, some-left}
 use Rattle.pm_slice.proofs.slice.Slice.new.Goals as goal
 use Rattle.pm_slice.proofs.slice.Slice.new.Goals.{then-not-starts_open-via-then-not-starts_open, then-not-starts_open-via-else-not-starts_open+then-not-ends_open}
 
 pub returns-then-not-starts_open-clause-fits : goal.returns-then-not-starts_open-clause-fits
 returns-then-not-starts_open-clause-fits c =
-    let f = sides-fit c.args.content c.args.open_start c.args.open_end in
-    (λ e. absurd (cc), λ h. absurd (elim c.then-not-starts_open.branch [
-      | then-not-starts_open-via-then-not-starts_open w ↦ (
-        let yes : c.starts_open.result ≡ true = c.starts_open.ensures ∙ (f h).0 in
-        let other : c.starts_open.result ≡ false = w.if-not-starts_open.true in cc
-      )
-      | then-not-starts_open-via-else-not-starts_open+then-not-ends_open w ↦ (
-        let yes : w.ends_open.result ≡ true = w.ends_open.ensures ∙ (f h).1 in
-        let other : w.ends_open.result ≡ false = w.if-not-ends_open.true in cc
-      )
-    ]))
+    let f = sides-fit c.args.content c.args.open_start c.args.open_end in (
+      λ e. absurd (cc),
+      λ h. absurd (elim c.then-not-starts_open.branch [
+        | then-not-starts_open-via-then-not-starts_open w ↦ (
+            let yes : c.starts_open.result ≡ true = c.starts_open.ensures ∙ (f h).0 in
+            let other : c.starts_open.result ≡ false = w.if-not-starts_open.true in cc
+            )
+        | then-not-starts_open-via-else-not-starts_open+then-not-ends_open w ↦ (
+            let yes : w.ends_open.result ≡ true = w.ends_open.ensures ∙ (f h).1 in
+            let other : w.ends_open.result ≡ false = w.if-not-ends_open.true in cc
+            )
+      ]),
+    )
 
 pub overflow_add-open_start : goal.overflow_add-open_start
 overflow_add-open_start c =
