@@ -159,7 +159,8 @@ fn nodes_around_a_position_are_opened(rt: HostRuntime) -> Result<(), Fail> {
 fn leaf(alloc: Global) -> Result<Arc<Node, Global>, AllocError>
     ensures { IfOk result (λ n. node_tokens (arc_value n) ≡ Leaf LINE [] [] ∷ []) }
 {
-    Arc::new(alloc, node(alloc, LINE, Body::Leaf))
+    let leaf = Arc::new(alloc, node(alloc, LINE, Body::Leaf))?;
+    Ok(leaf)
 }
 
 #[test]
