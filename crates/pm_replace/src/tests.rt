@@ -10,16 +10,55 @@ use std::alloc::Global;
 use std::process::Abort;
 use std::test::Fail;
 
-/// A document, the range, the slice's content and open sides, and the document that they give, or the reason why not.
-type Row = (
-    &'static str,
-    u64,
-    u64,
-    &'static str,
-    usize,
-    usize,
-    Result<&'static str, Reason>,
-);
+/// A row: a document, the range, the slice's content and open sides, and the document that they give or the reason why not.
+const WITHIN_A_PARAGRAPH: &str = "\
+    Phello you/,5,8,,0,0,Phellou/;\
+    Phello you/,5,8,i k,0,0,Phelli kou/;\
+    Phello/,5,5,i k,0,0,Phelli ko/;\
+    Pa/P/Pb/,4,4,y*,0,0,Pa/Py*/Pb/;\
+    P/,1,1,<>,0,0,P<>/";
+
+/// The left node's type and level are kept, also where the slice's first node is joined.
+const PARAGRAPHS: &str = "\
+    Phello/Pyou/,5,9,,0,0,Phellou/;\
+    Pa/Pb/Pc/,2,7,,0,0,Pac/;\
+    Hab/Pcd/,2,6,,0,0,Had/;\
+    Hab/Gcd/,2,6,,0,0,Had/;\
+    Gab/Hcd/,2,6,,0,0,Gad/;\
+    Gab/Pcd/,2,6,Hx/Py/,1,1,Gax/Pyd/";
+
+const OPEN_SIDES: &str = "\
+    Pone/,2,2,P/P/,1,1,Po/Pne/;\
+    Ponetwo/,4,4,P/Phi/P/,1,1,Pone/Phi/Ptwo/;\
+    Pone/Ptwo/,4,7,P/Phi/P/,1,1,Pone/Phi/Pwo/;\
+    QPab//Pcd/,3,6,QPx//,2,0,QPax//Pcd/;\
+    Pab/QPcd//,4,7,QPx//,0,2,Pab/QPxd//;\
+    QPbc/Pde/Pf//,3,7,QPy//Pn/QP//,2,2,QPby//Pn/QPe/Pf//";
+
+const LISTS: &str = "\
+    LIPa//IPb///,4,8,,0,0,LIPab///;\
+    LIPa//IPb///,5,7,,0,0,LIPa/Pb///;\
+    LIPa///LIPb///,4,10,,0,0,LIPab///;\
+    LIPone//IPthree///,6,6,IPhalf//IPtwo//,2,2,LIPonehalf//IPtwo//IPthree///;\
+    QLIPa//IPb//IPc//IPd//IPe////,10,19,,0,0,QLIPa//IPbd//IPe////";
+
+/// Depth: open too deep, deeper at the end than at the start, and before a pair. Join: a blockquote and a list, though the
+/// blockquote of both would be valid, and a paragraph and a list at the slice's start. Content: a document without a block,
+/// a list without an item, which is joined to nothing, and half a pair.
+const REASONS: &str = "\
+    Pab/,3,2,QP//,2,0,Range;\
+    Pab/,1,5,,0,0,Range;\
+    Pab/,1,18446744073709551615,,0,0,Range;\
+    P/,1,1,QPx//,2,2,Depth;\
+    Pab/,1,4,,0,0,Depth;\
+    P<>/,2,4,,0,0,Depth;\
+    P<>a/,1,2,,0,0,Pair;\
+    P<>a/,2,4,,0,0,Pair;\
+    QPa//LIPb///,4,11,,0,0,Join;\
+    Pab/,2,2,LIP///Px/,1,1,Join;\
+    Pab/,0,4,,0,0,Content { at: 0 };\
+    Pab/,4,4,QL//,0,0,Content { at: 6 };\
+    Pab/,4,4,QPx<//,0,0,Content { at: 8 }";
 
 fn replaced(
     alloc: Global,
@@ -36,140 +75,55 @@ fn replaced(
     }
 }
 
-fn answers(rt: &(impl AllocGlobal + Abort), rows: &[Row]) -> Result<(), Fail> {
+/// What is found for the row, and what the row wants, as texts.
+fn answer<'a>(alloc: Global, schema: &Schema, row: &'a str) -> Result<(&'a str, String), Fail> {
+    let fields: Vec<&str> = row.split(',').collect(alloc)?;
+    let [before, from, to, text, start, end, want] = fields.as_slice() else {
+        return Err(Fail::new("a row has seven fields"));
+    };
+    let document = document(alloc, before)?;
+    let slice = slice(alloc, text, start.parse()?, end.parse()?)?;
+    let range = (from.parse()?, to.parse()?);
+    let found = match replaced(alloc, schema, &document, range, &slice)? {
+        Ok(next) => next,
+        Err(reason) => format!(in alloc; "{reason:?}")?,
+    };
+    Ok((*want, found))
+}
+
+fn answers(rt: &(impl AllocGlobal + Abort), rows: &str) -> Result<(), Fail> {
     let alloc = rt.alloc();
     let schema = schema(alloc)?;
-    for (before, from, to, text, open_start, open_end, want) in rows {
-        let document = document(alloc, before)?;
-        let slice = slice(alloc, text, *open_start, *open_end)?;
-        match (
-            replaced(alloc, &schema, &document, (*from, *to), &slice)?,
-            want,
-        ) {
-            (Ok(next), Ok(want)) => assert!(rt; next.as_str() == *want, "{before}: {next}"),
-            (Err(reason), Err(want)) => assert_eq!(rt; reason, *want, "{before}"),
-            (found, _) => assert!(rt; false, "{before} {from} {to} {text}: {found:?}"),
-        }
+    for row in rows.split(';') {
+        let (want, found) = answer(alloc, &schema, row)?;
+        assert!(rt; found.as_str() == want, "{row}: {found}");
     }
     Ok(())
 }
 
 #[test]
 fn text_is_replaced_within_a_paragraph(rt: HostRuntime) -> Result<(), Fail> {
-    answers(
-        &rt,
-        &[
-            ("Phello you/", 5, 8, "", 0, 0, Ok("Phellou/")),
-            ("Phello you/", 5, 8, "i k", 0, 0, Ok("Phelli kou/")),
-            ("Phello/", 5, 5, "i k", 0, 0, Ok("Phelli ko/")),
-            ("Pa/P/Pb/", 4, 4, "y*", 0, 0, Ok("Pa/Py*/Pb/")),
-            ("P/", 1, 1, "<>", 0, 0, Ok("P<>/")),
-        ],
-    )
+    answers(&rt, WITHIN_A_PARAGRAPH)
 }
 
 #[test]
 fn paragraphs_are_joined(rt: HostRuntime) -> Result<(), Fail> {
-    answers(
-        &rt,
-        &[
-            ("Phello/Pyou/", 5, 9, "", 0, 0, Ok("Phellou/")),
-            ("Pa/Pb/Pc/", 2, 7, "", 0, 0, Ok("Pac/")),
-            // the left node's type and level are kept
-            ("Hab/Pcd/", 2, 6, "", 0, 0, Ok("Had/")),
-            ("Hab/Gcd/", 2, 6, "", 0, 0, Ok("Had/")),
-            ("Gab/Hcd/", 2, 6, "", 0, 0, Ok("Gad/")),
-            // also where the slice's first node is joined
-            ("Gab/Pcd/", 2, 6, "Hx/Py/", 1, 1, Ok("Gax/Pyd/")),
-        ],
-    )
+    answers(&rt, PARAGRAPHS)
 }
 
 #[test]
 fn open_sides_are_joined(rt: HostRuntime) -> Result<(), Fail> {
-    answers(
-        &rt,
-        &[
-            ("Pone/", 2, 2, "P/P/", 1, 1, Ok("Po/Pne/")),
-            ("Ponetwo/", 4, 4, "P/Phi/P/", 1, 1, Ok("Pone/Phi/Ptwo/")),
-            ("Pone/Ptwo/", 4, 7, "P/Phi/P/", 1, 1, Ok("Pone/Phi/Pwo/")),
-            ("QPab//Pcd/", 3, 6, "QPx//", 2, 0, Ok("QPax//Pcd/")),
-            ("Pab/QPcd//", 4, 7, "QPx//", 0, 2, Ok("Pab/QPxd//")),
-            (
-                "QPbc/Pde/Pf//",
-                3,
-                7,
-                "QPy//Pn/QP//",
-                2,
-                2,
-                Ok("QPby//Pn/QPe/Pf//"),
-            ),
-        ],
-    )
+    answers(&rt, OPEN_SIDES)
 }
 
 #[test]
 fn lists_are_joined(rt: HostRuntime) -> Result<(), Fail> {
-    answers(
-        &rt,
-        &[
-            ("LIPa//IPb///", 4, 8, "", 0, 0, Ok("LIPab///")),
-            ("LIPa//IPb///", 5, 7, "", 0, 0, Ok("LIPa/Pb///")),
-            ("LIPa///LIPb///", 4, 10, "", 0, 0, Ok("LIPab///")),
-            (
-                "LIPone//IPthree///",
-                6,
-                6,
-                "IPhalf//IPtwo//",
-                2,
-                2,
-                Ok("LIPonehalf//IPtwo//IPthree///"),
-            ),
-            (
-                "QLIPa//IPb//IPc//IPd//IPe////",
-                10,
-                19,
-                "",
-                0,
-                0,
-                Ok("QLIPa//IPbd//IPe////"),
-            ),
-        ],
-    )
+    answers(&rt, LISTS)
 }
 
 #[test]
 fn the_first_reason_is_told(rt: HostRuntime) -> Result<(), Fail> {
-    answers(
-        &rt,
-        &[
-            ("Pab/", 3, 2, "QP//", 2, 0, Err(Reason::Range)),
-            ("Pab/", 1, 5, "", 0, 0, Err(Reason::Range)),
-            (
-                "Pab/",
-                1,
-                0xFFFF_FFFF_FFFF_FFFF,
-                "",
-                0,
-                0,
-                Err(Reason::Range),
-            ),
-            // open too deep, deeper at the end than at the start, and before a pair
-            ("P/", 1, 1, "QPx//", 2, 2, Err(Reason::Depth)),
-            ("Pab/", 1, 4, "", 0, 0, Err(Reason::Depth)),
-            ("P<>/", 2, 4, "", 0, 0, Err(Reason::Depth)),
-            ("P<>a/", 1, 2, "", 0, 0, Err(Reason::Pair)),
-            ("P<>a/", 2, 4, "", 0, 0, Err(Reason::Pair)),
-            // a blockquote and a list, though the blockquote of both would be valid
-            ("QPa//LIPb///", 4, 11, "", 0, 0, Err(Reason::Join)),
-            // a paragraph and a list, at the slice's start
-            ("Pab/", 2, 2, "LIP///Px/", 1, 1, Err(Reason::Join)),
-            // a document without a block, and a list without an item, which is joined to nothing
-            ("Pab/", 0, 4, "", 0, 0, Err(Reason::Content { at: 0 })),
-            ("Pab/", 4, 4, "QL//", 0, 0, Err(Reason::Content { at: 6 })),
-            ("Pab/", 4, 4, "QPx<//", 0, 0, Err(Reason::Content { at: 8 })),
-        ],
-    )
+    answers(&rt, REASONS)
 }
 
 #[test]
