@@ -7,4 +7,5 @@ pub mod Lefts
 pub mod Opening
 pub mod Playing
 pub mod Turns
+pub mod Unrefused
 pub mod Settling

@@ -1,9 +1,11 @@
 //! A room: an authority and its clients.
 ghost use Rattle.std.specs.Prelude.{◌≡◌, ◌≤◌, ◌<◌, false, length, vec_len, All, IfOk, OnErr, OnOk};
+ghost use Rattle.std.specs.List.{AllByRecursion as Each};
 ghost use Rattle.pm_client.specs.declared.taken.Kind.TheVariants.{Ask};
 ghost use Rattle.pm_session.specs.Events.{state_of, played};
 ghost use Rattle.pm_session.specs.Left.{LeftByLine};
 ghost use Rattle.pm_session.specs.Sessions.{opened, session, exchanged, brought_up, in_turn, settled};
+ghost use Rattle.pm_session.specs.Refusals.{GetsNoRefusal};
 ghost use Rattle.pm_session.specs.Sounds.{Sound, AllCaughtUp, NamesDiffer};
 ghost use Rattle.pm_session.specs.Suits.{SuitsRoom, LinesSuit};
 
@@ -77,6 +79,8 @@ impl<C: Change> Room<C> {
         requires sound { Sound C.means rules.now (state_of self.old) }
         requires suits { SuitsRoom (state_of self.old) line.now }
         ensures plays { IfOk result (λ o. (o, state_of self.new) ≡ played C.means rules.now (K.makes maker.now rules.now) (state_of self.old) line.now) }
+        // No message of an editor is refused for a step.
+        ensures unrefused { IfOk result (λ o. GetsNoRefusal o) }
         ensures left { OnErr result (LeftByLine C.means rules.now (state_of self.old) line.now (state_of self.new)) }
         ensures sound { Sound C.means rules.now (state_of self.new) }
         ensures names { NamesDiffer self.new.authority.log }
@@ -98,6 +102,7 @@ impl<C: Change> Room<C> {
         requires suit { LinesSuit (state_of self.old) lines.now }
         ensures outcomes { IfOk result (λ v. v.items ≡ (session C.means rules.now (K.makes maker.now rules.now) (state_of self.old) lines.now).0) }
         ensures each { IfOk result (λ v. vec_len v ≡ length lines.now) }
+        ensures unrefused { IfOk result (λ v. Each GetsNoRefusal v.items) }
         ensures room { OnOk result (state_of self.new ≡ (session C.means rules.now (K.makes maker.now rules.now) (state_of self.old) lines.now).1) }
         ensures sound { Sound C.means rules.now (state_of self.new) }
         ensures names { NamesDiffer self.new.authority.log }
