@@ -87,18 +87,19 @@ others-differ x client (k ∷ ks) far own = ((λ e. far (sym (ap (λ n. n.client
 -- a client's steps whose serials rise past those of its steps in a list
 pub apart-own : {C : Type 0} (client : ℕ) (xs ys : List (Named C)) → Each (IsOwn client) ys → Rises (own_serials client xs ++ serials_of ys) → Apart xs ys
 apart-own client [] ys own h = tt
-apart-own client (x ∷ xs) ys own h = by-test (x.name.client == client) refl h
+apart-own client (x ∷ xs) ys own h = by-test (x.name.client == client) refl h (λ r. apart-own client xs ys own r)
   where
     by-test : (b : Bool) → (x.name.client == client) ≡ b
-        → Rises ((if b then x.name.serial ∷ own_serials client xs else own_serials client xs) ++ serials_of ys) → Apart (x ∷ xs) ys
-    by-test true e h = (past-differ x ys (Each-back _ (own_serials client xs) (serials_of ys) h.0), apart-own client xs ys own h.1)
-    by-test false e h =
-        (others-differ x client ys (λ q. let t : (x.name.client == client) ≡ true = eq-eqb x.name.client client q in absurd (cc)) own, apart-own client xs ys own h)
+        → Rises ((if b then x.name.serial ∷ own_serials client xs else own_serials client xs) ++ serials_of ys)
+        → (Rises (own_serials client xs ++ serials_of ys) → Apart xs ys) → Apart (x ∷ xs) ys
+    by-test true e h rest = (past-differ x ys (Each-back _ (own_serials client xs) (serials_of ys) h.0), rest h.1)
+    by-test false e h rest =
+        (others-differ x client ys (λ q. let t : (x.name.client == client) ≡ true = eq-eqb x.name.client client q in absurd (cc)) own, rest h)
 
 -- a log in which each client's serials rise
 pub log-differ : {C : Type 0} (log : List (Named C)) → ((client : ℕ) → Rises (own_serials client log)) → AllDiffer log
 log-differ [] h = tt
-log-differ (n ∷ log) h = (ahead log (first (n.name.client == n.name.client) (eq-eqb n.name.client n.name.client refl) (h n.name.client)), log-differ log (λ client. rest client (n.name.client == client) (h client)))
+log-differ {C = C} (n ∷ log) h = (ahead log (first (n.name.client == n.name.client) (eq-eqb n.name.client n.name.client refl) (h n.name.client)), log-differ log (λ client. rest client (n.name.client == client) (h client)))
   where
     rest : (client : ℕ) (b : Bool) → Rises (if b then n.name.serial ∷ own_serials client log else own_serials client log) → Rises (own_serials client log)
     rest client true r = r.1
@@ -109,16 +110,16 @@ log-differ (n ∷ log) h = (ahead log (first (n.name.client == n.name.client) (e
     first true e r = r.0
     first false e r = absurd (cc)
 
+    one : (k : Named C) (ks : List (Named C)) (b : Bool) → (k.name.client == n.name.client) ≡ b
+        → Each (λ y. n.name.serial < y) (if b then k.name.serial ∷ own_serials n.name.client ks else own_serials n.name.client ks)
+        → (Each (λ y. n.name.serial < y) (own_serials n.name.client ks) → Each (λ x. x.name ≡ n.name → ⊥) ks) → Each (λ x. x.name ≡ n.name → ⊥) (k ∷ ks)
+    one k ks true e r rest = ((λ q. let s : k.name.serial ≡ n.name.serial = ap (λ a. a.serial) q in absurd (omega (arith, r.0, s))), rest r.1)
+    one k ks false e r rest =
+        ((λ q. let t : (k.name.client == n.name.client) ≡ true = eq-eqb k.name.client n.name.client (ap (λ a. a.client) q) in absurd (cc)), rest r)
+
     ahead : (ks : List (Named C)) → Each (λ y. n.name.serial < y) (own_serials n.name.client ks) → Each (λ k. k.name ≡ n.name → ⊥) ks
     ahead [] r = tt
-    ahead (k ∷ ks) r = by-test (k.name.client == n.name.client) refl r
-      where
-        by-test : (b : Bool) → (k.name.client == n.name.client) ≡ b
-            → Each (λ y. n.name.serial < y) (if b then k.name.serial ∷ own_serials n.name.client ks else own_serials n.name.client ks)
-            → Each (λ k. k.name ≡ n.name → ⊥) (k ∷ ks)
-        by-test true e r = ((λ q. let s : k.name.serial ≡ n.name.serial = ap (λ a. a.serial) q in absurd (omega (arith, r.0, s))), ahead ks r.1)
-        by-test false e r =
-            ((λ q. let t : (k.name.client == n.name.client) ≡ true = eq-eqb k.name.client n.name.client (ap (λ a. a.client) q) in absurd (cc)), ahead ks r)
+    ahead (k ∷ ks) r = one k ks (k.name.client == n.name.client) refl r (λ q. ahead ks q)
 
 -- ---- names of tokens over steps that apply
 

@@ -115,7 +115,9 @@ module _ {Rules Doc Reason C : Type 0} (m : Meaning Rules Doc Reason C) (rules :
             → CursorsStay m (session m rules makes s (take k lines)).1 (session m rules makes s (take (suc k) lines)).1
         stays s [] zero sound suit = rests s sound
         stays s [] (suc k) sound suit = rests s sound
-        stays s (line ∷ lines) zero sound suit = rw take-zero (played-stays s sound line (suits-first m rules laws makes s sound line lines suit))
+        stays s (line ∷ lines) zero sound suit =
+            subst (λ l. CursorsStay m s (session m rules makes (played m rules makes s line).1 l).1) (sym (take-zero lines))
+            (played-stays s sound line (suits-first m rules laws makes s sound line lines suit))
         stays s (line ∷ lines) (suc k) sound suit =
             stays (played m rules makes s line).1 lines k (played-sound m rules laws makes s sound line (suits-first m rules laws makes s sound line lines suit))
             (suits-rest m rules laws makes s sound line lines suit)

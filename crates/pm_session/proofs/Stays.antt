@@ -253,7 +253,20 @@ module _ {Rules Doc Reason C : Type 0} (m : Meaning Rules Doc Reason C) (rules :
         let stands = (given-moved m rules laws a stood c kin kind).after.own in
         let last : taken_at m rules keeper (length c.answers + 1) ≡ taken m rules keeper p.0 = taken-last m rules (composed c kind) p.0 (length c.answers + 1) refl in
         record {
-          keeps = rw last at (taken-keeps m rules laws p.1.first p.1.log keeper stands (length c.answers + 1));
+          keeps = λ names may i q t at before after.
+              (rw last at (taken-keeps m rules laws p.1.first p.1.log keeper stands (length c.answers + 1))) names
+              (record {
+                size = may.size;
+                once = may.once;
+                past = may.past;
+                pending = may.pending;
+                made = may.made;
+                differ = may.differ;
+                past_unpinched = may.past_unpinched;
+                unpinched = may.unpinched;
+                made_unpinched = may.made_unpinched;
+              })
+              i q t at before after;
           rises = taken-rises keeper p.0;
           first = presented-first a (message_of c kind);
         }
@@ -261,6 +274,19 @@ module _ {Rules Doc Reason C : Type 0} (m : Meaning Rules Doc Reason C) (rules :
     presents-stayed : (o : Option (Message C)) → Stayed (presents m rules a c o).1 (presents m rules a c o).2
     presents-stayed None = unmoved
     presents-stayed (Some message) = kept-stayed message
+
+    as-was : (p : Authority C Rules Doc Reason × Client C Rules Doc Reason) → LeftAsWas m rules a c p → Stayed p.0 p.1
+    as-was p e = subst (λ (q : Authority C Rules Doc Reason × Client C Rules Doc Reason). Stayed q.0 q.1) (sym e) unmoved
+
+    exchanging : (kind : Kind) (p : Authority C Rules Doc Reason × Client C Rules Doc Reason) → LeftExchanging m rules a c kind p → Stayed p.0 p.1
+    exchanging kind p (inl e) = as-was p e
+    exchanging kind p (inr (inl e)) = subst (λ (q : Authority C Rules Doc Reason × Client C Rules Doc Reason). Stayed q.0 q.1) (sym e) (composed-stayed kind)
+    exchanging kind p (inr (inr (inl e))) = subst (λ (q : Authority C Rules Doc Reason × Client C Rules Doc Reason). Stayed q.0 q.1) (sym e) (sent-stayed kind)
+    exchanging kind p (inr (inr (inr e))) = subst (λ (q : Authority C Rules Doc Reason × Client C Rules Doc Reason). Stayed q.0 q.1) (sym e) (given-stayed kind)
+
+    presenting : (x : Message C) (p : Authority C Rules Doc Reason × Client C Rules Doc Reason) → LeftPresenting m rules a c x p → Stayed p.0 p.1
+    presenting x p (inl e) = as-was p e
+    presenting x p (inr e) = subst (λ (q : Authority C Rules Doc Reason × Client C Rules Doc Reason). Stayed q.0 q.1) (sym e) (presented-stayed x)
 
     module _ {Op : Type 0} where
       pub acted-stayed : (makes : Doc → Op → Result (List C) NoSteps) (act : Act Op) → Stayed (acted m rules makes a act c).1 (acted m rules makes a act c).2
@@ -273,23 +299,10 @@ module _ {Rules Doc Reason C : Type 0} (m : Meaning Rules Doc Reason C) (rules :
       acted-stayed makes (Push lost) = exchanges-stayed Submission lost
       acted-stayed makes (Pull lost) = exchanges-stayed Asking lost
 
-      as-was : (p : Authority C Rules Doc Reason × Client C Rules Doc Reason) → LeftAsWas m rules a c p → Stayed p.0 p.1
-      as-was p e = subst (λ (q : Authority C Rules Doc Reason × Client C Rules Doc Reason). Stayed q.0 q.1) (sym e) unmoved
-
-      exchanging : (kind : Kind) (p : Authority C Rules Doc Reason × Client C Rules Doc Reason) → LeftExchanging m rules a c kind p → Stayed p.0 p.1
-      exchanging kind p (inl e) = as-was p e
-      exchanging kind p (inr (inl e)) = subst (λ (q : Authority C Rules Doc Reason × Client C Rules Doc Reason). Stayed q.0 q.1) (sym e) (composed-stayed kind)
-      exchanging kind p (inr (inr (inl e))) = subst (λ (q : Authority C Rules Doc Reason × Client C Rules Doc Reason). Stayed q.0 q.1) (sym e) (sent-stayed kind)
-      exchanging kind p (inr (inr (inr e))) = subst (λ (q : Authority C Rules Doc Reason × Client C Rules Doc Reason). Stayed q.0 q.1) (sym e) (given-stayed kind)
-
-      presenting : (x : Message C) (p : Authority C Rules Doc Reason × Client C Rules Doc Reason) → LeftPresenting m rules a c x p → Stayed p.0 p.1
-      presenting x p (inl e) = as-was p e
-      presenting x p (inr e) = subst (λ (q : Authority C Rules Doc Reason × Client C Rules Doc Reason). Stayed q.0 q.1) (sym e) (presented-stayed x)
-
       -- and so it is where an act ran out of memory
       pub left-stayed : (act : Act Op) (p : Authority C Rules Doc Reason × Client C Rules Doc Reason) → LeftBy m rules a c act p → Stayed p.0 p.1
       left-stayed (Edit op) p h = as-was p h
-      left-stayed (Cursor pos side) p h = as-was p h
+      left-stayed (Cursor place side) p h = as-was p h
       left-stayed Submit p h = as-was p h
       left-stayed Ask p h = as-was p h
       left-stayed (Present j) p h = presenting h.0 p h.2
