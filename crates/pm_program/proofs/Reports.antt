@@ -14,6 +14,7 @@ use Rattle.pm_session.proofs.Playing.{session-sound, suit-front}
 use Rattle.pm_session.proofs.Turns.{settled-sound}
 use Rattle.pm_session.proofs.Settling.{settled-caught}
 use Rattle.pm_session.proofs.LogNames.{sound-names}
+use Rattle.pm_session.proofs.Unrefused.{messages-none, session-none}
 use Rattle.pm_flat.specs.declared.flat.Replace.{Replace}
 use Rattle.pm_flat.specs.declared.flat.Reason.{Reason}
 use Rattle.pm_flat.specs.Flat.{meaning}
@@ -54,6 +55,9 @@ rooms-sound s few suit =
       when_played = played;
       when_settled = end;
       names_played = λ k. sound-names meaning tt (session meaning tt (makes tt) room (take k s.lines)).1 (played k);
+      unrefused = session-none meaning tt laws (makes tt) room s.lines sound all;
+      messages_played = λ k. messages-none meaning tt laws (session meaning tt (makes tt) room (take k s.lines)).1 (played k);
+      messages = messages-none meaning tt laws (settled meaning tt (playing s).1) end;
       caught_up = settled-caught meaning tt laws (playing s).1 last;
       names = sound-names meaning tt (settled meaning tt (playing s).1) end;
     }
