@@ -114,7 +114,7 @@ branch-ordered s kind attrs marks content e =
     with_attrs-ordered (keys (node_at s kind).attrs) attrs (with_content content inner)
     (content-after (codes "attrs") content inner refl (marks-after (codes "attrs") (marks_written s marks) (typed name) refl (refl, tt)))
     (with_content-ordered content inner e (marks-after (codes "content") (marks_written s marks) (typed name) refl (refl, tt))
-      (with_marks-ordered (marks_written s marks) (typed name) (marks-ordered s marks) (refl, tt) (typed-ordered name)))
+    (with_marks-ordered (marks_written s marks) (typed name) (marks-ordered s marks) (refl, tt) (typed-ordered name)))
 
 -- ---- nodes
 

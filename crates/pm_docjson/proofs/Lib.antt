@@ -17,5 +17,5 @@ pub mod ListPuts
 pub mod ValueAnswers
 pub mod KeyOrder
 pub mod NoFloat
-pub mod Texts
+pub mod WholeTexts
 pub mod Writables

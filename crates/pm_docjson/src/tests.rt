@@ -38,11 +38,7 @@ fn mark(alloc: Global, name: &str, excludes: Option<&str>) -> Result<MarkSpec, A
     })
 }
 
-fn attrs(
-    alloc: Global,
-    name: &str,
-    default: Option<Value>,
-) -> Result<AttrSpecs, AllocError> {
+fn attrs(alloc: Global, name: &str, default: Option<Value>) -> Result<AttrSpecs, AllocError> {
     let name = Text::from_str(alloc, name)?;
     AttrSpecs::one(alloc, AttrSpec { name, default })
 }

@@ -62,7 +62,10 @@ fn documents_are_written_in_full(rt: HostRuntime) -> Result<(), Fail> {
         assert!(rt; value.as_str() == written, "{value}");
         assert!(rt; text.as_str() == written, "{text}");
         let (value, text) = texts(&rt, alloc, &schema, written)?;
-        assert!(rt; value.as_str() == written && text.as_str() == written, "{value}");
+        assert!(rt;
+            value.as_str() == written && text.as_str() == written,
+            "{value}"
+        );
     }
     Ok(())
 }
