@@ -5,6 +5,6 @@ mod Rebasings
 mod Tokens
 mod Origins
 mod Leads
-mod TokenRuns
-mod TokenLeads
-mod TokenKeeps
+pub mod TokenRuns
+pub mod TokenLeads
+pub mod TokenKeeps

@@ -8,4 +8,7 @@ pub mod Opening
 pub mod Playing
 pub mod Turns
 pub mod Unrefused
+pub mod Namings
+pub mod Stays
+pub mod Rooms
 pub mod Settling

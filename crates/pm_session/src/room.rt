@@ -1,5 +1,5 @@
 //! A room: an authority and its clients.
-ghost use Rattle.std.specs.Prelude.{◌≡◌, ◌≤◌, ◌<◌, false, length, vec_len, All, IfOk, OnErr, OnOk};
+ghost use Rattle.std.specs.Prelude.{◌≡◌, ◌≤◌, ◌<◌, ◌+◌, ℕ, false, length, take, vec_len, All, IfOk, OnErr, OnOk};
 ghost use Rattle.std.specs.List.{AllByRecursion as Each};
 ghost use Rattle.pm_client.specs.declared.taken.Kind.TheVariants.{Ask};
 ghost use Rattle.pm_session.specs.Events.{state_of, played};
@@ -7,6 +7,7 @@ ghost use Rattle.pm_session.specs.Left.{LeftByLine};
 ghost use Rattle.pm_session.specs.Sessions.{opened, session, exchanged, brought_up, in_turn, settled};
 ghost use Rattle.pm_session.specs.Refusals.{GetsNoRefusal};
 ghost use Rattle.pm_session.specs.Sounds.{Sound, AllCaughtUp, NamesDiffer};
+ghost use Rattle.pm_session.specs.Standing.{CursorsStay};
 ghost use Rattle.pm_session.specs.Suits.{SuitsRoom, LinesSuit};
 
 use crate::act::act;
@@ -84,6 +85,8 @@ impl<C: Change> Room<C> {
         ensures left { OnErr result (LeftByLine C.means rules.now (state_of self.old) line.now (state_of self.new)) }
         ensures sound { Sound C.means rules.now (state_of self.new) }
         ensures names { NamesDiffer self.new.authority.log }
+        // Each cursor with side 1 stays before its token.
+        ensures cursors { CursorsStay C.means (state_of self.old) (state_of self.new) }
     {
         let client = &mut self.clients[line.client as usize];
         act(alloc, rules, maker, &mut self.authority, client, &line.act)
@@ -106,6 +109,10 @@ impl<C: Change> Room<C> {
         ensures room { OnOk result (state_of self.new ≡ (session C.means rules.now (K.makes maker.now rules.now) (state_of self.old) lines.now).1) }
         ensures sound { Sound C.means rules.now (state_of self.new) }
         ensures names { NamesDiffer self.new.authority.log }
+        // So it is from the room after each number of lines to the next.
+        ensures cursors { OnOk result ((k : ℕ) → CursorsStay C.means
+            (session C.means rules.now (K.makes maker.now rules.now) (state_of self.old) (take k lines.now)).1
+            (session C.means rules.now (K.makes maker.now rules.now) (state_of self.old) (take (k + 1) lines.now)).1) }
     {
         let mut outcomes = Vec::new(alloc);
         for line in lines {

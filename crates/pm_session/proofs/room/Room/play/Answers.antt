@@ -6,6 +6,7 @@ use Rattle.pm_session.specs.Left.{LeftBy}
 use Rattle.pm_session.specs.Refusals.{GetsNoRefusal}
 use Rattle.pm_session.proofs.Lefts.{act-sound}
 use Rattle.pm_session.proofs.LogNames.{sound-names}
+use Rattle.pm_session.proofs.Rooms.{act-stays}
 use Rattle.pm_session.proofs.Unrefused.{acted-none}
 use Rattle.pm_session.proofs.room.Room.play.Goals as goal
 
@@ -54,3 +55,11 @@ returns-clause-unrefused g c =
     (acted-none m c.args.rules.now g.met.C.Change.laws s.authority c.requires.sound.authority suits.client
     (c.requires.sound.stand c.args.line.now.client suits.client suits.at).1 makes c.args.line.now.act))
     c.act.ensures.acts
+
+pub returns-clause-cursors : goal.returns-clause-cursors
+returns-clause-cursors g c =
+    let suits = c.requires.suits in
+    let read = c.index_mut-client.ensures.value ∙ (get-index c.args.self.now.clients.items c.args.line.now.client suits.client suits.at).1 _ in
+    act-stays g.C.Change.means c.args.rules.now g.met.C.Change.laws (state_of c.args.self.now) c.requires.sound c.args.line.now.client suits.client suits.at
+    (g.K.Maker.makes c.args.maker.now c.args.rules.now) c.args.line.now.act suits.named c.index_mut-client.result.now read c.act.result c.act.new.authority c.act.new.client
+    c.act.ensures.acts c.act.ensures.left
