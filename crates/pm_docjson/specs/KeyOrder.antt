@@ -1,6 +1,7 @@
 -- JSON values whose keys stand in strict byte order.
 use Rattle.std.specs.Prelude.{◌≡◌, ℕ, List}
-use Rattle.std.specs.Ordering.{Less, nat_cmp}
+use Rattle.std.specs.declared.cmp.Ordering.TheVariants.{Less}
+use Rattle.std.specs.Ordering.{nat_cmp}
 use Rattle.std.specs.Cmp.Lexicographic.{slice_cmp}
 use Rattle.serde_json.specs.Data.{Data, null, boolean, number, string, array, object, Items, no_items, item, Members, no_members, member}
 
