@@ -64,7 +64,7 @@ module _ {C : Type 0} where
   live-more xs j [] h e = tt
   live-more xs j (n ∷ ns) h e = (none-more (Some n) xs j h.0 e, live-more xs j ns h.1 e)
 
-  holds-more : (n : Name) (xs ys : List (Item C)) → holds n xs ≡ true → holds n (xs ++ ys) ≡ true
+  pub holds-more : (n : Name) (xs ys : List (Item C)) → holds n xs ≡ true → holds n (xs ++ ys) ≡ true
   holds-more n [] ys h = absurd (true≢false (sym h))
   holds-more n (x ∷ xs) ys h = or-mono (one_step (Some n) x.name) (holds n xs) (holds n (xs ++ ys)) (holds-more n xs ys) h
 
@@ -143,13 +143,13 @@ and-right : (a b : Bool) → b ≡ false → (a && b) ≡ false
 and-right true b e = e
 and-right false b e = refl
 
-fresh-other : (client drawn : ℕ) (n k : Name) → IsFresh client drawn n → IsDrawn client drawn (Some k) → (same_name n k ≡ false) × (same_name k n ≡ false)
+pub fresh-other : (client drawn : ℕ) (n k : Name) → IsFresh client drawn n → IsDrawn client drawn (Some k) → (same_name n k ≡ false) × (same_name k n ≡ false)
 fresh-other client drawn n k f d = (
   and-right (n.client == k.client) (n.serial == k.serial) (ne_eqb n.serial k.serial (λ e. absurd (omega (arith, f.1, d.1, e)))),
   and-right (k.client == n.client) (k.serial == n.serial) (ne_eqb k.serial n.serial (λ e. absurd (omega (arith, f.1, d.1, e)))),
 )
 
-fresh-none : (client drawn : ℕ) (n : Name) (o : Option Name) → IsFresh client drawn n → IsDrawn client drawn o → (one_step (Some n) o ≡ false) × (one_step o (Some n) ≡ false)
+pub fresh-none : (client drawn : ℕ) (n : Name) (o : Option Name) → IsFresh client drawn n → IsDrawn client drawn o → (one_step (Some n) o ≡ false) × (one_step o (Some n) ≡ false)
 fresh-none client drawn n None f d = (refl, refl)
 fresh-none client drawn n (Some k) f d = fresh-other client drawn n k f d
 
@@ -171,7 +171,7 @@ later-drawn client drawn more (Some n) l d = (d.0, omega (arith, l, d.1))
 
 module _ {C : Type 0} (client drawn : ℕ) where
   -- a step of the timeline has a drawn name
-  held-drawn : (n : Name) (xs : List (Item C)) → Each (HasDrawn client drawn) xs → holds n xs ≡ true → IsDrawn client drawn (Some n)
+  pub held-drawn : (n : Name) (xs : List (Item C)) → Each (HasDrawn client drawn) xs → holds n xs ≡ true → IsDrawn client drawn (Some n)
   held-drawn n [] d h = absurd (true≢false (sym h))
   held-drawn n (x ∷ xs) d h = from (one_step (Some n) x.name) refl h (held-drawn n xs d.1)
     where
@@ -179,7 +179,7 @@ module _ {C : Type 0} (client drawn : ℕ) where
       from true e h go = same-drawn client drawn n x.name e d.0.0
       from false e h go = go h
 
-  fresh-names : (n : Name) (xs : List (Item C)) → IsFresh client drawn n → Each (HasDrawn client drawn) xs
+  pub fresh-names : (n : Name) (xs : List (Item C)) → IsFresh client drawn n → Each (HasDrawn client drawn) xs
       → Each (λ x. one_step x.name (Some n) ≡ false) xs × Lacks xs n × NoneUndoes (Some n) xs
   fresh-names n [] f d = (tt, tt, tt)
   fresh-names n (x ∷ xs) f d =
@@ -196,7 +196,7 @@ module _ {C : Type 0} (client drawn : ℕ) where
     fresh-differ n ns xs f d h.1 k.1,
   )
 
-  all-later : (more : ℕ) (xs : List (Item C)) → drawn ≤ more → Each (HasDrawn client drawn) xs → Each (HasDrawn client more) xs
+  pub all-later : (more : ℕ) (xs : List (Item C)) → drawn ≤ more → Each (HasDrawn client drawn) xs → Each (HasDrawn client more) xs
   all-later more [] l d = tt
   all-later more (x ∷ xs) l d = ((later-drawn client drawn more x.name l d.0.0, later-drawn client drawn more x.undoes l d.0.1), all-later more xs l d.1)
 

@@ -19,3 +19,6 @@ pub mod Grows
 pub mod Edited
 pub mod Thins
 pub mod Rebased
+pub mod Ties
+pub mod Numbers
+pub mod Turned

@@ -50,13 +50,13 @@ module _ {C : Type 0} where
   stand-drop live (suc k) (i ∷ is) [] h = absurd h
   stand-drop live (suc k) (i ∷ is) (j ∷ js) h = stand-drop live k is js h.1
 
-  stand-both : (live : List Name) (is js xs ys : List (Item C)) → StandFor live is js → StandFor live xs ys → StandFor live (is ++ xs) (js ++ ys)
+  pub stand-both : (live : List Name) (is js xs ys : List (Item C)) → StandFor live is js → StandFor live xs ys → StandFor live (is ++ xs) (js ++ ys)
   stand-both live [] [] xs ys h k = k
   stand-both live [] (j ∷ js) xs ys h k = absurd h
   stand-both live (i ∷ is) [] xs ys h k = absurd h
   stand-both live (i ∷ is) (j ∷ js) xs ys h k = (h.0, stand-both live is js xs ys h.1 k)
 
-  stand-same : (live : List Name) (is : List (Item C)) → StandFor live is is
+  pub stand-same : (live : List Name) (is : List (Item C)) → StandFor live is is
   stand-same live [] = tt
   stand-same live (i ∷ is) = (record { name_is = refl; map_is = refl; undoes_is = refl; inverse_is = inl refl }, stand-same live is)
 
@@ -91,7 +91,7 @@ split-kept (x ∷ gone) kept (a ∷ A) G e l =
     let s = split-kept gone kept A G t l in
     (s.0, s.1, ap (λ y. y ∷ A) (sym h) ∙ ap (λ ys. x ∷ ys) s.2)
 
-no-range : (xs ys : List Span) → map new_size_of xs ≡ map new_size_of ys → ys ≡ [] → xs ≡ []
+pub no-range : (xs ys : List Span) → map new_size_of xs ≡ map new_size_of ys → ys ≡ [] → xs ≡ []
 no-range [] ys e z = refl
 no-range (x ∷ xs) [] e z = absurd (cc)
 no-range (x ∷ xs) (y ∷ ys) e z = absurd (cc)
