@@ -1,5 +1,5 @@
 -- Lemmas: a history goes on standing for its timeline when the pending steps are rebased.
-use Rattle.std.specs.Prelude.{◌≡◌, ℕ, zero, suc, ◌+◌, ◌-◌, ◌≤◌, ◌⊎◌, ◌&&◌, ◌||◌, not, Bool, true, false, if◌then◌else◌, List, [], ◌∷◌, ◌++◌, length, take, drop, map, Option, Some, None, Ok, refl}
+use Rattle.std.specs.Prelude.{◌≡◌, ℕ, zero, suc, ◌+◌, ◌-◌, ◌≤◌, ◌&&◌, ◌||◌, not, Bool, true, false, if◌then◌else◌, List, [], ◌∷◌, ◌++◌, length, take, drop, map, Some, Ok, refl}
 use Rattle.std.specs.List.{AllByRecursion as Each}
 use Rattle.std.proofs.Common.{sym, ap, subst, ◌∙◌, inl, append_assoc, length-append, arith}
 use Rattle.std.proofs.lemmas.Bool.{true≢false}
@@ -15,7 +15,7 @@ use Rattle.pm_history.specs.Items.{one_step, foreign_item}
 use Rattle.pm_history.specs.Histories.{holds, is_dropped, still_named, foreign_items, last_items, rebased}
 use Rattle.pm_history.specs.Timelines.{Step, changes_of, item_at, next_items, items_from}
 use Rattle.pm_history.specs.Tidy.{IsTidy}
-use Rattle.pm_history.specs.Remembers.{live_names, Lacks, StandsFor, StandFor, Remembers}
+use Rattle.pm_history.specs.Remembers.{live_names, Lacks, StandFor, Remembers}
 use Rattle.pm_history.specs.Standing.{HasDrawn, IsHistoryOf}
 use Rattle.pm_history.specs.Folding.{changes-append, items-append, own-at}
 use Rattle.pm_history.specs.Grows.{stands-fewer, kept-fold}
