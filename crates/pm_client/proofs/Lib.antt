@@ -8,3 +8,5 @@ mod Leads
 mod TokenRuns
 mod TokenLeads
 mod TokenKeeps
+pub mod Turns
+pub mod Makings

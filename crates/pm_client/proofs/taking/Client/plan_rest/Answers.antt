@@ -1,7 +1,7 @@
 use Rattle.std.proofs.Common.{◌-◌, length, take, drop, ap, ◌∙◌}
 use Rattle.std.proofs.lemmas.List.{take_rest}
 use Rattle.pm_client.proofs.Plannings.{carried-is, plan-is}
-use Rattle.pm_client.proofs.client.Client.plan_rest.Goals as goal
+use Rattle.pm_client.proofs.taking.Client.plan_rest.Goals as goal
 
 pub move_all-requires : goal.move_all-requires
 move_all-requires g c =

@@ -4,7 +4,7 @@ use Rattle.pm_client.specs.Clients.{edited}
 use Rattle.pm_client.specs.Keeps.{kin-edited}
 use Rattle.pm_client.proofs.Advances.{run-maps, run-room}
 use Rattle.pm_client.proofs.TokenKeeps.{edited-keeps}
-use Rattle.pm_client.proofs.client.Client.edit.Goals as goal
+use Rattle.pm_client.proofs.editing.Client.edit.Goals as goal
 
 pub maps_over-requires : goal.maps_over-requires
 maps_over-requires g c =

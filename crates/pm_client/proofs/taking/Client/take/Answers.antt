@@ -2,7 +2,7 @@ use Rattle.std.proofs.Common.{◌≡◌, ap, ◌∙◌}
 use Rattle.pm_client.specs.Clients.{taken_at}
 use Rattle.pm_client.specs.Takings.{kin-taken_at}
 use Rattle.pm_client.proofs.TokenKeeps.{taken-keeps}
-use Rattle.pm_client.proofs.client.Client.take.Goals as goal
+use Rattle.pm_client.proofs.taking.Client.take.Goals as goal
 
 pub returns-clause-kin : goal.returns-clause-kin
 returns-clause-kin g c first log kin =
