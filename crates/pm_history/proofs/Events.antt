@@ -12,7 +12,7 @@ use Rattle.pm_history.specs.Items.{same_name, one_step}
 use Rattle.pm_history.specs.Pairs.{paired}
 use Rattle.pm_history.specs.Undos.{find}
 use Rattle.pm_history.specs.Tries.{first_of, item_from}
-use Rattle.pm_history.specs.Histories.{event_of, extended, last_number, without_last, holds, is_dropped, still_named, without_dropped, last_items, rebased, later_of}
+use Rattle.pm_history.specs.Histories.{last_event, event_of, extended, last_number, without_last, holds, is_dropped, still_named, without_dropped, last_items, rebased, later_of}
 use Rattle.pm_history.specs.Drops.{is_lost, any_dropped, replaced}
 
 -- the last event
@@ -23,6 +23,14 @@ extended-at (x ∷ []) zero e ns names l g n = ap (λ xs. event_of e.number xs �
 extended-at (x ∷ []) (suc k) e ns names l g n = absurd (omega (arith, l))
 extended-at (x ∷ y ∷ es) zero e ns names l g n = absurd (omega (arith, l))
 extended-at (x ∷ y ∷ es) (suc k) e ns names l g n = ap (λ xs. x ∷ xs) (extended-at (y ∷ es) k e ns names (omega (arith, l)) g n)
+
+-- the last event
+pub event-at : (es : List Event) (k : ℕ) (e : Event) → k + 1 ≡ length es → e ≡ get_or es k e → last_event es ≡ Some e
+event-at [] k e l h = absurd (omega (arith, l))
+event-at (f ∷ []) zero e l h = ap Some (sym h)
+event-at (f ∷ []) (suc k) e l h = absurd (omega (arith, l))
+event-at (f ∷ g ∷ es) zero e l h = absurd (omega (arith, l))
+event-at (f ∷ g ∷ es) (suc k) e l h = event-at (g ∷ es) k e (omega (arith, l)) h
 
 pub last-at : (es : List Event) (k : ℕ) (e : Event) → k + 1 ≡ length es → e ≡ get_or es k e → e.number ≡ last_number es
 last-at [] k e l g = absurd (omega (arith, l))

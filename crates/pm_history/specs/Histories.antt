@@ -38,6 +38,12 @@ last_number [] = None
 last_number (e ∷ []) = e.number
 last_number (e ∷ f ∷ es) = last_number (f ∷ es)
 
+-- the last of these events
+abbrev pub last_event : List Event → Option Event
+last_event [] = None
+last_event (e ∷ []) = Some e
+last_event (e ∷ f ∷ es) = last_event (f ∷ es)
+
 -- the events without the last one
 abbrev pub without_last : List Event → List Event
 without_last [] = []
@@ -133,6 +139,11 @@ module _ {C : Type 0} where
   IsPopped false old (Some e) new = (old.undo ≡ new.undo ++ e ∷ []) × (new.redo ≡ old.redo) × (new.items ≡ old.items) × (new.is_open ≡ false)
   IsPopped true old None new = (old.redo ≡ []) × (new ≡ old)
   IsPopped false old None new = (old.undo ≡ []) × (new ≡ old)
+
+  -- the last event to undo, or to redo where `redo` holds
+  abbrev pub last_of : Bool → Branches C → Option Event
+  last_of false h = last_event h.undo
+  last_of true h = last_event h.redo
 
   -- An event passes over: the last event of the undo branch is gone, or where `redo` holds that of the redo branch, and this
   -- one, unless it has no step, is an event of the other branch. No event is open.

@@ -17,8 +17,11 @@ pub mod Folding
 pub mod Keeps
 pub mod Grows
 pub mod Edited
+pub mod Calls
 pub mod Thins
 pub mod Rebased
 pub mod Ties
 pub mod Numbers
 pub mod Turned
+pub mod Tied
+pub mod TiedLaws

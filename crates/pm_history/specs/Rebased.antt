@@ -117,10 +117,10 @@ module _ {Rules Doc Reason C : Type 0} (m : Meaning Rules Doc Reason C) where
   maps_of (s ∷ ss) = m.step_map s.change ∷ maps_of ss
 
 module _ {Rules Doc Reason C : Type 0} (m : Meaning Rules Doc Reason C) (rules : Rules) where
-  items-cons : (doc next : Doc) (s : Step C) (ss : List (Step C)) → m.outcome rules s.change doc ≡ Ok next → items_from m rules doc (s ∷ ss) ≡ item_at m rules doc s ∷ items_from m rules next ss
+  pub items-cons : (doc next : Doc) (s : Step C) (ss : List (Step C)) → m.outcome rules s.change doc ≡ Ok next → items_from m rules doc (s ∷ ss) ≡ item_at m rules doc s ∷ items_from m rules next ss
   items-cons doc next s ss e = ap (λ r. item_at m rules doc s ∷ next_items m rules r (λ d. items_from m rules d ss)) e
 
-  items-length : (doc end : Doc) (ss : List (Step C)) → fold m rules doc (changes_of ss) ≡ Some end → length (items_from m rules doc ss) ≡ length ss
+  pub items-length : (doc end : Doc) (ss : List (Step C)) → fold m rules doc (changes_of ss) ≡ Some end → length (items_from m rules doc ss) ≡ length ss
   items-length doc end [] e = refl
   items-length doc end (s ∷ ss) e =
       let f = fold-cons m rules doc end s.change (changes_of ss) e in
@@ -156,6 +156,47 @@ module _ {Rules Doc Reason C : Type 0} (m : Meaning Rules Doc Reason C) (rules :
       (subst (λ js. ComesFrom (i ∷ items_from m rules x.0 gs') js) (sym (items-cons mid y.0 k ks' y.1))
       (held i j (items_from m rules x.0 gs') (items_from m rules y.0 ks') named tied ranged (comes-steps x.0 end y.0 last gs' ks' c x.2 y.2)))
 
+  -- Where the last steps G of a timeline begin, among its items.
+  pub record Seam (live : List Name) (mid base : Doc) (gone kept A G : List (Step C)) (items : List (Item C)) : Type 0 where
+    pub front : List (Step C)
+    pub kept_is : kept ≡ front ++ G
+    pub before_is : A ≡ gone ++ front
+    pub reaches : fold m rules mid (changes_of front) ≡ Some base
+    pub first_stand : StandFor live (take (length items - length G) items) (items_from m rules mid front)
+    pub last_stand : StandFor live (last_items (length G) items) (items_from m rules base G)
+
+  -- no item of theirs has been let go
+  pub seam : (client drawn : ℕ) (first base end : Doc) (A G : List (Step C)) (h : Branches C) (k : IsHistoryOf m rules client drawn first (A ++ G) h)
+      → fold m rules first (changes_of A) ≡ Some base → fold m rules base (changes_of G) ≡ Some end → length G ≤ length h.items
+      → Seam (live_names h) k.remembers.mid base k.remembers.gone k.remembers.kept A G h.items
+  seam client drawn first base end A G h k eA eG l =
+      let R = k.remembers in
+      let live = live_names h in
+      let IG = items_from m rules base G in
+      let at : ℕ = length h.items - length G in
+      let eAll : fold m rules first (changes_of (A ++ G)) ≡ Some end = ap (fold m rules first) (changes-append A G) ∙ fold-append m rules first base (changes_of A) (changes_of G) eA ∙ eG in
+      let eKept = kept-fold m rules live first end (A ++ G) h.items R eAll in
+      let all : length h.items ≡ length R.kept = stand-length live h.items (items_from m rules R.mid R.kept) R.stand ∙ items-length R.mid end R.kept eKept in
+      let split = split-kept R.gone R.kept A G (sym R.steps_are) (omega (arith, all, l)) in
+      let front = split.0 in
+      let eFront : fold m rules R.mid (changes_of front) ≡ Some base =
+      sym (ap (λ ss. fold m rules first (changes_of ss)) split.2 ∙ ap (fold m rules first) (changes-append R.gone front)
+      ∙ fold-append m rules first R.mid (changes_of R.gone) (changes_of front) R.reaches) ∙ eA in
+      let I1 = items_from m rules R.mid front in
+      let whole : items_from m rules R.mid R.kept ≡ I1 ++ IG = ap (λ ss. items_from m rules R.mid ss) split.1 ∙ items-append m rules R.mid base front G eFront in
+      let stands : StandFor live h.items (I1 ++ IG) = subst (StandFor live h.items) whole R.stand in
+      let n1 : length I1 ≡ length front = items-length R.mid base front eFront in
+      let n2 : length R.kept ≡ length front + length G = ap length split.1 ∙ length-append front G in
+      let n : length I1 ≡ at = omega (arith, n1, n2, all) in
+      record {
+        front = front;
+        kept_is = split.1;
+        before_is = split.2;
+        reaches = eFront;
+        first_stand = subst (StandFor live (take at h.items)) (take_at I1 IG at n) (stand-take live at h.items (I1 ++ IG) stands);
+        last_stand = subst (StandFor live (last_items (length G) h.items)) (drop_at I1 IG at n) (stand-drop live at h.items (I1 ++ IG) stands);
+      }
+
   -- The last steps are rebased over foreign ones. No item of theirs has been let go.
   pub history-rebased : (client drawn : ℕ) (first base end mid doc : Doc) (A G F K : List (Step C)) (h : Branches C) → IsHistoryOf m rules client drawn first (A ++ G) h
       → fold m rules first (changes_of A) ≡ Some base → fold m rules base (changes_of G) ≡ Some end → Each (λ s. s.own ≡ false) F → fold m rules base (changes_of F) ≡ Some mid
@@ -176,31 +217,18 @@ module _ {Rules Doc Reason C : Type 0} (m : Meaning Rules Doc Reason C) (rules :
       let new : items_from m rules first (A ++ (F ++ K)) ≡ IA ++ (IF ++ IK) = items-append m rules first base A (F ++ K) eA ∙ ap (λ is. IA ++ is) tail in
       let from : ComesFrom (IA ++ IG) (IA ++ (IF ++ IK)) = comes-same IA IG (IF ++ IK) (comes-foreign IG IK (maps_of m F) (comes-steps base end mid doc G K c eG eK)) in
       let names : live_names (rebased h (length G) (maps_of m F) IK) ≡ left = rebased-names h (length G) (maps_of m F) IK in
-      let eAll : fold m rules first (changes_of (A ++ G)) ≡ Some end = ap (fold m rules first) (changes-append A G) ∙ fold-append m rules first base (changes_of A) (changes_of G) eA ∙ eG in
-      let eKept = kept-fold m rules live first end (A ++ G) h.items R eAll in
-      let all : length h.items ≡ length R.kept = stand-length live h.items (items_from m rules R.mid R.kept) R.stand ∙ items-length R.mid end R.kept eKept in
-      let split = split-kept R.gone R.kept A G (sym R.steps_are) (omega (arith, all, l)) in
-      let front = split.0 in
-      let eFront : fold m rules R.mid (changes_of front) ≡ Some base =
-      sym (ap (λ ss. fold m rules first (changes_of ss)) split.2 ∙ ap (fold m rules first) (changes-append R.gone front)
-      ∙ fold-append m rules first R.mid (changes_of R.gone) (changes_of front) R.reaches) ∙ eA in
+      let z = seam client drawn first base end A G h k eA eG l in
+      let front = z.front in
       let I1 = items_from m rules R.mid front in
-      let whole : items_from m rules R.mid R.kept ≡ I1 ++ IG = ap (λ ss. items_from m rules R.mid ss) split.1 ∙ items-append m rules R.mid base front G eFront in
-      let stands : StandFor live h.items (I1 ++ IG) = subst (StandFor live h.items) whole R.stand in
-      let n1 : length I1 ≡ length front = items-length R.mid base front eFront in
-      let n2 : length R.kept ≡ length front + length G = ap length split.1 ∙ length-append front G in
-      let n : length I1 ≡ at = omega (arith, n1, n2, all) in
-      let s1 : StandFor live (take at h.items) I1 = subst (StandFor live (take at h.items)) (take_at I1 IG at n) (stand-take live at h.items (I1 ++ IG) stands) in
-      let s2 : StandFor live gone IG = subst (StandFor live gone) (drop_at I1 IG at n) (stand-drop live at h.items (I1 ++ IG) stands) in
       record {
         remembers = subst (λ ns. Remembers m rules ns first (A ++ (F ++ K)) (take at h.items ++ (IF ++ IK))) (sym names) (record {
           gone = R.gone;
           kept = front ++ (F ++ K);
           mid = R.mid;
-          steps_are = ap (λ ss. ss ++ (F ++ K)) split.2 ∙ append_assoc R.gone front (F ++ K);
+          steps_are = ap (λ ss. ss ++ (F ++ K)) z.before_is ∙ append_assoc R.gone front (F ++ K);
           reaches = R.reaches;
-          stand = subst (StandFor left (take at h.items ++ (IF ++ IK))) (sym (items-append m rules R.mid base front (F ++ K) eFront ∙ ap (λ is. I1 ++ is) tail))
-              (stand-both left (take at h.items) I1 (IF ++ IK) (IF ++ IK) (stands-fewer live left (take at h.items) I1 (λ P x. still-each P gone IK live x) s1) (stand-same left (IF ++ IK)));
+          stand = subst (StandFor left (take at h.items ++ (IF ++ IK))) (sym (items-append m rules R.mid base front (F ++ K) z.reaches ∙ ap (λ is. I1 ++ is) tail))
+              (stand-both left (take at h.items) I1 (IF ++ IK) (IF ++ IK) (stands-fewer live left (take at h.items) I1 (λ P x. still-each P gone IK live x) z.first_stand) (stand-same left (IF ++ IK)));
           lacks = still-each (Lacks (items_from m rules first R.gone)) gone IK live R.lacks;
         });
         tidy = subst (λ ns. IsTidy (items_from m rules first (A ++ (F ++ K))) ns) (sym names) (subst (λ is. IsTidy is left) (sym new)
@@ -208,7 +236,7 @@ module _ {Rules Doc Reason C : Type 0} (m : Meaning Rules Doc Reason C) (rules :
         stand = subst (λ ns. Each (λ x. holds x (items_from m rules first (A ++ (F ++ K))) ≡ true) ns) (sym names) (subst (λ is. Each (λ x. holds x is ≡ true) left) (sym new)
             (still-map (λ x. holds x (IA ++ IG) ≡ true) (λ x. holds x (IA ++ (IF ++ IK)) ≡ true) gone IK live
             (λ x d p. (holds-both x IA (IF ++ IK) ∙ ap (λ t. holds x IA || t) (holds-both x IF IK))
-            ∙ keeps (holds x IA) (holds x IG) (holds x IF) (holds x IK) (sym (holds-both x IA IG) ∙ p) (ap (λ t. t && not (holds x IK)) (sym (stand-holds live x gone IG s2)) ∙ d))
+            ∙ keeps (holds x IA) (holds x IG) (holds x IF) (holds x IK) (sym (holds-both x IA IG) ∙ p) (ap (λ t. t && not (holds x IK)) (sym (stand-holds live x gone IG z.last_stand)) ∙ d))
             (subst (λ is. Each (λ x. holds x is ≡ true) live) old k.stand)));
         drawn_are = subst (λ is. Each (HasDrawn client drawn) is) (sym new) (drawn-from client drawn (IA ++ IG) (IA ++ (IF ++ IK)) from (subst (λ is. Each (HasDrawn client drawn) is) old k.drawn_are));
       }

@@ -28,7 +28,7 @@ use Rattle.pm_history.specs.Numbers.{Numbered, names-both, holds-behind, holds-o
 abbrev Apart : List Name → List Name → Type 0
 Apart xs ys = Each (λ x. Each (λ y. same_name x y ≡ false) ys) xs
 
-same-flip : (a b : Name) → same_name a b ≡ false → same_name b a ≡ false
+pub same-flip : (a b : Name) → same_name a b ≡ false → same_name b a ≡ false
 same-flip a b h = from (same_name b a) refl
   where
     from : (t : Bool) → same_name b a ≡ t → t ≡ false
@@ -65,7 +65,7 @@ apart-front xs ys zs a = each-map (λ x. Each (λ y. same_name x y ≡ false) (y
 apart-back : (xs ys zs : List Name) → Apart xs (ys ++ zs) → Apart xs zs
 apart-back xs ys zs a = each-map (λ x. Each (λ y. same_name x y ≡ false) (ys ++ zs)) (λ x. Each (λ y. same_name x y ≡ false) zs) xs (λ x h. each-back (λ y. same_name x y ≡ false) ys zs h) a
 
-each-both : {A : Type 0} (P Q : A → Type 0) (xs : List A) → Each P xs → Each Q xs → Each (λ x. P x × Q x) xs
+pub each-both : {A : Type 0} (P Q : A → Type 0) (xs : List A) → Each P xs → Each Q xs → Each (λ x. P x × Q x) xs
 each-both P Q [] h k = tt
 each-both P Q (x ∷ xs) h k = ((h.0, k.0), each-both P Q xs h.1 k.1)
 

@@ -1,7 +1,7 @@
 //! Events one after another.
-ghost use Rattle.std.specs.Prelude.{◌≡◌, ◌<◌, ◌↔◌, [], ◌∷◌, ◌++◌, length, IsTrue, OnOk, OnErr};
+ghost use Rattle.std.specs.Prelude.{◌≡◌, ◌<◌, ◌↔◌, [], ◌∷◌, ◌++◌, length, IsTrue, IsSome, IfSome, Some, OnOk, OnErr};
 ghost use Rattle.pm_list.specs.Ends.{OnLast};
-ghost use Rattle.pm_history.specs.Histories.{put_event, extended, last_number, with_event, without_last};
+ghost use Rattle.pm_history.specs.Histories.{put_event, extended, last_number, last_event, with_event, without_last};
 
 use pm_change::Name;
 use pm_list::Listed;
@@ -61,6 +61,17 @@ impl Branch {
     {
         match self.events.len().checked_sub(1) {
             Some(last) => self.events[last].number,
+            None => None,
+        }
+    }
+
+    /// The last event; None where there is none.
+    pub(crate) fn last(&self) -> Option<&Event>
+        ensures none { IsSome result ↔ IsSome (last_event self.now) }
+        ensures value { IfSome result (λ e. last_event self.now ≡ Some e.now) }
+    {
+        match self.events.len().checked_sub(1) {
+            Some(last) => Some(&self.events[last]),
             None => None,
         }
     }

@@ -1,6 +1,6 @@
 //! The timeline's items and the two branches of events.
 ghost use Rattle.std.specs.Prelude.{◌≡◌, ◌≤◌, ◌<◌, ◌+◌, ◌-◌, ◌++◌, ◌∷◌, [], drop, length, false, IfOk, IfSome, IsSome, ◌↔◌, OnOk, OnErr, Some, None, map};
-ghost use Rattle.pm_history.specs.Histories.{new_history, noted, opens, recorded_where, noted_all, noted_own, names_in, rebased, IsPopped, turned, undone, later_of, inverse_of};
+ghost use Rattle.pm_history.specs.Histories.{new_history, noted, opens, recorded_where, noted_all, noted_own, names_in, rebased, last_of, IsPopped, turned, undone, later_of, inverse_of};
 ghost use Rattle.pm_history.specs.Drops.{replaced};
 ghost use Rattle.pm_history.specs.Pairs.{paired};
 ghost use Rattle.pm_history.specs.Undos.{find};
@@ -207,6 +207,18 @@ impl<C> Branches<C> {
         self.items.replace_last(gone, Listed::from_vec(behind))
     }
 
+    /// The last event to undo, or to redo where `redo` holds. None exactly where there is none.
+    pub fn last(&self, redo: bool) -> Option<&Event>
+        ensures none { IsSome result ↔ IsSome (last_of redo self.now) }
+        ensures value { IfSome result (λ e. last_of redo self.now ≡ Some e.now) }
+    {
+        if redo {
+            self.redo.last()
+        } else {
+            self.undo.last()
+        }
+    }
+
     /// Takes the last event out, of the redo branch where `redo` holds and else of the undo branch, and closes the open event.
     /// None exactly where the branch has no event, and then nothing changes. It takes no memory.
     pub fn pop(&mut self, redo: bool) -> Option<Event>
@@ -299,8 +311,8 @@ fn mapping_behind<C>(alloc: Global, items: &[Item<C>], k: usize) -> Result<Mappi
     mapping_of(alloc, lane.as_slice())
 }
 
-/// The names of these items, in order.
-fn names_in<C>(alloc: Global, items: &[Item<C>]) -> Result<Listed<Name>, AllocError>
+/// The names of these items, in order. A foreign step has none.
+pub fn names_in<C>(alloc: Global, items: &[Item<C>]) -> Result<Listed<Name>, AllocError>
     ensures { IfOk result (λ ns. ns ≡ names_in items.now) }
 {
     let mut names = Listed::new(alloc);

@@ -10,9 +10,11 @@ mod branches;
 mod dropped;
 mod item;
 mod lane;
+mod tied;
 mod undoing;
 
 pub use branch::{Branch, Event};
-pub use branches::{Branches, Side};
+pub use branches::{Branches, Side, names_in};
 pub use item::Item;
+pub use tied::tie;
 pub use undoing::{Undone, undo_event};

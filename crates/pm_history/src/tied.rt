@@ -1,0 +1,33 @@
+//! What steps undo, once they were carried.
+ghost use Rattle.std.specs.Prelude.{◌≡◌};
+ghost use Rattle.pm_history.specs.Tied.{undoes_of, all_tied};
+
+use crate::item::Item;
+use crate::lane::one_step;
+use pm_change::Name;
+
+/// Each item undoes what the old item of its name undoes. An item without an old one undoes no step. It takes no memory.
+pub fn tie<C>(items: Vec<Item<C>>, old: &[Item<C>]) -> Vec<Item<C>>
+    ensures { result.items ≡ all_tied old.now items.items }
+{
+    let mut items = items;
+    let count = items.len();
+    let mut i = 0;
+    while i < count {
+        items[i].undoes = undoes_of(items[i].name, old);
+        i += 1;
+    }
+    items
+}
+
+/// What the step of this name undoes, as these items say.
+fn undoes_of<C>(name: Option<Name>, items: &[Item<C>]) -> Option<Name>
+    ensures { result ≡ undoes_of name items.now }
+{
+    for item in items {
+        if one_step(name, item.name) {
+            return item.undoes;
+        }
+    }
+    None
+}
