@@ -1,5 +1,5 @@
 -- Own steps that were made as far as some step.
-use Rattle.std.proofs.Common.{◌≡◌, ℕ, ◌+◌, ◌<◌, List, [], ◌∷◌, ◌++◌, length, drop, get_or, suc, sym, ap, ◌∙◌, append_assoc, append-nil, Some, None, Result, Ok, Err, add-one, refl}
+use Rattle.std.proofs.Common.{◌≡◌, ℕ, ◌+◌, ◌<◌, List, [], ◌∷◌, ◌++◌, length, drop, get_or, suc, sym, ap, ◌∙◌, append_assoc, append-nil, None, Result, Ok, Err, add-one, refl}
 use Rattle.std.proofs.Math.Seq.{drop-cons}
 use Rattle.pm_change.specs.Changes.{Meaning, Laws}
 use Rattle.pm_authority.specs.declared.named.Named.{Named}
@@ -40,7 +40,8 @@ module _ {Rules Doc Reason C : Type 0} (m : Meaning Rules Doc Reason C) (rules :
 
     pub making-stops : IsMaking doc steps i so_far → (r : Reason) → m.outcome rules n.change so_far.doc ≡ Err r
         → made_all m rules doc steps ≡ Err (record { index = i; reason = r })
-    making-stops was r err = ap (made_where m rules doc steps) (was.same ∙ ap (run m rules so_far.doc i) at-step ∙ rw err refl)
+    making-stops was r err = let stop : run m rules so_far.doc i (n ∷ drop (suc i) steps) ≡ Err (record { index = i; reason = r }) = rw err refl in
+        ap (made_where m rules doc steps) (was.same ∙ ap (run m rules so_far.doc i) at-step ∙ stop)
 
   -- all steps were made
   pub made-end : (doc : Doc) (steps : List (Named C)) (i : ℕ) (so_far : Made Doc C) → drop i steps ≡ [] → IsMaking doc steps i so_far → made_all m rules doc steps ≡ Ok so_far

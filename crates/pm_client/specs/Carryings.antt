@@ -1,17 +1,16 @@
 -- Lemmas: the items of steps that were carried over others' steps.
-use Rattle.std.specs.Prelude.{◌≡◌, ℕ, true, List, [], ◌∷◌, ◌++◌, length, map, Option, Some, None, Result, Ok, Err, refl}
+use Rattle.std.specs.Prelude.{◌≡◌, true, List, [], ◌∷◌, ◌++◌, map, Option, Some, None, Result, Ok, Err, refl}
 use Rattle.std.specs.List.{AllByRecursion as Each}
 use Rattle.std.proofs.Common.{sym, ap, subst, ◌∙◌, append_assoc, append-nil}
 use Rattle.std.proofs.lemmas.List.{map-append}
 use Rattle.pm_change.specs.Changes.{Meaning, Laws, fold}
 use Rattle.pm_change.specs.Folds.{fold-append}
-use Rattle.pm_authority.specs.declared.named.Named.{Named}
 use Rattle.pm_history.specs.declared.item.Item.{Item}
 use Rattle.pm_history.specs.Timelines.{Step, changes_of, items_from}
 use Rattle.pm_history.specs.Undos.{own_item}
 use Rattle.pm_history.specs.Folding.{changes-append}
 use Rattle.pm_history.specs.Edited.{items-more}
-use Rattle.pm_history.specs.Rebased.{Rebases, KeptOf, none, dropped, kept}
+use Rattle.pm_history.specs.Rebased.{KeptOf, none, dropped, kept}
 use Rattle.pm_history.specs.Tied.{undoes_of, tied_as, all_tied}
 use Rattle.pm_history.specs.TiedLaws.{TiedBy}
 use Rattle.pm_client.specs.declared.rebasing.Rebasing.{Rebasing}

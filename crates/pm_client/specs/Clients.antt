@@ -131,16 +131,16 @@ module _ {Rules Doc Reason C : Type 0} (m : Meaning Rules Doc Reason C) (rules :
   abbrev pub edited : Client C Rules Doc Reason → List C → Option ℕ → Result (Client C Rules Doc Reason) (Refusal Reason)
   edited c cs event = tried c cs event (run m rules c.doc 0 (named c.name (c.serials + 1) cs))
 
-  -- The client once this event was undone by what was made, or redone where `redo` holds. The steps made are an event of the
-  -- other branch, which has the number of this one.
-  abbrev pub turned : Client C Rules Doc Reason → Bool → Event → Undone Doc C → Client C Rules Doc Reason
-  turned c redo e w = gone_on c w.made w.doc (undone redo c.history (event_of e.number (names_in w.items)) w.items)
+  -- The client once an event of this number was undone by what was made, or redone where `redo` holds. The steps made are an
+  -- event of the other branch, which has the same number.
+  abbrev pub turned : Client C Rules Doc Reason → Bool → Option ℕ → Undone Doc C → Client C Rules Doc Reason
+  turned c redo number w = gone_on c w.made w.doc (undone redo c.history (event_of number (names_in w.items)) w.items)
 
   -- How many steps undoing this event makes, and the client after it.
   abbrev pub event_turned : Client C Rules Doc Reason → Bool → Event → ℕ × Client C Rules Doc Reason
   event_turned c redo e =
       let w = undo_event m rules c.name e.names c.history.items c.doc (c.serials + 1) in
-      (length w.made, turned c redo e w)
+      (length w.made, turned c redo e.number w)
 
   -- the same of the last event of a branch, unless it has none
   abbrev pub last_turned : Client C Rules Doc Reason → Bool → Option Event → Option (ℕ × Client C Rules Doc Reason)

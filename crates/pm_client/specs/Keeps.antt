@@ -32,7 +32,7 @@ use Rattle.pm_client.specs.Kins.{IsOwn, IsForeign, IsPrefix, IsPart, MessageStan
 use Rattle.pm_client.specs.Lists.{All-more, All-push, Each-append, Each-front, Each-back, nothing}
 use Rattle.pm_client.specs.Serials.{Parted, Rises, own_serials, serials_of, merged}
 use Rattle.pm_client.specs.Rebases.{maps_of, start, rebased}
-use Rattle.pm_client.specs.Cursors.{IsWithin, moved_over}
+use Rattle.pm_client.specs.Cursors.{IsWithin}
 use Rattle.pm_client.specs.RebaseLaws.{maps-fit, plain-paired, cursors-move, fork, over-can, rebased-applied}
 use Rattle.pm_client.specs.declared.rebasing.Rebasing.{Rebasing}
 use Rattle.pm_client.specs.Timelines.{IsTimeline, edit_steps}

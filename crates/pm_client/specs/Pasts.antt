@@ -1,5 +1,5 @@
 -- The history of a client whose later pending steps were carried over others' entries.
-use Rattle.std.specs.Prelude.{◌≡◌, ℕ, ◌+◌, ◌-◌, ◌≤◌, List, [], ◌∷◌, ◌++◌, length, take, map, Some, refl}
+use Rattle.std.specs.Prelude.{◌≡◌, ◌-◌, ◌≤◌, List, [], ◌∷◌, ◌++◌, length, take, map, Some, refl}
 use Rattle.std.specs.List.{AllByRecursion as Each}
 use Rattle.std.proofs.Common.{sym, subst, ap, ◌∙◌, arith, length-append, append_assoc}
 use Rattle.std.proofs.lemmas.List.{length-map}
@@ -8,7 +8,7 @@ use Rattle.pm_authority.specs.declared.named.Named.{Named}
 use Rattle.pm_authority.specs.Runs.{changes_of, AllApply}
 use Rattle.pm_history.specs.declared.item.Item.{Item}
 use Rattle.pm_history.specs.Histories.{foreign_items, last_items, rebased as rebased_last}
-use Rattle.pm_history.specs.Timelines.{Step, changes_of as steps_changes, items_from}
+use Rattle.pm_history.specs.Timelines.{Step, changes_of as steps_changes}
 use Rattle.pm_history.specs.Standing.{IsHistoryOf}
 use Rattle.pm_history.specs.Rebased.{none, maps_of as steps_maps, items-length, history-rebased}
 use Rattle.pm_history.specs.Tied.{tied_as, all_tied}
@@ -68,7 +68,7 @@ module _ {Rules Doc Reason C : Type 0} (m : Meaning Rules Doc Reason C) (rules :
       let after = history-rebased m rules c.name c.serials first at c.doc base r.doc t.front t.back F K c.history stood eA eG others.1 eF k.applies k.comes enough in
       let history : IsHistoryOf m rules c.name c.serials first (t.front ++ (F ++ K)) (carried_history c.history (length c.pending - kin.standing) (ranges_of m front) r.items) =
       subst (λ j. IsHistoryOf m rules c.name c.serials first (t.front ++ (F ++ K)) (carried_history c.history j (ranges_of m front) r.items)) count
-      (subst (λ rs. IsHistoryOf m rules c.name c.serials first (t.front ++ (F ++ K)) (rebased_last c.history (length t.back) rs (all_tied old r.items))) (sym (foreign-ranges front))
+      (subst (λ rs. IsHistoryOf m rules c.name c.serials first (t.front ++ (F ++ K)) (rebased_last c.history (length t.back) rs (all_tied old r.items))) (sym (foreign-ranges m front))
       (subst (λ is. IsHistoryOf m rules c.name c.serials first (t.front ++ (F ++ K)) (rebased_last c.history (length t.back) (steps_maps m F) is)) (sym k.items_are) after)) in
       let kept_named : IsTimeline c.name K r.kept =
       own-timeline c.name K r.kept k.kept_are k.own (rw is (rebased-own m rules c.name begun s.later tt (Each-back (IsOwn c.name) s.standing s.later (rw s.pending_is at kin.own)))) in

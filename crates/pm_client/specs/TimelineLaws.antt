@@ -4,7 +4,6 @@ use Rattle.std.specs.List.{AllByRecursion as Each}
 use Rattle.std.proofs.Common.{sym, ap, subst, ◌∙◌, arith}
 use Rattle.std.proofs.lemmas.Bool.{eq-eqb, ne_eqb}
 use Rattle.std.proofs.lemmas.List.{map-append, length-map}
-use Rattle.pm_change.specs.declared.name.Name.{Name}
 use Rattle.pm_authority.specs.declared.named.Named.{Named}
 use Rattle.pm_authority.specs.Runs.{changes_of as changes_in}
 use Rattle.pm_history.specs.declared.item.Item.{Item}

@@ -1,24 +1,15 @@
 //! A client: its base, what is pending, and its document.
-ghost use Rattle.std.specs.Prelude.{◌≡◌, ◌+◌, ◌-◌, ◌<◌, ◌≤◌, ◌^◌, List, [], length, take, Ok, Some, IfOk, IfErr, OnOk, OnErr};
-ghost use Rattle.pm_authority.specs.Runs.{AllApply};
+ghost use Rattle.std.specs.Prelude.{◌≡◌, ◌+◌, ◌-◌, ◌<◌, ◌≤◌, ◌^◌, List, [], length, Some, IfOk, IfErr, OnOk, OnErr};
 ghost use Rattle.pm_authority.specs.declared.named.Named.{Named};
-ghost use Rattle.pm_authority.specs.declared.message.Answer.TheVariants.{Accepted, Entries};
 ghost use Rattle.pm_map.specs.Moves.{IsSide};
-ghost use Rattle.pm_client.specs.Clients.{new_client, edited, IsRefusal, cursor_set, IsCursorRefusal, composed, kept, message_of, message_at, taken, taken_at, rest_taken, confirmed_first, own_run};
-ghost use Rattle.pm_client.specs.Cursors.{AreWithin};
-ghost use Rattle.pm_client.specs.TokenNames.{KeepsTokens};
-ghost use Rattle.pm_client.specs.Kins.{AnswerStands, Kin, Stands};
-ghost use Rattle.pm_client.specs.Plans.{carried_out, MayCarryOut, Meets, MayConfirm, Fits};
+ghost use Rattle.pm_client.specs.Clients.{new_client, cursor_set, IsCursorRefusal, composed, kept, message_of, message_at};
+ghost use Rattle.pm_client.specs.Kins.{AnswerStands, Kin};
 
-use crate::cursors::move_all;
-use crate::failing::{CursorError, EditError};
-use crate::naming::{name_steps, own_steps};
-use crate::plan::Plan;
-use crate::rebasing::{Rebasing, maps_over, rebase_over};
-use crate::serials::merge;
-use crate::taken::{Kind, Taken};
-use pm_authority::{Answer, Message, Named, Refusal, apply_all, copy_steps};
-use pm_change::{Change, Failed};
+use crate::failing::CursorError;
+use crate::taken::Kind;
+use pm_authority::{Answer, Message, Named, copy_steps};
+use pm_change::Change;
+use pm_history::Branches;
 use pm_list::Listed;
 use std::alloc::{AllocError, Global};
 

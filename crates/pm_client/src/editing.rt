@@ -1,7 +1,7 @@
 //! Making steps, and undoing and redoing them.
 ghost use Rattle.std.specs.Prelude.{◌≡◌, ◌+◌, ◌↔◌, List, [], length, false, true, Ok, Err, Some, None, IfOk, IfErr, OnOk, OnErr, All};
 ghost use Rattle.pm_authority.specs.declared.named.Named.{Named};
-ghost use Rattle.pm_history.specs.Histories.{event_of, names_in, last_of};
+ghost use Rattle.pm_history.specs.Histories.{last_of};
 ghost use Rattle.pm_client.specs.declared.failing.UndoError.TheVariants.{NothingToUndo, NoMemory};
 ghost use Rattle.pm_client.specs.Clients.{named, edited, IsRefusal, turned, last_turned, undone_last, redone_last};
 ghost use Rattle.pm_client.specs.Cursors.{AreWithin, HasRoomIn};
@@ -158,7 +158,8 @@ impl<C: Change> Client<C> {
         requires maps { All (NamedHasMap C.means) (named self.old.name (self.old.serials + 1) undone.made) }
         requires room { All (HasRoomIn (maps_of C.means (named self.old.name (self.old.serials + 1) undone.made))) self.old.cursors }
         requires serials { undone.serial ≡ self.old.serials + 1 + length undone.made }
-        ensures turned { IfOk result (λ n. (n, self.new) ≡ (length undone.made, turned self.old redo (event_of number (names_in undone.items)) undone)) }
+        ensures count { IfOk result (λ n. n ≡ length undone.made) }
+        ensures turned { OnOk result (self.new ≡ turned C.means self.old redo number undone) }
         ensures memory { IfErr result (λ e. e ≡ NoMemory) }
         ensures err { OnErr result (self.new ≡ self.old) }
     {

@@ -1,6 +1,6 @@
 use Rattle.std.proofs.Common.{◌-◌, ◌<◌, length, arith}
 use Rattle.pm_client.proofs.Plannings.{found, meets-found}
-use Rattle.pm_client.proofs.taking.Client.plan.Goals as goal
+use Rattle.pm_client.proofs.client.Client.plan.Goals as goal
 
 pub plan_for-requires : goal.plan_for-requires
 plan_for-requires g c =

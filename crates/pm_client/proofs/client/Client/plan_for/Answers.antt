@@ -1,6 +1,6 @@
 use Rattle.pm_authority.specs.declared.message.Answer.TheVariants.{Accepted, Entries}
 use Rattle.pm_client.proofs.Plannings.{meets-along}
-use Rattle.pm_client.proofs.taking.Client.plan_for.Goals as goal
+use Rattle.pm_client.proofs.client.Client.plan_for.Goals as goal
 
 pub plan_accepted-requires : goal.plan_accepted-requires
 plan_accepted-requires g c =

@@ -1,5 +1,5 @@
 use Rattle.pm_client.proofs.Advances.{accepted-may}
-use Rattle.pm_client.proofs.taking.Client.plan_accepted.Goals as goal
+use Rattle.pm_client.proofs.client.Client.plan_accepted.Goals as goal
 
 pub plan_confirm-requires : goal.plan_confirm-requires
 plan_confirm-requires g c =
