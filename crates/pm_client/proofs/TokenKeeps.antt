@@ -193,7 +193,7 @@ module _ {Rules Doc Reason C : Type 0} (m : Meaning Rules Doc Reason C) (rules :
 
   -- own steps were made
   made-keeps : (cs : List C) (doc : Doc) (h : Branches C) → AllApply m rules c.doc (named c.name (c.serials + 1) cs) doc → AllDiffer (c.pending ++ named c.name (c.serials + 1) cs)
-      → KeepsTokens m log c (gone_on m rules c cs doc h) (m.size c.base)
+      → KeepsTokens m log c (gone_on m c cs doc h) (m.size c.base)
   made-keeps cs doc h applies differ names may i p t at before after =
       let new : List (Named C) = named c.name (c.serials + 1) cs in
       let well : Named_well m rules laws c.base (c.pending ++ new) names =
@@ -208,8 +208,8 @@ module _ {Rules Doc Reason C : Type 0} (m : Meaning Rules Doc Reason C) (rules :
         ap (λ l. slice_get l (through (maps_of m new) p (pos 1)).pos) same ∙ leads p t before there,
       )
 
-  pub gone_on-keeps : (cs : List C) (doc : Doc) (h : Branches C) → AllApply m rules c.doc (named c.name (c.serials + 1) cs) doc → Kin m rules first log (gone_on m rules c cs doc h)
-      → KeepsTokens m log c (gone_on m rules c cs doc h) (m.size c.base)
+  pub gone_on-keeps : (cs : List C) (doc : Doc) (h : Branches C) → AllApply m rules c.doc (named c.name (c.serials + 1) cs) doc → Kin m rules first log (gone_on m c cs doc h)
+      → KeepsTokens m log c (gone_on m c cs doc h) (m.size c.base)
   gone_on-keeps cs doc h applies k =
       made-keeps cs doc h applies
       (rises-differ (c.pending ++ named c.name (c.serials + 1) cs) (rises-back (own_serials c.name k.before) (serials_of (c.pending ++ named c.name (c.serials + 1) cs)) k.parted.rise))
@@ -220,7 +220,7 @@ module _ {Rules Doc Reason C : Type 0} (m : Meaning Rules Doc Reason C) (rules :
   tried-keeps cs event next (Ok doc) ran h k =
       let new : List (Named C) = named c.name (c.serials + 1) cs in
       let history : Branches C = noted_all c.history (items_from m rules c.doc (edit_steps new)) (Edit event true) in
-      let is : gone_on m rules c cs doc history ≡ next = cc in
+      let is : gone_on m c cs doc history ≡ next = cc in
       subst (λ d. KeepsTokens m log c d (m.size c.base)) is
       (gone_on-keeps cs doc history (run-fold m rules c.doc doc 0 new ran) (subst (Kin m rules first log) (sym is) k))
 

@@ -1,5 +1,5 @@
 -- Undoing and redoing the last event.
-use Rattle.std.specs.Prelude.{◌≡◌, ℕ, ◌+◌, Bool, true, false, List, [], ◌∷◌, ◌++◌, length, Option, Some, None, refl, All}
+use Rattle.std.specs.Prelude.{Result, Ok, Err, IfOk, OnOk, OnErr, ◌≡◌, ℕ, ◌+◌, Bool, true, false, List, [], ◌∷◌, ◌++◌, length, Option, Some, None, refl, All}
 use Rattle.std.proofs.Common.{sym, ap, subst, ◌∙◌, arith, length-append}
 use Rattle.std.proofs.lemmas.List.Elements.{All-from_recursion}
 use Rattle.pm_change.specs.Changes.{Meaning, Laws, fold}
@@ -108,9 +108,48 @@ module _ {Rules Doc Reason C : Type 0} (m : Meaning Rules Doc Reason C) (rules :
       let r = remembers redo e last in
       undo-restores m rules c.name laws e.names first kin.timeline c.history.items before c.doc (c.serials + 1) kin.first_good r.0 r.1 since
 
-module _ {Rules Doc Reason C : Type 0} (m : Meaning Rules Doc Reason C) (rules : Rules) (c : Client C Rules Doc Reason) (redo : Bool) (n : ℕ) (next : Client C Rules Doc Reason) where
+-- there is a last event exactly where there is one
+pub last-none : (es : List Event) → (last_event es ≡ None → es ≡ []) × (es ≡ [] → last_event es ≡ None)
+last-none [] = (λ _. refl, λ _. refl)
+last-none (e ∷ es) = (λ h. absurd (some e es h), λ h. absurd (cc))
+  where
+    some : (e : Event) (es : List Event) → last_event (e ∷ es) ≡ None → ⊥
+    some e [] h = cc
+    some e (f ∷ es) h = some f es h
+
+module _ {Rules Doc Reason C : Type 0} (m : Meaning Rules Doc Reason C) (rules : Rules) (c : Client C Rules Doc Reason) (redo : Bool) (next : Client C Rules Doc Reason)
+    (P : Client C Rules Doc Reason → Type 0) where
   -- what holds of the client once its last event was undone holds of the next one
-  pub turned-to : (P : Client C Rules Doc Reason → Type 0) (o : Option Event) → last_turned m rules c redo o ≡ Some (n, next)
+  turned-to : (n : ℕ) (o : Option Event) → last_turned m rules c redo o ≡ Some (n, next) → ((e : Event) → o ≡ Some e → P (event_turned m rules c redo e).1) → P next
+  turned-to n None h f = absurd (cc)
+  turned-to n (Some e) h f = let is : (event_turned m rules c redo e) ≡ (n, next) = cc in subst P (ap (λ p. p.1) is) (f e refl)
+
+  -- and where it holds of the client too it holds of the next one whether or not the call failed
+  pub turned-both : {E : Type 0} (r : Result ℕ E) (o : Option Event) → IfOk r (λ n. last_turned m rules c redo o ≡ Some (n, next)) → OnErr r (next ≡ c) → P c
       → ((e : Event) → o ≡ Some e → P (event_turned m rules c redo e).1) → P next
-  turned-to P None h f = absurd (cc)
-  turned-to P (Some e) h f = let is : (event_turned m rules c redo e) ≡ (n, next) = cc in subst P (ap (λ p. p.1) is) (f e refl)
+  turned-both (Ok n) o h k now f = turned-to n o h f
+  turned-both (Err e) o h k now f = subst P (sym k) now
+
+  pub turned-on : {E : Type 0} (r : Result ℕ E) (o : Option Event) → IfOk r (λ n. last_turned m rules c redo o ≡ Some (n, next)) → ((e : Event) → o ≡ Some e → P (event_turned m rules c redo e).1)
+      → OnOk r (P next)
+  turned-on (Ok n) o h f = turned-to n o h f
+  turned-on (Err e) o h f = tt
+
+module _ {Rules Doc Reason C E : Type 0} (m : Meaning Rules Doc Reason C) (rules : Rules) (laws : Laws m) (c next : Client C Rules Doc Reason) (redo : Bool) (r : Result ℕ E)
+    (turns : IfOk r (λ n. last_turned m rules c redo (last_of redo c.history) ≡ Some (n, next))) where
+  -- the clauses of a call that undoes the last event
+  pub turn-kin : OnErr r (next ≡ c) → (first : Doc) (log : List (Named C)) → Kin m rules first log c → Kin m rules first log next
+  turn-kin err first log kin =
+      turned-both m rules c redo next (λ d. Kin m rules first log d) r (last_of redo c.history) turns err kin (λ e last. kin-turned m rules laws first log c kin redo e last)
+
+  pub turn-restores : OnOk r ((first : Doc) (log : List (Named C)) (kin : Kin m rules first log c) → GivesBack m rules redo c first kin.timeline next.doc)
+  turn-restores =
+      turned-on m rules c redo next (λ d. (first : Doc) (log : List (Named C)) (kin : Kin m rules first log c) → GivesBack m rules redo c first kin.timeline d.doc) r (last_of redo c.history) turns
+      (λ e0 was first log kin e before last since.
+      let same : e ≡ e0 = cc in
+      subst (λ (x : Event). (event_turned m rules c redo x).1.doc ≡ before) same (turned-restores m rules laws first log c kin redo e last before since))
+
+  pub turn-tokens : OnOk r ((first : Doc) (log : List (Named C)) → Kin m rules first log c → KeepsTokens m log c next (m.size c.base))
+  turn-tokens =
+      turned-on m rules c redo next (λ d. (first : Doc) (log : List (Named C)) → Kin m rules first log c → KeepsTokens m log c d (m.size c.base)) r (last_of redo c.history) turns
+      (λ e last first log kin. turned-keeps m rules laws first log c kin redo e last)

@@ -105,7 +105,7 @@ abbrev pub IsCursorRefusal : ℕ → ℕ → CursorError → Type 0
 IsCursorRefusal size p Range = size < p
 IsCursorRefusal size p NoCursorMemory = Unit {0}
 
-module _ {Rules Doc Reason C : Type 0} (m : Meaning Rules Doc Reason C) (rules : Rules) where
+module _ {Rules Doc Reason C : Type 0} (m : Meaning Rules Doc Reason C) where
   -- Own steps of these changes, which lead to this document, are pending under the next serials. Each cursor goes over their
   -- maps, and this is the history with them.
   abbrev pub gone_on : Client C Rules Doc Reason → List C → Doc → Branches C → Client C Rules Doc Reason
@@ -119,11 +119,17 @@ module _ {Rules Doc Reason C : Type 0} (m : Meaning Rules Doc Reason C) (rules :
         history = history;
       }
 
+  -- The client once an event of this number was undone by what was made, or redone where `redo` holds. The steps made are an
+  -- event of the other branch, which has the same number.
+  abbrev pub turned : Client C Rules Doc Reason → Bool → Option ℕ → Undone Doc C → Client C Rules Doc Reason
+  turned c redo number w = gone_on c w.made w.doc (undone redo c.history (event_of number (names_in w.items)) w.items)
+
+module _ {Rules Doc Reason C : Type 0} (m : Meaning Rules Doc Reason C) (rules : Rules) where
   -- What steps get that were tried on the client's document: one is refused, or they are made, as steps of an edit with this
   -- event number.
   abbrev pub tried : Client C Rules Doc Reason → List C → Option ℕ → Result Doc (Refusal Reason) → Result (Client C Rules Doc Reason) (Refusal Reason)
   tried c cs event (Ok doc) =
-      Ok (gone_on c cs doc (noted_all c.history (items_from m rules c.doc (edit_steps (named c.name (c.serials + 1) cs))) (Edit event true)))
+      Ok (gone_on m c cs doc (noted_all c.history (items_from m rules c.doc (edit_steps (named c.name (c.serials + 1) cs))) (Edit event true)))
   tried c cs event (Err e) = Err e
 
   -- The client once these steps were made, one after another, or the first of them that does not apply to the document
@@ -131,16 +137,11 @@ module _ {Rules Doc Reason C : Type 0} (m : Meaning Rules Doc Reason C) (rules :
   abbrev pub edited : Client C Rules Doc Reason → List C → Option ℕ → Result (Client C Rules Doc Reason) (Refusal Reason)
   edited c cs event = tried c cs event (run m rules c.doc 0 (named c.name (c.serials + 1) cs))
 
-  -- The client once an event of this number was undone by what was made, or redone where `redo` holds. The steps made are an
-  -- event of the other branch, which has the same number.
-  abbrev pub turned : Client C Rules Doc Reason → Bool → Option ℕ → Undone Doc C → Client C Rules Doc Reason
-  turned c redo number w = gone_on c w.made w.doc (undone redo c.history (event_of number (names_in w.items)) w.items)
-
   -- How many steps undoing this event makes, and the client after it.
   abbrev pub event_turned : Client C Rules Doc Reason → Bool → Event → ℕ × Client C Rules Doc Reason
   event_turned c redo e =
       let w = undo_event m rules c.name e.names c.history.items c.doc (c.serials + 1) in
-      (length w.made, turned c redo e.number w)
+      (length w.made, turned m c redo e.number w)
 
   -- the same of the last event of a branch, unless it has none
   abbrev pub last_turned : Client C Rules Doc Reason → Bool → Option Event → Option (ℕ × Client C Rules Doc Reason)

@@ -125,7 +125,7 @@ module _ {Rules Doc Reason C : Type 0} (m : Meaning Rules Doc Reason C) (rules :
   -- own steps more, as the history has them
   pub kin-gone_on : Laws m → (cs : List C) (doc : Doc) (more : List (Step C)) (h : Branches C) → AllApply m rules c.doc (named c.name (c.serials + 1) cs) doc
       → IsTimeline c.name more (named c.name (c.serials + 1) cs) → IsHistoryOf m rules c.name (c.serials + length cs) first (kin.timeline ++ more) h
-      → length h.items ≡ length c.history.items + length cs → Kin m rules first log (gone_on m rules c cs doc h)
+      → length h.items ≡ length c.history.items + length cs → Kin m rules first log (gone_on m c cs doc h)
   kin-gone_on laws cs doc more h applies more_are stands count =
       let new : List (Named C) = named c.name (c.serials + 1) cs in
       let fits = maps-fit m rules laws c.doc doc new (doc-good laws) applies in
@@ -168,7 +168,7 @@ module _ {Rules Doc Reason C : Type 0} (m : Meaning Rules Doc Reason C) (rules :
       let stands : IsHistoryOf m rules c.name (c.serials + length cs) first (kin.timeline ++ ss) history =
       subst (λ k. IsHistoryOf m rules c.name (c.serials + k) first (kin.timeline ++ ss) history) n
       (history-call m rules c.name c.serials first c.doc doc kin.timeline ss c.history event true kin.history timeline-applies made edits.1) in
-      let is : gone_on m rules c cs doc history ≡ next = cc in
+      let is : gone_on m c cs doc history ≡ next = cc in
       subst (Kin m rules first log) is
       (kin-gone_on laws cs doc ss history applies edits.0 stands (length-append c.history.items (items_from m rules c.doc ss) ∙ ap (λ k. length c.history.items + k) (items-length m rules c.doc doc ss made ∙ n)))
 
