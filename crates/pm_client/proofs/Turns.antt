@@ -4,7 +4,7 @@ use Rattle.std.proofs.Common.{sym, ap, subst, ◌∙◌, arith, length-append}
 use Rattle.std.proofs.lemmas.List.Elements.{All-from_recursion}
 use Rattle.pm_change.specs.Changes.{Meaning, Laws, fold}
 use Rattle.pm_authority.specs.declared.named.Named.{Named}
-use Rattle.pm_authority.specs.Runs.{changes_of, AllApply}
+use Rattle.pm_authority.specs.Runs.{AllApply}
 use Rattle.pm_history.specs.declared.branch.Event.{Event}
 use Rattle.pm_history.specs.declared.branches.Branches.{Branches}
 use Rattle.pm_history.specs.declared.undoing.Undone.{Undone}
@@ -22,7 +22,7 @@ use Rattle.pm_history.specs.Turned.{IsLast, history-undone}
 use Rattle.pm_history.proofs.Mades.{made-event}
 use Rattle.pm_history.proofs.Agrees.{undo-restores}
 use Rattle.pm_client.specs.declared.client.Client.{Client}
-use Rattle.pm_client.specs.Clients.{named, gone_on, event_turned, last_turned}
+use Rattle.pm_client.specs.Clients.{named, event_turned, last_turned}
 use Rattle.pm_client.specs.Cursors.{HasRoomIn}
 use Rattle.pm_client.specs.Kins.{Kin}
 use Rattle.pm_client.specs.Keeps.{doc-good, timeline-applies, kin-gone_on}

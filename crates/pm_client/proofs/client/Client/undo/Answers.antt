@@ -1,4 +1,4 @@
-use Rattle.std.proofs.Common.{true, false}
+use Rattle.std.proofs.Common.{false}
 use Rattle.pm_client.proofs.Turns.{last-none, turn-kin, turn-restores, turn-tokens}
 use Rattle.pm_client.proofs.client.Client.undo.Goals as goal
 
