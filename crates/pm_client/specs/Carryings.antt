@@ -39,29 +39,34 @@ module _ {Rules Doc Reason C : Type 0} (m : Meaning Rules Doc Reason C) (rules :
   one-holds laws so gone steps g h own tie = from (m.carry g.change so.maps) refl
     where
       without : (so2 : Rebasing C Rules Doc Reason) → so2.kept ≡ so.kept → so2.doc ≡ so.doc → so2.items ≡ so.items → (ss : List (Step C)) × Holds so2 (gone ++ g ∷ []) ss
-      without so2 a b c = (steps, record {
-        kept_are = a ∙ h.kept_are;
-        applies = h.applies ∙ ap Some (sym b);
-        items_are = ap (all_tied old) c ∙ h.items_are;
-        comes = subst (KeptOf m (gone ++ g ∷ [])) (append-nil steps) (kept-append m gone (g ∷ []) steps [] h.comes (dropped g [] [] none));
-        own = h.own;
-      })
+      without so2 a b c = (
+        steps,
+        record {
+          kept_are = a ∙ h.kept_are;
+          applies = h.applies ∙ ap Some (sym b);
+          items_are = ap (all_tied old) c ∙ h.items_are;
+          comes = subst (KeptOf m (gone ++ g ∷ [])) (append-nil steps) (kept-append m gone (g ∷ []) steps [] h.comes (dropped g [] [] none));
+          own = h.own;
+        },
+      )
 
       tried : (c : C) (r : Result Doc Reason) → m.carry g.change so.maps ≡ Some c → m.outcome rules c so.doc ≡ r
           → (ss : List (Step C)) × Holds (ended m rules so (named_of g) c r) (gone ++ g ∷ []) ss
       tried c (Err e) was ran = without (ended m rules so (named_of g) c (Err e)) refl refl refl
       tried c (Ok d) was ran =
           let k : Step C = record { name = g.name; own = true; change = c; undoes = g.undoes } in
-          let i : Item C = own_item m rules g.name.client so.doc c g.name.serial None in
-          (steps ++ k ∷ [], record {
-            kept_are = ap (λ l. l ++ named_of k ∷ []) h.kept_are ∙ sym (map-append named_of steps (k ∷ []));
-            applies = ap (fold m rules base) (changes-append steps (k ∷ [])) ∙ fold-append m rules base so.doc (changes_of steps) (c ∷ []) h.applies ∙ rw ran refl;
-            items_are = map-append (tied_as old) so.items (i ∷ []) ∙ ap (λ l. l ++ tied_as old i ∷ []) h.items_are
-                ∙ ap (λ o. items_from m rules base steps ++ record i { undoes = o } ∷ []) tie ∙ sym (items-more m rules base so.doc steps k h.applies);
-            comes = kept-append m gone (g ∷ []) steps (k ∷ []) h.comes
-                (kept g k [] [] (record { name_is = refl; was_own = own; own = refl; undoes_is = refl; sizes_are = laws.carried g.change c so.maps was }) none);
-            own = Each-append _ steps (k ∷ []) h.own (refl, tt);
-          })
+          let i : Item C = own_item m rules g.name.client so.doc c g.name.serial None in (
+            steps ++ k ∷ [],
+            record {
+              kept_are = ap (λ l. l ++ named_of k ∷ []) h.kept_are ∙ sym (map-append named_of steps (k ∷ []));
+              applies = ap (fold m rules base) (changes-append steps (k ∷ [])) ∙ fold-append m rules base so.doc (changes_of steps) (c ∷ []) h.applies ∙ rw ran refl;
+              items_are = map-append (tied_as old) so.items (i ∷ []) ∙ ap (λ l. l ++ tied_as old i ∷ []) h.items_are
+                  ∙ ap (λ o. items_from m rules base steps ++ record i { undoes = o } ∷ []) tie ∙ sym (items-more m rules base so.doc steps k h.applies);
+              comes = kept-append m gone (g ∷ []) steps (k ∷ []) h.comes
+                  (kept g k [] [] (record { name_is = refl; was_own = own; own = refl; undoes_is = refl; sizes_are = laws.carried g.change c so.maps was }) none);
+              own = Each-append _ steps (k ∷ []) h.own (refl, tt);
+            },
+          )
 
       from : (o : Option C) → m.carry g.change so.maps ≡ o → (ss : List (Step C)) × Holds (led m rules so (named_of g) o) (gone ++ g ∷ []) ss
       from None was = without (led m rules so (named_of g) None) refl refl refl

@@ -1,3 +1,5 @@
+use Rattle.std.proofs.Common.{List}
+use Rattle.pm_authority.specs.declared.named.Named.{Named}
 use Rattle.pm_client.specs.Clients.{taken_at}
 use Rattle.pm_client.specs.Kins.{Kin}
 use Rattle.pm_client.specs.Plans.{carried_out}
