@@ -5,8 +5,8 @@ mod Rebasings
 mod Tokens
 mod Origins
 mod Leads
-mod TokenRuns
-mod TokenLeads
-mod TokenKeeps
+pub mod TokenRuns
+pub mod TokenLeads
+pub mod TokenKeeps
 pub mod Turns
 pub mod Makings

@@ -8,3 +8,4 @@ pub mod Names
 pub mod Tallies
 pub mod OpLists
 pub mod Sides
+pub mod Suited

@@ -4,15 +4,8 @@ use Rattle.std.specs.Prelude.{Option, Some, None}
 use Rattle.std.proofs.lemmas.List.{append-nil}
 use Rattle.pm_list.specs.Readings.{◌>>=◌, or_fault, with_front, with_front-more}
 use Rattle.pm_session.specs.declared.line.Line.{Line}
-use Rattle.pm_session.specs.Suits.{Suits, AllSuit}
 use Rattle.pm_flat.specs.declared.flat.Replace.{Replace}
 use Rattle.pm_program.specs.Reading.{op_line, ops_of, letters_of}
-
--- a line more that suits what came before it
-pub AllSuit-more : (n : ℕ) (earlier lines : List (Line Replace)) (line : Line Replace) → AllSuit n earlier lines → Suits n (earlier ++ lines) line
-    → AllSuit n earlier (lines ++ line ∷ [])
-AllSuit-more n earlier [] line h s = (rw append-nil at s, tt)
-AllSuit-more n earlier (l ∷ lines) line h s = (h.0, AllSuit-more n (earlier ++ l ∷ []) lines line h.1 (rw append_assoc s))
 
 pub or_fault-ok : {A E : Type 0} → (e : E) (o : Option A) (x : A) → or_fault e o ≡ Ok x → o ≡ Some x
 or_fault-ok e None x h = absurd (cc)

@@ -4,11 +4,10 @@ ghost use Rattle.pm_io.specs.Faults.{Rose};
 ghost use Rattle.pm_session.specs.Events.{state_of};
 ghost use Rattle.pm_session.specs.Sessions.{opened};
 ghost use Rattle.pm_session.specs.Sounds.{Sound};
-ghost use Rattle.pm_session.specs.Suits.{AllSuit};
 ghost use Rattle.pm_flat.specs.Flat.{meaning};
 ghost use Rattle.pm_program.specs.Output.{text_of, status_for};
 ghost use Rattle.pm_program.specs.Reading.{session_of};
-ghost use Rattle.pm_program.specs.Sounds.{RoomsSound, AllSound};
+ghost use Rattle.pm_program.specs.Sounds.{IsSuited};
 ghost use Rattle.pm_program.specs.Report.{◌&◌, line, report_of};
 ghost use Rattle.pm_program.specs.SessionViews.{session_view};
 
@@ -39,7 +38,6 @@ pub fn replay_answer<R: Source>(alloc: Global, source: &mut R) -> Result<Answer,
     ensures status { IfOk result (λ a. (input : List ℕ) → R.left source.old ≡ Some input
         → a.status ≡ status_for (session_of input)) }
     ensures answers { IfOk result (λ a. IsAnswer a.status) }
-    ensures sound { IfOk result (λ a. (input : List ℕ) → R.left source.old ≡ Some input → AllSound (session_of input)) }
     ensures fault { IsErrOf result ReadError.ReadFault → Rose (R.faults source.old) (R.faults source.new) }
     ensures read { IsErrOf result ReadError.TooLong → ⊥ }
 {
@@ -55,7 +53,6 @@ ghost use Rattle.pm_program.specs.Output.{IsAnswer};
 fn answer_to(alloc: Global, input: &[u8]) -> Result<Answer, AllocError>
     ensures text { IfOk result (λ a. string_bytes a.text ≡ text_of (session_of input.now)) }
     ensures status { IfOk result (λ a. a.status ≡ status_for (session_of input.now)) }
-    ensures sound { IfOk result (λ a. AllSound (session_of input.now)) }
 {
     match read_session(alloc, input) {
         Ok(session) => Ok(Answer {
@@ -70,10 +67,9 @@ fn answer_to(alloc: Global, input: &[u8]) -> Result<Answer, AllocError>
 /// The report of a session, whose lines are played in file order.
 fn replay(alloc: Global, session: &Session) -> Result<String, AllocError>
     requires few { vec_len session.now.clients ≤ 32 }
-    requires suit { AllSuit (vec_len session.now.clients) [] session.now.lines.items }
+    requires suited { IsSuited (session_view session.now) }
     requires text { length session.now.text ≤ 400000 }
     ensures report { IfOk result (λ s. string_bytes s ≡ report_of (session_view session.now)) }
-    ensures sound { IfOk result (λ s. RoomsSound (session_view session.now)) }
 {
     let mut room = open(alloc, session)?;
     let outcomes = room.play_all(alloc, &(), &StepMaker, &session.lines)?;

@@ -18,6 +18,8 @@ mod session;
 mod several_tests;
 #[cfg(test)]
 mod tests;
+#[cfg(test)]
+mod three_clients_tests;
 mod words;
 mod written;
 

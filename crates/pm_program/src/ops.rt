@@ -1,10 +1,9 @@
 //! One op line.
-ghost use Rattle.std.specs.Prelude.{◌≡◌, ◌≤◌, ◌<◌, ◌+◌, true, length, map, nat_eq, position, vec_len, option_map, string_bytes, IfOk, IfSome};
+ghost use Rattle.std.specs.Prelude.{◌≡◌, ◌≤◌, ◌<◌, ◌+◌, length, map, nat_eq, position, vec_len, option_map, string_bytes, IfOk, IfSome};
 ghost use Rattle.std.specs.Cmp.Lexicographic.{pointwise};
 ghost use Rattle.serde_json.specs.View.{view};
 ghost use Rattle.pm_list.specs.Readings.{or_fault};
 ghost use Rattle.pm_session.specs.declared.line.Act.TheVariants.{Edit};
-ghost use Rattle.pm_session.specs.Suits.{Suits, NamesOneOf};
 ghost use Rattle.pm_program.specs.Answer.{Gives};
 ghost use Rattle.pm_program.specs.Forms.{step_in};
 ghost use Rattle.pm_program.specs.Reading.{letters_of, act_in, edit_in, cursor_in, exchange_in, client_at, names_one_of, has_cursor, op_in, op_line, refused};
@@ -127,8 +126,7 @@ fn place_of(name: &str, names: &[String]) -> Option<usize>
 
 /// Whether an act that names a message or an answer names one of so many, and a cursor's side is one of the two.
 fn names_one_of(messages: u64, answers: u64, act: &Act<Replace>) -> bool
-    ensures test { result ≡ names_one_of messages answers act.now }
-    ensures named { result ≡ true → NamesOneOf messages answers act.now }
+    ensures { result ≡ names_one_of messages answers act.now }
 {
     match act {
         Act::Present { message } => 0 < *message && *message <= messages,
@@ -163,7 +161,7 @@ fn op_in(
     requires cursors { vec_len earlier.now.cursors ≡ length names.now }
     requires few { length names.now ≤ 32 }
     ensures read { IfOk result (λ o. o ≡ op_in (map string_bytes names.now) earlier.now.lines.items number (view json.now)) }
-    ensures suits { IfOk result (λ o. IfSome o (λ line. Suits (length names.now) earlier.now.lines.items line)) }
+    ensures within { IfOk result (λ o. IfSome o (λ line. line.client < length names.now)) }
 {
     let Some(client) = client_at(names, json) else {
         return Ok(None);
@@ -216,7 +214,7 @@ pub fn op_line(
     ensures read { Gives (λ l. l) result (or_fault (refused number) (op_line (map string_bytes names.now) earlier.now.lines.items used number line.now)) }
     ensures letters { IfOk result (λ l. used + length (letters_of l.act) ≤ 400000) }
     ensures number { IfOk result (λ l. number ≤ 100003) }
-    ensures suits { IfOk result (λ l. Suits (length names.now) earlier.now.lines.items l) }
+    ensures within { IfOk result (λ l. l.client < length names.now) }
 {
     if number > LAST_LINE {
         return Err(not_built(number));

@@ -68,6 +68,8 @@ fn op_line(alloc: Global, text: &str) -> Result<String, Fail> {
             Some(side) => format!(in alloc; ",\"pos\":{pos},\"side\":{side}")?,
             None => format!(in alloc; ",\"pos\":{pos}")?,
         },
+        ("present", Some(number)) => format!(in alloc; ",\"message\":{number}")?,
+        ("take", Some(number)) => format!(in alloc; ",\"answer\":{number}")?,
         (_, Some(lost)) => format!(in alloc; ",\"{lost}\":true")?,
         (_, None) => String::new(alloc),
     };
@@ -84,7 +86,7 @@ fn op_lines(alloc: Global, row: &str) -> Result<String, Fail> {
 }
 
 // A report, with its values written out.
-fn report(alloc: Global, rows: &str) -> Result<String, Fail> {
+pub fn report(alloc: Global, rows: &str) -> Result<String, Fail> {
     let mut text = String::new(alloc);
     for row in rows.split('\n') {
         for (i, part) in row.split(' ').enumerate() {
@@ -99,7 +101,7 @@ fn report(alloc: Global, rows: &str) -> Result<String, Fail> {
 }
 
 // What is written for these lines on this first document.
-fn played(rt: &impl AllocGlobal, first: &str, lines: &str) -> Result<(Status, String), Fail> {
+pub fn played(rt: &impl AllocGlobal, first: &str, lines: &str) -> Result<(Status, String), Fail> {
     let alloc = rt.alloc();
     let first = doc(alloc, first)?;
     let lines = op_lines(alloc, lines)?;

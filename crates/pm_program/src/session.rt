@@ -1,7 +1,6 @@
 //! The session that an input is.
 ghost use Rattle.std.specs.Prelude.{◌≡◌, ◌≤◌, [], IfOk, length, map, vec_len, string_bytes};
 ghost use Rattle.pm_list.specs.Readings.{or_fault};
-ghost use Rattle.pm_session.specs.Suits.{AllSuit};
 ghost use Rattle.pm_program.specs.Answer.{Gives};
 ghost use Rattle.pm_program.specs.Lines.{lines_of};
 ghost use Rattle.pm_program.specs.Reading.{doc_line, clients_line, ops_of, head, refused, session_in, session_of};
@@ -41,7 +40,6 @@ pub struct Session {
 pub fn read_session(alloc: Global, input: &[u8]) -> Result<Session, SessionError>
     ensures read { Gives session_view result (session_of input.now) }
     ensures few { IfOk result (λ s. vec_len s.clients ≤ 32) }
-    ensures suit { IfOk result (λ s. AllSuit (vec_len s.clients) [] s.lines.items) }
     ensures text { IfOk result (λ s. length s.text ≤ 400000) }
 {
     if input.len() > MAX_INPUT {
@@ -54,7 +52,6 @@ pub fn read_session(alloc: Global, input: &[u8]) -> Result<Session, SessionError
 fn session_in(alloc: Global, input: &[u8]) -> Result<Session, SessionError>
     ensures read { Gives session_view result (session_in (lines_of input.now)) }
     ensures few { IfOk result (λ s. vec_len s.clients ≤ 32) }
-    ensures suit { IfOk result (λ s. AllSuit (vec_len s.clients) [] s.lines.items) }
     ensures text { IfOk result (λ s. length s.text ≤ 400000) }
 {
     let (line, rest) = head(1, input)?;
@@ -125,7 +122,6 @@ fn ops_from(
     requires used { used ≤ 400000 }
     requires few { length names.now ≤ 32 }
     ensures read { Gives (λ v. v.items) result (ops_of (map string_bytes names.now) [] used 4 (lines_of bytes.now)) }
-    ensures suit { IfOk result (λ v. AllSuit (length names.now) [] v.items) }
 {
     let mut earlier = Earlier::new(alloc, names.len())?;
     let mut used = used;

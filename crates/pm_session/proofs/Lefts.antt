@@ -42,7 +42,7 @@ module _ {Rules Doc Reason C : Type 0} (m : Meaning Rules Doc Reason C) (rules :
     exchanging kind p (inr (inr (inl e))) = subst Moves (sym e) (true, false, sent-moved m rules laws a stood c kin kind)
     exchanging kind p (inr (inr (inr e))) = subst Moves (sym e) (true, true, given-moved m rules laws a stood c kin kind)
 
-    left-moved : {Op : Type 0} (act : Act Op) (p : Authority C Rules Doc Reason × Client C Rules Doc Reason) → LeftBy m rules a c act p → Moves p
+    pub left-moved : {Op : Type 0} (act : Act Op) (p : Authority C Rules Doc Reason × Client C Rules Doc Reason) → LeftBy m rules a c act p → Moves p
     left-moved (Edit op) p h = as-was p h
     left-moved (Cursor pos side) p h = as-was p h
     left-moved Submit p h = as-was p h

@@ -7,4 +7,8 @@ pub mod Lefts
 pub mod Opening
 pub mod Playing
 pub mod Turns
+pub mod Unrefused
+pub mod Namings
+pub mod Stays
+pub mod Rooms
 pub mod Settling

@@ -5,4 +5,5 @@ pub mod Left
 pub mod Sessions
 pub mod Suits
 pub mod Sounds
+pub mod Standing
 pub mod Openings

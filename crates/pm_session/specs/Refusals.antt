@@ -1,10 +1,49 @@
--- Answers that a client's message gets.
+-- No message that a client composed is refused for a step.
+use Rattle.std.specs.Prelude.{◌≡◌, ℕ, slice_get, Some}
+use Rattle.pm_change.specs.Changes.{Meaning}
+use Rattle.pm_authority.specs.declared.message.Message.{Message}
 use Rattle.pm_authority.specs.declared.message.Answer.{Answer}
 use Rattle.pm_authority.specs.declared.message.Answer.TheVariants.{Accepted, WrongVersion, StepRefused, Entries}
+use Rattle.pm_authority.specs.Presents.{presented}
+use Rattle.pm_client.specs.declared.client.Client.{Client}
+use Rattle.pm_client.specs.Clients.{message_at}
+use Rattle.pm_session.specs.declared.outcome.Told.{Told}
+use Rattle.pm_session.specs.declared.outcome.Told.TheVariants.{Accepted as ToldAccepted, Version, Refused as ToldRefused, Entries as ToldEntries}
+use Rattle.pm_session.specs.declared.outcome.Outcome.{Outcome}
+use Rattle.pm_session.specs.declared.outcome.Outcome.TheVariants.{Made, NoRange, NoPlace, NoFit, Refused, CursorAt, Composed, Answered, Took, Exchanged}
+use Rattle.pm_session.specs.Events.{State}
 
--- the answer refuses no step
-abbrev pub RefusesNoStep : {Rules Doc Reason C : Type 0} → Answer C Rules Doc Reason → Type 0
-RefusesNoStep (Accepted from count) = Unit {0}
-RefusesNoStep (WrongVersion n) = Unit {0}
-RefusesNoStep (StepRefused index reason) = ⊥
-RefusesNoStep (Entries since entries) = Unit {0}
+module _ {Rules Doc Reason C : Type 0} where
+  -- the answer refuses no step
+  abbrev pub RefusesNoStep : Answer C Rules Doc Reason → Type 0
+  RefusesNoStep (Accepted from count) = Unit {0}
+  RefusesNoStep (WrongVersion n) = Unit {0}
+  RefusesNoStep (StepRefused index reason) = ⊥
+  RefusesNoStep (Entries since entries) = Unit {0}
+
+  -- what is told of an answer tells of no refused step
+  abbrev pub TellsNoRefusal : Told C Rules Doc Reason → Type 0
+  TellsNoRefusal (ToldAccepted from count) = Unit {0}
+  TellsNoRefusal (Version n) = Unit {0}
+  TellsNoRefusal (ToldRefused index reason) = ⊥
+  TellsNoRefusal (ToldEntries since count) = Unit {0}
+
+  -- What became of a line by an editor: where it presented a message, the answer refused no step. An op whose own steps
+  -- do not apply presents none.
+  abbrev pub GetsNoRefusal : Outcome C Rules Doc Reason → Type 0
+  GetsNoRefusal (Answered told) = TellsNoRefusal told
+  GetsNoRefusal (Exchanged told taken) = TellsNoRefusal told
+  GetsNoRefusal (Made count) = Unit {0}
+  GetsNoRefusal NoRange = Unit {0}
+  GetsNoRefusal NoPlace = Unit {0}
+  GetsNoRefusal NoFit = Unit {0}
+  GetsNoRefusal (Refused index reason) = Unit {0}
+  GetsNoRefusal (CursorAt p) = Unit {0}
+  GetsNoRefusal (Composed n) = Unit {0}
+  GetsNoRefusal (Took taken) = Unit {0}
+
+-- Whichever of its messages a client of the room presents next, the answer refuses no step.
+abbrev pub NoMessageRefused : {Rules Doc Reason C : Type 0} → Meaning Rules Doc Reason C → Rules → State C Rules Doc Reason → Type 0
+NoMessageRefused {Rules} {Doc} {Reason} {C} m rules s =
+    (i j : ℕ) (c : Client C Rules Doc Reason) (message : Message C) → slice_get s.clients i ≡ Some c → message_at c j ≡ Some message
+    → RefusesNoStep (presented m rules s.authority message).0

@@ -1,10 +1,13 @@
 //! A room: an authority and its clients.
-ghost use Rattle.std.specs.Prelude.{◌≡◌, ◌≤◌, ◌<◌, false, length, vec_len, All, IfOk, OnErr, OnOk};
+ghost use Rattle.std.specs.Prelude.{◌≡◌, ◌≤◌, ◌<◌, ◌+◌, ℕ, false, length, take, vec_len, All, IfOk, OnErr, OnOk};
+ghost use Rattle.std.specs.List.{AllByRecursion as Each};
 ghost use Rattle.pm_client.specs.declared.taken.Kind.TheVariants.{Ask};
 ghost use Rattle.pm_session.specs.Events.{state_of, played};
 ghost use Rattle.pm_session.specs.Left.{LeftByLine};
 ghost use Rattle.pm_session.specs.Sessions.{opened, session, exchanged, brought_up, in_turn, settled};
+ghost use Rattle.pm_session.specs.Refusals.{GetsNoRefusal};
 ghost use Rattle.pm_session.specs.Sounds.{Sound, AllCaughtUp, NamesDiffer};
+ghost use Rattle.pm_session.specs.Standing.{CursorsStay};
 ghost use Rattle.pm_session.specs.Suits.{SuitsRoom, LinesSuit};
 
 use crate::act::act;
@@ -77,9 +80,13 @@ impl<C: Change> Room<C> {
         requires sound { Sound C.means rules.now (state_of self.old) }
         requires suits { SuitsRoom (state_of self.old) line.now }
         ensures plays { IfOk result (λ o. (o, state_of self.new) ≡ played C.means rules.now (K.makes maker.now rules.now) (state_of self.old) line.now) }
+        // No message of an editor is refused for a step.
+        ensures unrefused { IfOk result (λ o. GetsNoRefusal o) }
         ensures left { OnErr result (LeftByLine C.means rules.now (state_of self.old) line.now (state_of self.new)) }
         ensures sound { Sound C.means rules.now (state_of self.new) }
         ensures names { NamesDiffer self.new.authority.log }
+        // Each cursor with side 1 stays before its token.
+        ensures cursors { CursorsStay C.means (state_of self.old) (state_of self.new) }
     {
         let client = &mut self.clients[line.client as usize];
         act(alloc, rules, maker, &mut self.authority, client, &line.act)
@@ -98,9 +105,14 @@ impl<C: Change> Room<C> {
         requires suit { LinesSuit (state_of self.old) lines.now }
         ensures outcomes { IfOk result (λ v. v.items ≡ (session C.means rules.now (K.makes maker.now rules.now) (state_of self.old) lines.now).0) }
         ensures each { IfOk result (λ v. vec_len v ≡ length lines.now) }
+        ensures unrefused { IfOk result (λ v. Each GetsNoRefusal v.items) }
         ensures room { OnOk result (state_of self.new ≡ (session C.means rules.now (K.makes maker.now rules.now) (state_of self.old) lines.now).1) }
         ensures sound { Sound C.means rules.now (state_of self.new) }
         ensures names { NamesDiffer self.new.authority.log }
+        // So it is from the room after each number of lines to the next.
+        ensures cursors { OnOk result ((k : ℕ) → CursorsStay C.means
+            (session C.means rules.now (K.makes maker.now rules.now) (state_of self.old) (take k lines.now)).1
+            (session C.means rules.now (K.makes maker.now rules.now) (state_of self.old) (take (k + 1) lines.now)).1) }
     {
         let mut outcomes = Vec::new(alloc);
         for line in lines {

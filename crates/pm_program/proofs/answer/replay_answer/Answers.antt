@@ -12,8 +12,3 @@ pub returns-in_ok-refused-in-Err-TooLong-clause-status : goal.returns-in_ok-refu
 returns-in_ok-refused-in-Err-TooLong-clause-status g c input is =
     let more = c.in-Err-TooLong.ensures.too_long (ap Err c.in-Err-TooLong.field-0-is) in
     rw (too_long _ (g.R.Source.left c.read_all.new.source) more.0 input more.1 more.2 is) c.in_ok-refused-in-Err-TooLong.ensures.status
-
-pub returns-in_ok-refused-in-Err-TooLong-clause-sound : goal.returns-in_ok-refused-in-Err-TooLong-clause-sound
-returns-in_ok-refused-in-Err-TooLong-clause-sound g c input is =
-    let more = c.in-Err-TooLong.ensures.too_long (ap Err c.in-Err-TooLong.field-0-is) in
-    rw (too_long _ (g.R.Source.left c.read_all.new.source) more.0 input more.1 more.2 is) tt

@@ -2,7 +2,7 @@ use Rattle.std.proofs.Common.{◌≡◌, [], map, string_bytes, length, arith, r
 use Rattle.std.specs.Prelude.{Some}
 use Rattle.pm_program.specs.Lines.{lines_of}
 use Rattle.pm_program.specs.Reading.{op_line, ops_of, refused}
-use Rattle.pm_program.proofs.OpLists.{AllSuit-more, or_fault-ok, ops-step}
+use Rattle.pm_program.proofs.OpLists.{or_fault-ok, ops-step}
 use Rattle.pm_program.proofs.session.ops_from.Goals as goal
 
 pub loop-line-preserved : goal.loop-line-preserved
@@ -22,6 +22,5 @@ loop-line-preserved c =
       composed = search rules;
       answered = search rules;
       cursors = search rules;
-      suit = rw c.in_ok-add.ensures.ok (AllSuit-more (length c.args.names.now) [] e.lines.items op inv.suit c.in_ok-op.ensures.suits);
       read = rw (c.in_ok-add.ensures.ok, c.letters_of-used.ensures) (ops-step names e.lines.items used n op line (lines_of c.loop-line.rest.now) (lines_of c.in-Some.after.now) (ops_of names [] c.args.used 4 (lines_of c.args.bytes.now)) c.in-Some.ensures.lines read inv.read);
     }

@@ -1,6 +1,5 @@
 use Rattle.std.proofs.Common.{◌≡◌, ◌≤◌, ◌+◌, [], length, vec_len, map, string_bytes}
 use Rattle.pm_list.specs.Readings.{with_front}
-use Rattle.pm_session.specs.Suits.{AllSuit}
 use Rattle.pm_program.specs.Lines.{lines_of}
 use Rattle.pm_program.specs.Reading.{ops_of}
 use Rattle.pm_program.proofs.session.ops_from.Given as goal
@@ -13,7 +12,6 @@ invariant-loop-line l = record {
   composed : vec_len l.earlier.composed ≡ length l.names;
   answered : vec_len l.earlier.answered ≡ length l.names;
   cursors : vec_len l.earlier.cursors ≡ length l.names;
-  suit : AllSuit (length l.names) [] l.earlier.lines.items;
   read : with_front l.earlier.lines.items (ops_of (map string_bytes l.names) l.earlier.lines.items l.used l.number (lines_of l.rest)) ≡ ops_of (map string_bytes l.names) [] l.fn.used 4 (lines_of l.bytes);
 }
 

@@ -1,10 +1,13 @@
 use Rattle.std.proofs.Common.{rules, ◌≡◌, ◌+◌, ◌∷◌, ◌++◌, [], ◌∙◌, append_assoc, drop, ap, sym, subst}
 use Rattle.std.proofs.lemmas.List.{drop_more}
+use Rattle.pm_client.specs.Lists.{Each-append}
 use Rattle.pm_session.specs.Events.{state_of}
 use Rattle.pm_session.specs.Sessions.{session}
 use Rattle.pm_session.specs.Suits.{LinesSuit}
+use Rattle.pm_session.specs.Refusals.{GetsNoRefusal}
 use Rattle.pm_session.proofs.LogNames.{sound-names}
 use Rattle.pm_session.proofs.Playing.{suits-first, suits-rest, session-more}
+use Rattle.pm_session.proofs.Rooms.{session-stays}
 use Rattle.pm_session.proofs.room.Room.play_all.Goals as goal
 
 pub play-requires-clause-suits : goal.play-requires-clause-suits
@@ -37,7 +40,14 @@ loop-line-preserved g c =
       room = ap (λ q. q.1) (sym more) ∙ ap (λ l. (session m c.args.rules.now makes s l).1) (sym rest) ∙ c.loop-line.invariant.room;
       suit = subst (λ t. LinesSuit t (drop (k + 1) lines)) (sym (ap (λ p. p.1) c.in_ok-play.ensures.plays)) later;
       sound = c.play.ensures.sound;
+      unrefused = rw c.in_ok-push.ensures.items
+          (Each-append GetsNoRefusal c.loop-line.outcomes.items (c.in_ok-play.field-0 ∷ []) c.loop-line.invariant.unrefused (c.in_ok-play.ensures.unrefused, tt));
     }
 
 pub returns-clause-names : goal.returns-clause-names
 returns-clause-names g c = sound-names g.C.Change.means c.args.rules.now (state_of c.loop-line.self) c.loop-line.invariant.sound
+
+pub returns-clause-cursors : goal.returns-clause-cursors
+returns-clause-cursors g c k =
+    session-stays g.C.Change.means c.args.rules.now g.met.C.Change.laws (g.K.Maker.makes c.args.maker.now c.args.rules.now) (state_of c.args.self.now) c.args.lines.now
+    c.requires.sound c.requires.suit k

@@ -1,6 +1,8 @@
+use Rattle.std.specs.List.{AllByRecursion as Each}
 use Rattle.std.proofs.Common.{◌≡◌, ◌++◌, drop, vec_len}
 use Rattle.pm_session.specs.Events.{state_of}
 use Rattle.pm_session.specs.Sessions.{session}
+use Rattle.pm_session.specs.Refusals.{GetsNoRefusal}
 use Rattle.pm_session.specs.Sounds.{Sound}
 use Rattle.pm_session.specs.Suits.{LinesSuit}
 use Rattle.pm_session.proofs.room.Room.play_all.Given as goal
@@ -15,4 +17,5 @@ invariant-loop-line g l =
       room : (session m l.rules makes (state_of l.self) (drop l.line-index l.lines)).1 ≡ (session m l.rules makes (state_of l.fn.self) l.lines).1;
       suit : LinesSuit (state_of l.self) (drop l.line-index l.lines);
       sound : Sound m l.rules (state_of l.self);
+      unrefused : Each GetsNoRefusal l.outcomes.items;
     }

@@ -1,0 +1,113 @@
+-- No message that a client composed is refused for a step.
+use Rattle.std.specs.List.{AllByRecursion as Each}
+use Rattle.std.specs.Prelude.{◌≡◌, ℕ, ℤ, nat_lt, if◌then◌else◌, Bool, true, false, List, [], ◌∷◌, Option, Some, None, Result, Ok, Err, refl}
+use Rattle.pm_change.specs.Changes.{Meaning, Laws}
+use Rattle.pm_authority.specs.declared.authority.Authority.{Authority}
+use Rattle.pm_authority.specs.declared.running.Refusal.{Refusal}
+use Rattle.pm_authority.specs.declared.message.Message.{Message}
+use Rattle.pm_authority.specs.declared.message.Answer.{Answer}
+use Rattle.pm_authority.specs.declared.message.Answer.TheVariants.{Accepted, WrongVersion, StepRefused, Entries}
+use Rattle.pm_authority.specs.Kept.{IsKept}
+use Rattle.pm_authority.specs.Presents.{presented}
+use Rattle.pm_client.specs.declared.client.Client.{Client}
+use Rattle.pm_client.specs.declared.taken.Kind.{Kind}
+use Rattle.pm_client.specs.declared.taken.Kind.TheVariants.{Submit as Submission, Ask as Asking}
+use Rattle.pm_client.specs.Clients.{edited, cursor_set, message_of, message_at, composed, kept}
+use Rattle.pm_client.specs.Kins.{Kin}
+use Rattle.pm_client.specs.Keeps.{kin-composed}
+use Rattle.pm_session.specs.declared.line.Line.{Line}
+use Rattle.pm_session.specs.declared.line.Act.{Act}
+use Rattle.pm_session.specs.declared.line.Act.TheVariants.{Edit, Cursor, Submit, Ask, Present, Take, Push, Pull}
+use Rattle.pm_session.specs.declared.maker.NoSteps.{NoSteps}
+use Rattle.pm_session.specs.declared.maker.NoSteps.TheVariants.{Range, NotThere, NoFit as FitsNowhere, NoMemory}
+use Rattle.pm_session.specs.declared.outcome.Outcome.{Outcome}
+use Rattle.pm_session.specs.declared.outcome.Outcome.TheVariants.{NoRange, CursorAt}
+use Rattle.pm_session.specs.Events.{State, told, made, edits, sets, presents, ends, exchanges, acted, played}
+use Rattle.pm_session.specs.Sessions.{session}
+use Rattle.pm_session.specs.Sounds.{Sound}
+use Rattle.pm_session.specs.Suits.{SuitsRoom, LinesSuit}
+use Rattle.pm_session.specs.Refusals.{RefusesNoStep, TellsNoRefusal, GetsNoRefusal, NoMessageRefused}
+use Rattle.pm_session.proofs.SoundLaws.{message-stands, new-stands}
+use Rattle.pm_session.proofs.Exchanges.{refuses-none}
+use Rattle.pm_session.proofs.Playing.{suits-first, suits-rest, played-sound}
+
+module _ {Rules Doc Reason C : Type 0} where
+  -- what is told of an answer that refuses no step
+  told-none : (a : Answer C Rules Doc Reason) → RefusesNoStep a → TellsNoRefusal (told a)
+  told-none (Accepted from count) h = tt
+  told-none (WrongVersion n) h = tt
+  told-none (StepRefused index reason) h = h
+  told-none (Entries since entries) h = tt
+
+  made-none : (c : Client C Rules Doc Reason) (steps : List C) (r : Result (Client C Rules Doc Reason) (Refusal Reason)) → GetsNoRefusal (made c steps r).0
+  made-none c steps (Ok next) = tt
+  made-none c steps (Err e) = tt
+
+module _ {Rules Doc Reason C : Type 0} (m : Meaning Rules Doc Reason C) (rules : Rules) (laws : Laws m) (a : Authority C Rules Doc Reason) (stood : IsKept m rules a)
+    (c : Client C Rules Doc Reason) (kin : Kin m rules a.first a.log c) where
+  edits-none : (r : Result (List C) NoSteps) → GetsNoRefusal (edits m rules c r).0
+  edits-none (Ok steps) = made-none c steps (edited m rules c steps)
+  edits-none (Err Range) = tt
+  edits-none (Err NotThere) = tt
+  edits-none (Err FitsNowhere) = tt
+  edits-none (Err NoMemory) = tt
+
+  sets-none : (p : ℕ) (side : ℤ) → GetsNoRefusal (sets m c p side).0
+  sets-none p side = from (nat_lt (m.size c.doc) p)
+    where
+      chosen : Bool → Outcome C Rules Doc Reason × Client C Rules Doc Reason
+      chosen b = if b then (NoRange, c) else (CursorAt p, cursor_set c p side)
+
+      from : (b : Bool) → GetsNoRefusal (chosen b).0
+      from true = tt
+      from false = tt
+
+  ends-none : (b : Bool) (new : Authority C Rules Doc Reason) (d : Client C Rules Doc Reason) (answer : Answer C Rules Doc Reason) → RefusesNoStep answer
+      → GetsNoRefusal (ends m rules b new d answer).0
+  ends-none true new d answer h = told-none answer h
+  ends-none false new d answer h = told-none answer h
+
+  exchanges-none : (kind : Kind) (lost : Bool) → GetsNoRefusal (exchanges m rules a c kind lost).0
+  exchanges-none kind lost =
+      let p = presented m rules a (message_of c kind) in
+      ends-none lost p.1 (kept (composed c kind) p.0) p.0
+      (refuses-none m rules laws a stood (composed c kind) (kin-composed m rules a.first a.log c kin kind) (message_of c kind) (new-stands m rules laws c kind))
+
+  -- a message that the client composed
+  pub composed-none : (j : ℕ) (message : Message C) → message_at c j ≡ Some message → RefusesNoStep (presented m rules a message).0
+  composed-none j message at = refuses-none m rules laws a stood c kin message (message-stands m rules laws a.first a.log c kin j message at)
+
+  presents-none : (j : ℕ) → GetsNoRefusal (presents m rules a c (message_at c j)).0
+  presents-none j = from (message_at c j) refl
+    where
+      from : (o : Option (Message C)) → message_at c j ≡ o → GetsNoRefusal (presents m rules a c o).0
+      from None e = tt
+      from (Some message) e = told-none (presented m rules a message).0 (composed-none j message e)
+
+  pub acted-none : {Op : Type 0} (makes : Doc → Op → Result (List C) NoSteps) (act : Act Op) → GetsNoRefusal (acted m rules makes a act c).0
+  acted-none makes (Edit op) = edits-none (makes c.doc op)
+  acted-none makes (Cursor p side) = sets-none p side
+  acted-none makes Submit = tt
+  acted-none makes Ask = tt
+  acted-none makes (Present j) = presents-none j
+  acted-none makes (Take n) = tt
+  acted-none makes (Push lost) = exchanges-none Submission lost
+  acted-none makes (Pull lost) = exchanges-none Asking lost
+
+module _ {Rules Doc Reason C : Type 0} (m : Meaning Rules Doc Reason C) (rules : Rules) (laws : Laws m) where
+  -- in a sound room no message is refused for a step
+  pub messages-none : (s : State C Rules Doc Reason) → Sound m rules s → NoMessageRefused m rules s
+  messages-none s sound i j c message at is = composed-none m rules laws s.authority sound.authority c (sound.stand i c at).1 j message is
+
+  module _ {Op : Type 0} (makes : Doc → Op → Result (List C) NoSteps) where
+    pub played-none : (s : State C Rules Doc Reason) → Sound m rules s → (line : Line Op) → SuitsRoom s line → GetsNoRefusal (played m rules makes s line).0
+    played-none s sound line suits =
+        rw suits.at (acted-none m rules laws s.authority sound.authority suits.client (sound.stand line.client suits.client suits.at).1 makes line.act)
+
+    pub session-none : (s : State C Rules Doc Reason) (lines : List (Line Op)) → Sound m rules s → LinesSuit s lines → Each GetsNoRefusal (session m rules makes s lines).0
+    session-none s [] sound suit = tt
+    session-none s (line ∷ lines) sound suit =
+        let first = suits-first m rules laws makes s sound line lines suit in (
+          played-none s sound line first,
+          session-none (played m rules makes s line).1 lines (played-sound m rules laws makes s sound line first) (suits-rest m rules laws makes s sound line lines suit),
+        )
