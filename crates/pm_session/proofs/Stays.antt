@@ -1,8 +1,7 @@
 -- Each line keeps cursors before their tokens.
-use Rattle.std.specs.List.{AllByRecursion as Each}
-use Rattle.std.specs.Prelude.{◌≡◌, ◌⊎◌, ℕ, ℤ, zero, suc, pos, ◌+◌, ◌-◌, ◌≤◌, ◌<◌, ◌==◌, nat_lt, if◌then◌else◌, Bool, true, false, List, [], ◌∷◌, ◌++◌, length, take, drop, slice_get, Option, Some, None, Result, Ok, Err, IfOk, OnErr, refl}
-use Rattle.std.proofs.Common.{sym, ap, ◌∙◌, subst, inl, inr, arith, append_assoc, append-nil, length-append}
-use Rattle.std.proofs.Math.Seq.{drop-append_seam, take-append-add, take-append_seam}
+use Rattle.std.specs.Prelude.{◌≡◌, ℕ, ℤ, zero, suc, pos, ◌+◌, ◌-◌, ◌≤◌, ◌==◌, nat_lt, if◌then◌else◌, Bool, true, false, List, [], ◌∷◌, ◌++◌, length, take, drop, slice_get, Option, Some, None, Result, Ok, Err, refl}
+use Rattle.std.proofs.Common.{sym, ap, ◌∙◌, subst, inl, inr, arith, append_assoc, append-nil}
+use Rattle.std.proofs.Math.Seq.{take-append-add, take-append_seam}
 use Rattle.std.proofs.lemmas.List.{take-append-drop}
 use Rattle.pm_change.specs.Changes.{Meaning, Laws}
 use Rattle.pm_change.specs.Folds.{fold-good}
@@ -19,13 +18,10 @@ use Rattle.pm_authority.specs.Presents.{tried, presented}
 use Rattle.pm_client.specs.declared.client.Client.{Client}
 use Rattle.pm_client.specs.declared.taken.Kind.{Kind}
 use Rattle.pm_client.specs.declared.taken.Kind.TheVariants.{Submit as Submission, Ask as Asking}
-use Rattle.pm_client.specs.Rebases.{maps_of}
-use Rattle.pm_client.specs.Cursors.{moved_over}
-use Rattle.pm_client.specs.Clients.{named, edited, tried as edit_tried, cursor_set, message_of, message_at, composed, kept, taken, taken_at, taken_if, answer_at}
-use Rattle.pm_client.specs.Lists.{take-seam}
+use Rattle.pm_client.specs.Clients.{edited, cursor_set, message_of, message_at, composed, kept, taken, taken_at, taken_if, answer_at}
 use Rattle.pm_client.specs.Kins.{Kin}
-use Rattle.pm_client.specs.Serials.{serials_of, own_serials, Rises}
-use Rattle.pm_client.specs.TokenNames.{Token, First, Has, first_names, tokens_from, names_after, NoneBy, AllDiffer, AllUnpinched, passed, MayName, KeepsTokens}
+use Rattle.pm_client.specs.Serials.{serials_of, own_serials}
+use Rattle.pm_client.specs.TokenNames.{Token, Has, first_names, names_after, AllDiffer, passed, MayName, KeepsTokens}
 use Rattle.pm_client.proofs.TokenLeads.{names-append}
 use Rattle.pm_client.proofs.TokenKeeps.{edited-keeps, taken-keeps}
 use Rattle.pm_session.specs.declared.line.Act.{Act}
