@@ -1,11 +1,11 @@
 pub mod Orders
-mod HasLaws
-mod LangLaws
-mod FirstLaws
-mod FollowLaws
+pub mod HasLaws
+pub mod LangLaws
+pub mod FirstLaws
+pub mod FollowLaws
 mod RunLaws
-mod TableLaws
-mod LookLaws
+pub mod TableLaws
+pub mod LookLaws
 mod RowLaws
 mod WidthLaws
 mod ExprLaws

@@ -15,3 +15,7 @@ pub mod Lone
 pub mod NodesAgain
 pub mod ListPuts
 pub mod ValueAnswers
+pub mod KeyOrder
+pub mod NoFloat
+pub mod WholeTexts
+pub mod Writables

@@ -26,7 +26,6 @@ use Rattle.pm_schema.specs.Documents.{documents_of}
 use Rattle.pm_docjson.specs.Fields.{text_at}
 use Rattle.pm_docjson.specs.Values.{keys}
 use Rattle.pm_docjson.specs.Members.{attrs_field, list_field, put_list, put_attrs}
-use Rattle.pm_docjson.specs.Orderly.{IsOrderly}
 use Rattle.pm_docjson.specs.Reading.{attrs_read, body_of, bounded, text_from, branch_from, node_of, node_list, content_at}
 use Rattle.pm_docjson.specs.Writing.{typed, marks_written, text_written, branch_written, nodes_written, body_written, node_written, as_read_by, as_read}
 use Rattle.pm_docjson.specs.Writable.{mark_fits, marks_fit, type_fits, is_writable, are_writable, IsWritable}
@@ -176,12 +175,12 @@ text-parts s n us is w = record {
 
 -- ---- a node that can be written is read again
 
-pub text-node-again : (s : SchemaSpec) (n : Node) (us : List ℕ) → place_of (node_at s (documents_of s).text).name (names_of_nodes s) ≡ Some (documents_of s).text → IsOrderly s → n.body ≡ Text us → IsWritable s n → utf16 (utf8 us) ≡ us → MarksAgain s n.marks → node_of s (node_written s n) ≡ Ok (as_read s n)
-text-node-again s n us named o is w units marks =
+pub text-node-again : (s : SchemaSpec) (n : Node) (us : List ℕ) → place_of (node_at s (documents_of s).text).name (names_of_nodes s) ≡ Some (documents_of s).text → (node_at s (documents_of s).text).attrs ≡ [] → n.body ≡ Text us → IsWritable s n → utf16 (utf8 us) ≡ us → MarksAgain s n.marks → node_of s (node_written s n) ≡ Ok (as_read s n)
+text-node-again s n us named plain is w units marks =
     let p = text-parts s n us is w in
     let set = (both (list_all (mark_fits s) n.marks) (is_set (documents_of s) n.marks) p.marks).1 in
     subst (λ b. node_of s (body_written s n.kind n.attrs n.marks b) ≡ Ok (as_read_by s n b)) (sym is)
-    (text-again s us n.marks named o.text_attrs units p.some marks set)
+    (text-again s us n.marks named plain units p.some marks set)
 
 no-nodes : (s : SchemaSpec) → node_list s no_items ≡ Ok []
 unfolding node_list

@@ -5,5 +5,5 @@ pub mod Reading
 pub mod Trees
 pub mod Writing
 pub mod Writable
-pub mod Orderly
 pub mod Members
+pub mod KeyOrder

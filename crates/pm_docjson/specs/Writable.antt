@@ -1,5 +1,5 @@
 -- What can be written and is read again.
-use Rattle.std.specs.Prelude.{ℕ, ◌≡◌, ◌<◌, ◌==◌, nat_lt, Bool, true, ◌&&◌, not, List, [], ◌∷◌, length, None}
+use Rattle.std.specs.Prelude.{ℕ, ◌≡◌, ◌<◌, ◌==◌, nat_lt, Bool, true, false, ◌&&◌, not, List, [], ◌∷◌, length, None}
 use Rattle.std.specs.List.{list_all}
 use Rattle.pm_value.specs.Plain.{Plain}
 use Rattle.pm_value.specs.Kept.{InOrder}
@@ -12,6 +12,8 @@ use Rattle.pm_schema.specs.Types.{node_at, mark_at, fit_attrs}
 use Rattle.pm_schema.specs.Documents.{documents_of}
 use Rattle.pm_node.specs.Trees.{node_tokens}
 use Rattle.pm_node.specs.declared.node.Node.{Node}
+use Rattle.pm_node.specs.declared.node.Body.{Body}
+use Rattle.pm_node.specs.declared.node.Body.TheVariants.{Text, Leaf as Childless, Children}
 
 module _ (s : SchemaSpec) where
   -- a mark of a type of the schema, with the attributes that it declares
@@ -43,3 +45,13 @@ module _ (s : SchemaSpec) where
     pub tokens : are_writable (node_tokens n) ≡ true
     pub pairs : first_broken 1 None (node_tokens n) ≡ None
     pub filled : 0 < length (node_tokens n)
+
+  -- a leaf where the type is a leaf type, and a list of children where it is none: no text is a body of such a type
+  abbrev pub is_body_of : ℕ → Body → Bool
+  is_body_of k (Text us) = false
+  is_body_of k Childless = (documents_of s).is_leaf k
+  is_body_of k (Children ts) = not ((documents_of s).is_leaf k)
+
+  -- the node is of a type of the schema that is not the type of texts, and its body is one of that type
+  abbrev pub has_its_body : Node → Bool
+  has_its_body n = nat_lt n.kind (length s.nodes) && (not (n.kind == (documents_of s).text) && is_body_of n.kind n.body)

@@ -6,7 +6,9 @@ mod fields;
 mod reading_attrs;
 mod reading_marks;
 mod reading_nodes;
+mod texts;
 mod types;
+mod writable;
 mod writing_attrs;
 mod writing_marks;
 mod writing_nodes;
@@ -14,5 +16,10 @@ mod writing_nodes;
 pub use fault::DocReadError;
 pub use reading_marks::read_mark;
 pub use reading_nodes::read_node;
+pub use texts::node_text;
+pub use writable::{has_its_body, valid_is_writable};
 pub use writing_marks::write_mark;
 pub use writing_nodes::write_node;
+
+#[cfg(test)]
+mod tests;

@@ -25,15 +25,15 @@ pub fn put_attrs(
     attrs: &Attrs,
 ) -> Result<(), AllocError>
     requires known { IsType schema.now.spec kind }
-    requires ordered { InOrder (keys (attrs_of schema.now.spec kind)) }
     requires fit { fit_attrs (attrs_of schema.now.spec kind) attrs.now ≡ true }
     ensures put { OnOk result (members_view map.new.entries
         ≡ put_attrs (keys (attrs_of schema.now.spec kind)) attrs.now (members_view map.old.entries)) }
     ensures again { OnOk result (attrs_read (attrs_of schema.now.spec kind)
         (attrs_field (keys (attrs_of schema.now.spec kind)) attrs.now) ≡ Ok attrs.now) }
 {
+    let count = schema.attr_count(kind);
     let object = attr_object(alloc, schema, kind, attrs.values())?;
-    if schema.attr_count(kind) == 0 {
+    if count == 0 {
         return Ok(());
     }
     put(map, alloc, "attrs", Json::Object(object))?;

@@ -3,7 +3,6 @@ ghost use Rattle.std.specs.Prelude.{◌≡◌, ◌<◌, true, length, map, IfOk,
 ghost use Rattle.std.specs.List.{AllByRecursion};
 ghost use Rattle.serde_json.specs.View.{view, items_view};
 ghost use Rattle.pm_schema.specs.Types.{mark_at};
-ghost use Rattle.pm_docjson.specs.Orderly.{IsOrderly};
 ghost use Rattle.pm_docjson.specs.Reading.{mark_of};
 ghost use Rattle.pm_docjson.specs.Writing.{typed, mark_written, marks_written};
 ghost use Rattle.pm_docjson.specs.Writable.{mark_fits};
@@ -19,7 +18,6 @@ use std::alloc::{AllocError, Global};
 
 /// The JSON value of a mark, which is read back as the same mark.
 pub fn write_mark(alloc: Global, schema: &Schema, mark: &Mark<Attrs>) -> Result<Json, AllocError>
-    requires orderly { IsOrderly schema.now.spec }
     requires fits { mark_fits schema.now.spec mark.now ≡ true }
     ensures written { IfOk result (λ j. view j ≡ mark_written schema.now.spec mark.now) }
     ensures again { IfOk result (λ j. mark_of schema.now.spec (view j) ≡ Ok mark.now) }
@@ -28,7 +26,6 @@ pub fn write_mark(alloc: Global, schema: &Schema, mark: &Mark<Attrs>) -> Result<
 }
 
 fn mark_json(alloc: Global, schema: &Schema, mark: &Mark<Attrs>) -> Result<Json, AllocError>
-    requires orderly { IsOrderly schema.now.spec }
     requires fits { mark_fits schema.now.spec mark.now ≡ true }
     ensures written { IfOk result (λ j. view j ≡ mark_written schema.now.spec mark.now) }
     ensures again { OnOk result (mark_of schema.now.spec (mark_written schema.now.spec mark.now) ≡ Ok mark.now) }
@@ -50,7 +47,6 @@ pub fn write_marks(
     schema: &Schema,
     marks: &[Mark<Attrs>],
 ) -> Result<Vec<Json>, AllocError>
-    requires orderly { IsOrderly schema.now.spec }
     requires fit { list_all (mark_fits schema.now.spec) marks.now ≡ true }
     ensures written { IfOk result (λ v. items_view v.items ≡ marks_written schema.now.spec marks.now) }
     ensures again { OnOk result (AllByRecursion (λ m. mark_of schema.now.spec (mark_written schema.now.spec m) ≡ Ok m) marks.now) }

@@ -1,5 +1,5 @@
 //! Nodes as JSON values.
-ghost use Rattle.std.specs.Prelude.{◌≡◌, ◌<◌, ◌==◌, true, false, map, codes, IfOk, OnOk, Ok, Some, length};
+ghost use Rattle.std.specs.Prelude.{◌≡◌, ◌<◌, ◌==◌, [], true, false, map, codes, IfOk, OnOk, Ok, Some, length};
 ghost use Rattle.std.specs.List.{AllByRecursion};
 ghost use Rattle.std.specs.Arc.{arc_value};
 ghost use Rattle.serde_json.specs.View.{view, items_view, items_of, members_view};
@@ -10,7 +10,6 @@ ghost use Rattle.pm_schema.specs.Documents.{documents_of};
 ghost use Rattle.pm_schema.specs.Names.{place_of};
 ghost use Rattle.pm_schema.specs.Types.{names_of_nodes, node_at};
 ghost use Rattle.pm_docjson.specs.Values.{keys};
-ghost use Rattle.pm_docjson.specs.Orderly.{IsOrderly};
 ghost use Rattle.pm_docjson.specs.Members.{attrs_field, put_list};
 ghost use Rattle.pm_docjson.specs.Reading.{attrs_read, mark_of, node_of};
 ghost use Rattle.pm_docjson.specs.Writing.{mark_written, text_written, branch_written, node_written, as_read};
@@ -31,7 +30,6 @@ use std::sync::Arc;
 
 /// The JSON value of a node, which is read back as the same node; a text is read back as one of the type of texts.
 pub fn write_node(alloc: Global, schema: &Schema, node: &Node) -> Result<Json, AllocError>
-    requires orderly { IsOrderly schema.now.spec }
     requires writable { IsWritable schema.now.spec node.now }
     ensures written { IfOk result (λ j. view j ≡ node_written schema.now.spec node.now) }
     ensures again { IfOk result (λ j. node_of schema.now.spec (view j) ≡ Ok (as_read schema.now.spec node.now)) }
@@ -41,7 +39,6 @@ pub fn write_node(alloc: Global, schema: &Schema, node: &Node) -> Result<Json, A
 
 #[cycle(write)]
 fn node_json(alloc: Global, schema: &Schema, node: &Node) -> Result<Json, AllocError>
-    requires orderly { IsOrderly schema.now.spec }
     requires writable { IsWritable schema.now.spec node.now }
     ensures written { IfOk result (λ j. view j ≡ node_written schema.now.spec node.now) }
     ensures again { OnOk result (node_of schema.now.spec (node_written schema.now.spec node.now) ≡ Ok (as_read schema.now.spec node.now)) }
@@ -73,7 +70,6 @@ fn nodes_json(
     schema: &Schema,
     nodes: &[Arc<Node, Global>],
 ) -> Result<Vec<Json>, AllocError>
-    requires orderly { IsOrderly schema.now.spec }
     requires each { AllByRecursion (λ x. IsWritable schema.now.spec (arc_value x)) nodes.now }
     ensures written { IfOk result (λ v. items_view v.items ≡ items_of (map (λ x. node_written schema.now.spec (arc_value x)) nodes.now)) }
     ensures again { OnOk result (AllByRecursion (λ x. node_of schema.now.spec (node_written schema.now.spec (arc_value x)) ≡ Ok (as_read schema.now.spec (arc_value x))) nodes.now) }
@@ -93,12 +89,12 @@ fn text_json(
     units: &Units,
     marks: &[Mark<Attrs>],
 ) -> Result<Json, AllocError>
-    requires orderly { IsOrderly schema.now.spec }
     requires marks { marks_fit schema.now.spec marks.now ≡ true }
     requires whole { HasNoLone units.now }
     ensures written { IfOk result (λ j. view j ≡ text_written schema.now.spec units.now marks.now) }
     ensures named { OnOk result (place_of (node_at schema.now.spec (documents_of schema.now.spec).text).name
         (names_of_nodes schema.now.spec) ≡ Some (documents_of schema.now.spec).text) }
+    ensures plain { OnOk result ((node_at schema.now.spec (documents_of schema.now.spec).text).attrs ≡ []) }
     ensures units { OnOk result (utf16 (utf8 units.now) ≡ units.now) }
     ensures again { OnOk result (AllByRecursion (λ m. mark_of schema.now.spec (mark_written schema.now.spec m) ≡ Ok m) marks.now) }
 {
@@ -134,7 +130,6 @@ fn branch_json(
     marks: &[Mark<Attrs>],
     content: Vec<Json>,
 ) -> Result<Json, AllocError>
-    requires orderly { IsOrderly schema.now.spec }
     requires fits { type_fits schema.now.spec kind attrs.now ≡ true }
     requires marks { marks_fit schema.now.spec marks.now ≡ true }
     ensures written { IfOk result (λ j. view j

@@ -1,5 +1,5 @@
 -- A walk of an automaton over the types of children.
-use Rattle.std.specs.Prelude.{◌≡◌, ℕ, ◌+◌, ◌<◌, Bool, false, Option, Some, None, List, [], ◌∷◌, length, drop, get_or}
+use Rattle.std.specs.Prelude.{◌≡◌, ℕ, ◌+◌, ◌<◌, false, None, List, ◌∷◌, length, drop, get_or}
 use Rattle.std.specs.declared.sync.Arc.{Arc}
 use Rattle.std.specs.Arc.{arc_value}
 use Rattle.std.proofs.Common.{ap, sym, ◌∙◌}

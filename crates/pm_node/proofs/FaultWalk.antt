@@ -1,21 +1,20 @@
 -- A walk over children that looks for a fault of attributes, marks or children.
-use Rattle.std.specs.Prelude.{◌≡◌, ℕ, ◌+◌, ◌<◌, ◌≤◌, Bool, true, false, ◌&&◌, not, ◌==◌, Option, Some, None, List, [], ◌∷◌, ◌++◌, length, Result, Ok, Err}
+use Rattle.std.specs.Prelude.{◌≡◌, ℕ, ◌+◌, ◌<◌, ◌≤◌, Bool, true, false, ◌&&◌, not, ◌==◌, Option, Some, None, List, [], ◌∷◌, length}
 use Rattle.std.specs.declared.sync.Arc.{Arc}
-use Rattle.std.proofs.Common.{suc, refl, ap, sym, ◌∙◌, subst, arith}
-use Rattle.pm_tokens.specs.Tokens.{Attrs, Marks, Token, Open, Close, Leaf, CodeUnit}
+use Rattle.std.proofs.Common.{refl, ap, sym, ◌∙◌, subst, arith}
+use Rattle.pm_tokens.specs.Tokens.{Marks, Token}
 use Rattle.pm_tokens.specs.Schemas.{Schema}
 use Rattle.pm_tokens.specs.Scan.{Balanced}
 use Rattle.pm_tokens.specs.Kids.{text_tokens, kids}
 use Rattle.pm_tokens.specs.Marks.{have_attrs, is_set, are_allowed}
-use Rattle.pm_tokens.specs.Faults.{Fault, BadAttrs, BadMarks, BadContent, first_some, first_fault, fault_unless}
-use Rattle.pm_tokens.proofs.FaultLaws.{fault-append, fault-node, some-nothing}
+use Rattle.pm_tokens.specs.Faults.{Fault, BadMarks, BadContent, first_some, first_fault, fault_unless}
+use Rattle.pm_tokens.proofs.FaultLaws.{fault-append, fault-node}
 use Rattle.pm_node.specs.declared.node.Node.{Node}
-use Rattle.pm_node.specs.declared.node.Body.{Body}
-use Rattle.pm_node.specs.declared.node.Body.TheVariants.{Text, Leaf as Childless, Children}
+use Rattle.pm_node.specs.declared.node.Body.TheVariants.{Text, Children}
 use Rattle.pm_node.specs.declared.fault.CheckError.{CheckError}
 use Rattle.pm_node.specs.declared.fault.CheckError.TheVariants as error
 use Rattle.pm_node.specs.Trees.{node_tokens, list_tokens}
-use Rattle.pm_node.specs.Checks.{Tells, Checks}
+use Rattle.pm_node.specs.Checks.{Tells}
 use Rattle.pm_node.proofs.TreeLaws.{node_tokens_at}
 use Rattle.pm_node.proofs.WalkLaws.{rest, rest-end, rest-length, Child}
 

@@ -1,17 +1,16 @@
 -- The children of a content in normal form, and their types, read off its tokens.
-use Rattle.std.specs.Prelude.{◌≡◌, ℕ, ◌<◌, Some, None, List, [], ◌∷◌, ◌++◌, length, map, get_or}
+use Rattle.std.specs.Prelude.{◌≡◌, ℕ, ◌<◌, None, List, [], ◌∷◌, ◌++◌, length, map, get_or}
 use Rattle.std.specs.declared.sync.Arc.{Arc}
 use Rattle.std.specs.Arc.{arc_value}
-use Rattle.std.proofs.Common.{zero, suc, refl, ap, sym, ◌∙◌, arith, append_assoc}
-use Rattle.pm_tokens.specs.Tokens.{Attrs, Marks, Token, Open, Close, Leaf, CodeUnit}
-use Rattle.pm_tokens.specs.Scan.{Balanced}
-use Rattle.pm_tokens.specs.Kids.{text_tokens, EndsText, kids, children}
+use Rattle.std.proofs.Common.{zero, suc, refl, ap, ◌∙◌, arith, append_assoc}
+use Rattle.pm_tokens.specs.Tokens.{Attrs, Marks, Token, Open, Close}
+use Rattle.pm_tokens.specs.Kids.{EndsText, kids, children}
 use Rattle.pm_tokens.proofs.KidLaws.{kids-node, kids-text}
 use Rattle.pm_tokens.proofs.ChildLaws.{children-node, children-text}
 use Rattle.pm_node.specs.declared.node.Node.{Node}
 use Rattle.pm_node.specs.declared.node.Body.{Body}
 use Rattle.pm_node.specs.declared.node.Body.TheVariants.{Text, Leaf as Childless, Children}
-use Rattle.pm_node.specs.Trees.{body_tokens, node_tokens, list_tokens, IsText, Meets, Apart, IsNormal, WholeBody, EachWhole}
+use Rattle.pm_node.specs.Trees.{body_tokens, node_tokens, list_tokens, IsText, Apart, IsNormal, WholeBody, EachWhole}
 use Rattle.pm_node.specs.Kinds.{body_kind, kind_in, kinds}
 
 -- a node that does not go on a text ends it

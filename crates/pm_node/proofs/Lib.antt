@@ -7,3 +7,6 @@ pub mod FaultWalk
 pub mod ValueLaws
 pub mod AutoWalk
 pub mod ValidAnswers
+pub mod PlaceLaws
+pub mod FillLaws
+pub mod FilledLaws

@@ -1,16 +1,16 @@
 -- A walk over children that looks for a broken unit.
-use Rattle.std.specs.Prelude.{◌≡◌, ℕ, ◌+◌, ◌<◌, ◌≤◌, Option, Some, None, List, [], ◌∷◌, ◌++◌, length, option_map}
+use Rattle.std.specs.Prelude.{◌≡◌, ℕ, ◌+◌, ◌<◌, ◌≤◌, Option, Some, None, List, [], ◌∷◌, ◌++◌, length}
 use Rattle.std.specs.declared.sync.Arc.{Arc}
-use Rattle.std.proofs.Common.{suc, refl, ap, sym, ◌∙◌, subst, arith}
+use Rattle.std.proofs.Common.{refl, ap, sym, ◌∙◌, subst, arith}
 use Rattle.pm_text.specs.Lone.{HasNoLone, IsFirstLone}
-use Rattle.pm_tokens.specs.Tokens.{Attrs, Marks, Token, Open, Close, Leaf, CodeUnit}
+use Rattle.pm_tokens.specs.Tokens.{Attrs, Marks, Token, Close}
 use Rattle.pm_tokens.specs.Kids.{text_tokens, EndsText}
 use Rattle.pm_tokens.specs.Faults.{Fault, Pair, first_some, first_broken}
 use Rattle.pm_tokens.proofs.FaultLaws.{last_unit, unit_of, PartsTexts, broken-append, broken-node, text-whole, text-broken, some-nothing}
 use Rattle.pm_node.specs.declared.node.Node.{Node}
 use Rattle.pm_node.specs.declared.node.Body.{Body}
 use Rattle.pm_node.specs.declared.node.Body.TheVariants.{Text, Leaf as Childless, Children}
-use Rattle.pm_node.specs.Trees.{body_tokens, node_tokens, list_tokens, IsText, Apart, IsNormal}
+use Rattle.pm_node.specs.Trees.{body_tokens, node_tokens, list_tokens, IsText}
 use Rattle.pm_node.proofs.TreeLaws.{node_tokens_at}
 use Rattle.pm_node.proofs.WalkLaws.{rest, rest-end, rest-length, Child}
 use Rattle.pm_node.proofs.KindLaws.{ends-apart}

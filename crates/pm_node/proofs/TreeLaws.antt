@@ -1,17 +1,17 @@
 -- What a node and a list of nodes are seen as, and how a fragment's form is kept.
-use Rattle.std.specs.Prelude.{◌≡◌, ℕ, ◌+◌, ◌-◌, ◌≤◌, ◌<◌, ◌^◌, Option, Some, None, List, [], ◌∷◌, ◌++◌, length, take, drop, set, get_or}
+use Rattle.std.specs.Prelude.{◌≡◌, ℕ, ◌+◌, ◌<◌, ◌^◌, Option, Some, None, List, [], ◌∷◌, ◌++◌, length, take, drop, set, get_or}
 use Rattle.std.specs.declared.sync.Arc.{Arc}
 use Rattle.std.specs.Arc.{arc_value}
 use Rattle.std.proofs.Common.{suc, refl, ap, sym, ◌∙◌, subst, arith, append_assoc, length-append}
 use Rattle.std.proofs.lemmas.List.{append-nil, take_more, take_all, set_split, drop_all, get_or_at, at_drop_more}
-use Rattle.pm_tokens.specs.Tokens.{Attrs, Marks, Token, Open, Close, Leaf, CodeUnit}
-use Rattle.pm_tokens.specs.Scan.{Balanced, none, leaf, unit, node}
+use Rattle.pm_tokens.specs.Tokens.{Attrs, Marks, Token, Open, Close, CodeUnit}
+use Rattle.pm_tokens.specs.Scan.{Balanced, none, node}
 use Rattle.pm_tokens.specs.Kids.{text_tokens}
 use Rattle.pm_tokens.proofs.BalanceLaws.{balanced-append}
 use Rattle.pm_node.specs.declared.node.Node.{Node}
 use Rattle.pm_node.specs.declared.node.Body.{Body}
 use Rattle.pm_node.specs.declared.node.Body.TheVariants.{Text, Leaf as Childless, Children}
-use Rattle.pm_node.specs.Trees.{body_tokens, node_tokens, list_tokens, nodes_tokens, IsText, Meets, Joined, Apart, IsNormal, Form, WholeBody, EachWhole}
+use Rattle.pm_node.specs.Trees.{body_tokens, node_tokens, list_tokens, nodes_tokens, IsText, Meets, Joined, IsNormal, Form, WholeBody, EachWhole}
 
 pub length-text_tokens : (m : Marks) (us : List ℕ) → length (text_tokens m us) ≡ length us
 length-text_tokens m [] = refl

@@ -1,11 +1,11 @@
 -- What the first fault says of the validity of a document.
-use Rattle.std.specs.Prelude.{◌≡◌, ◌≢◌, ℕ, ◌<◌, nat_le, Bool, true, false, Option, Some, None, List, [], length, Result, Ok, Err, OnOk, IfErr}
-use Rattle.std.proofs.Common.{refl, ap, sym, ◌∙◌, subst, arith}
+use Rattle.std.specs.Prelude.{◌≡◌, ◌≢◌, ◌<◌, nat_le, true, false, Some, None, length, Result, Ok, Err, OnOk, IfErr}
+use Rattle.std.proofs.Common.{refl, arith}
 use Rattle.std.proofs.lemmas.Bool.Decides.{nat_tests}
-use Rattle.pm_tokens.specs.Tokens.{Marks, Token, Doc}
+use Rattle.pm_tokens.specs.Tokens.{Marks, Doc}
 use Rattle.pm_tokens.specs.Schemas.{Schema, max_size}
 use Rattle.pm_tokens.specs.Scan.{Balanced, none, is_whole}
-use Rattle.pm_tokens.specs.Faults.{Fault, Large, Valid, fault}
+use Rattle.pm_tokens.specs.Faults.{Large, Valid, fault}
 use Rattle.pm_tokens.proofs.ScanLaws.{of-whole}
 use Rattle.pm_tokens.proofs.BalanceLaws.{balanced-whole}
 use Rattle.pm_tokens.proofs.KidLaws.{balanced-text}

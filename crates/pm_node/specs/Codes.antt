@@ -1,7 +1,6 @@
 -- Tokens and documents as lists and numbers, by which a proof tells them apart.
 use Rattle.std.specs.Prelude.{◌≡◌, ℕ, zero, suc, List, [], refl}
 use Rattle.std.specs.Coded.{Coded, code_by, coded×, coded_ℕ, coded_list}
-use Rattle.pm_value.specs.Plain.{Plain}
 use Rattle.pm_value.specs.Codes.{plain_code}
 use Rattle.pm_marks.specs.declared.mark.Mark.{Mark}
 use Rattle.pm_tokens.specs.Tokens.{Attrs, Marks, Token, Open, Close, Leaf, CodeUnit, Doc}

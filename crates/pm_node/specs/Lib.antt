@@ -4,3 +4,6 @@ pub mod Falls
 pub mod Documents
 pub mod Kinds
 pub mod Checks
+pub mod Places
+pub mod Filled
+pub mod Sizes

@@ -2,7 +2,7 @@
 use Rattle.std.specs.Prelude.{◌≡◌, ℕ, ◌<◌, ◌^◌, Option, Some, None, List, [], ◌∷◌, ◌++◌, length}
 use Rattle.std.specs.Arc.{arc_value}
 use Rattle.std.specs.declared.sync.Arc.{Arc}
-use Rattle.pm_tokens.specs.Tokens.{Attrs, Marks, Token, Open, Close, Leaf, CodeUnit}
+use Rattle.pm_tokens.specs.Tokens.{Attrs, Marks, Token, Open, Close, Leaf}
 use Rattle.pm_tokens.specs.Scan.{Balanced}
 use Rattle.pm_tokens.specs.Kids.{text_tokens}
 use Rattle.pm_node.specs.declared.node.Node.{Node}

@@ -61,9 +61,13 @@ fn first_fault(alloc: Global, schema: &Schema, top: &Node) -> Result<(), CheckEr
     }
 }
 
-/// The content that is one text.
-fn text_alone(alloc: Global, marks: &MarkSet<Attrs>, units: &Units) -> Result<Fragment, AllocError>
-    requires { length units.now ≤ MAX_SIZE }
+/// The content that is one text: nothing for a text of no units.
+pub fn text_alone(
+    alloc: Global,
+    marks: &MarkSet<Attrs>,
+    units: &Units,
+) -> Result<Fragment, AllocError>
+    requires { length units.now < 2 ^ 32 }
     ensures { IfOk result (λ f. f ≡ text_tokens marks.now units.now) }
 {
     let text = Node {
@@ -110,7 +114,7 @@ fn content_fault(
 /// The first fault of attributes, marks or children among children of a node of the type `parent`, where `at` is the place
 /// of the first token.
 #[cycle(check)]
-fn nodes_fault(
+pub(crate) fn nodes_fault(
     alloc: Global,
     schema: &Schema,
     parent: TypeId,

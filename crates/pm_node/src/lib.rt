@@ -5,18 +5,23 @@ mod check;
 mod depth;
 mod document;
 mod fault;
+mod filled;
 mod fragment;
 mod node;
 mod pairs;
+mod place;
 mod rules;
 mod units;
 mod values;
 
-pub use check::{MAX_DEPTH, MAX_SIZE};
+pub use check::{MAX_DEPTH, MAX_SIZE, text_alone};
 pub use document::Document;
 pub use fault::CheckError;
+pub use filled::{FillError, make_filled};
 pub use node::{Body, Fragment, Node};
 pub use units::Units;
 
+#[cfg(test)]
+mod filled_tests;
 #[cfg(test)]
 mod tests;

@@ -4,7 +4,7 @@ use pm_attrs::Attrs;
 use pm_auto::{Expr, TypeId};
 use pm_list::Listed;
 use pm_marks::{Mark, MarkId, MarkRules, MarkSet};
-use pm_schema::{AttrSpec, MarkSpec, NodeSpec, Schema, SchemaSpec};
+use pm_schema::{AttrSpec, AttrSpecs, MarkSpec, NodeSpec, Schema, SchemaSpec};
 use pm_value::{Text, Value};
 use std::alloc::{AllocError, Global};
 use std::test::Fail;
@@ -47,15 +47,13 @@ fn content(alloc: Global, kinds: &[TypeId], is_inline: bool) -> Result<Expr, All
 }
 
 /// One attribute of the name, without default, or none where the name is empty.
-fn declared(alloc: Global, name: &str) -> Result<Listed<AttrSpec>, AllocError> {
-    let mut attrs = Listed::new(alloc);
-    if !name.is_empty() {
-        attrs.push(AttrSpec {
-            name: Text::from_str(alloc, name)?,
-            default: None,
-        })?;
+fn declared(alloc: Global, name: &str) -> Result<AttrSpecs, AllocError> {
+    if name.is_empty() {
+        return Ok(AttrSpecs::new(alloc));
     }
-    Ok(attrs)
+    let name = Text::from_str(alloc, name)?;
+    let default = None;
+    AttrSpecs::one(alloc, AttrSpec { name, default })
 }
 
 fn node_types(alloc: Global) -> Result<Listed<NodeSpec>, AllocError> {

@@ -1,7 +1,6 @@
 -- Op lines one by one.
-use Rattle.std.proofs.Common.{◌≡◌, ◌+◌, ℕ, List, [], ◌∷◌, ◌++◌, length, refl, ap, ◌∙◌, sym, append_assoc, Result, Ok}
+use Rattle.std.proofs.Common.{◌≡◌, ◌+◌, ℕ, List, [], ◌∷◌, ◌++◌, length, refl, ap, ◌∙◌, sym, Result, Ok}
 use Rattle.std.specs.Prelude.{Option, Some, None}
-use Rattle.std.proofs.lemmas.List.{append-nil}
 use Rattle.pm_list.specs.Readings.{◌>>=◌, or_fault, with_front, with_front-more}
 use Rattle.pm_session.specs.declared.line.Line.{Line}
 use Rattle.pm_flat.specs.declared.flat.Replace.{Replace}

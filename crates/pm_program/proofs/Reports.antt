@@ -1,11 +1,11 @@
 -- The report that was put together is the session's.
-use Rattle.std.proofs.Common.{◌≡◌, refl, ◌≤◌, ℕ, List, [], ◌++◌, arith, length, take, codes, decimal, string_bytes}
+use Rattle.std.proofs.Common.{◌≡◌, refl, ℕ, List, [], ◌++◌, arith, length, take, codes, decimal, string_bytes}
 use Rattle.std.specs.Prelude.{String, Result, Ok, Err, IfOk}
 use Rattle.std.specs.declared.alloc.AllocError.{AllocError}
 use Rattle.std.specs.declared.alloc.Global.{Global}
 use Rattle.pm_session.specs.declared.outcome.Outcome.{Outcome}
 use Rattle.pm_session.specs.Events.{State}
-use Rattle.pm_session.specs.Sessions.{opened, session, settled}
+use Rattle.pm_session.specs.Sessions.{opened, settled}
 use Rattle.pm_session.specs.Sounds.{Sound}
 use Rattle.pm_session.specs.Openings.{opened-suits}
 use Rattle.pm_session.proofs.Opening.{opened-sound}

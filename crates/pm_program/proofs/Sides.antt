@@ -1,6 +1,5 @@
 -- The two sides of a cursor.
-use Rattle.std.proofs.Common.{◌≡◌, ℕ, zero, suc, ℤ, pos, negsuc, Bool, true, inl, inr, refl, ap}
-use Rattle.std.specs.Prelude.{◌==◌}
+use Rattle.std.proofs.Common.{◌≡◌, ℤ, pos, negsuc, true, inl, inr, ap}
 use Rattle.std.proofs.lemmas.Bool.{eqb-true}
 use Rattle.pm_map.specs.Moves.{IsSide}
 use Rattle.pm_program.specs.Forms.{is_side}

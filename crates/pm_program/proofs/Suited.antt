@@ -1,5 +1,5 @@
 -- The lines of an input that is a session suit a room just opened.
-use Rattle.std.proofs.Common.{◌≡◌, ◌<◌, ◌≤◌, ◌+◌, ℕ, ℤ, Bool, true, false, List, [], ◌∷◌, ◌++◌, length, refl, ap, subst, sym, arith, Result, Ok, Err}
+use Rattle.std.proofs.Common.{◌≡◌, ◌<◌, ◌≤◌, ◌+◌, ℕ, Bool, true, false, List, [], ◌∷◌, ◌++◌, length, refl, subst, arith, Result, Ok, Err}
 use Rattle.std.specs.Prelude.{position, nat_lt, nat_le, nat_eq, codes, ◌&&◌, if◌then◌else◌, Option, Some, None, IfSome, option_and_then, option_map}
 use Rattle.std.specs.Cmp.Lexicographic.{pointwise}
 use Rattle.std.proofs.lemmas.Bool.{ltb-true, leb-true}

@@ -1,4 +1,6 @@
 mod Orders
+mod Sorted
+mod Plain
 mod Places
 mod Tables
 mod Shares

@@ -1,5 +1,6 @@
 pub mod Carried
 pub mod Names
+pub mod AttrNames
 pub mod Types
 pub mod Contents
 pub mod MarkTexts

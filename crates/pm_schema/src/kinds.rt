@@ -1,6 +1,7 @@
 //! Node types and mark types, and the attributes that they declare.
 ghost use Rattle.std.specs.Prelude.{◌≡◌, ◌<◌, length, slice_index_or};
 ghost use Rattle.pm_schema.specs.Attrs.{IsType, attrs_of, no_attr};
+ghost use Rattle.pm_schema.specs.AttrNames.{AreInOrder};
 
 use crate::schema::Schema;
 use crate::spec::AttrSpec;
@@ -15,10 +16,11 @@ pub enum AnyType {
 }
 
 impl Schema {
-    /// How many attributes the type declares. It takes no memory.
+    /// How many attributes the type declares, which stand in strict byte order of their names. It takes no memory.
     pub fn attr_count(&self, kind: AnyType) -> usize
         requires { IsType self.now.spec kind }
-        ensures { result ≡ length (attrs_of self.now.spec kind) }
+        ensures count { result ≡ length (attrs_of self.now.spec kind) }
+        ensures sorted { AreInOrder (attrs_of self.now.spec kind) }
     {
         self.attrs(kind).len()
     }
@@ -35,7 +37,8 @@ impl Schema {
     /// The attributes that the type declares.
     pub(crate) fn attrs(&self, kind: AnyType) -> &[AttrSpec]
         requires { IsType self.now.spec kind }
-        ensures { result.now ≡ attrs_of self.now.spec kind }
+        ensures attrs { result.now ≡ attrs_of self.now.spec kind }
+        ensures sorted { AreInOrder (attrs_of self.now.spec kind) }
     {
         match kind {
             AnyType::Node(kind) => self.spec.nodes.as_slice()[kind].attrs.as_slice(),

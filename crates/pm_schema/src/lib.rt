@@ -3,6 +3,7 @@
 
 mod attrs;
 mod build;
+mod declared;
 mod ends;
 mod error;
 mod generated;
@@ -16,6 +17,7 @@ mod schema;
 mod spec;
 mod types;
 
+pub use declared::AttrSpecs;
 pub use error::{AttrError, SchemaError};
 pub use kinds::AnyType;
 pub use pm_attrs::Attrs;

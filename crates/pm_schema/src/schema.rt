@@ -1,12 +1,12 @@
 //! A schema, and its look-ups.
-ghost use Rattle.std.specs.Prelude.{◌≡◌, ◌<◌, length, map, slice_index_or, Some, codes, IfSome, false};
+ghost use Rattle.std.specs.Prelude.{◌≡◌, ◌<◌, [], length, map, slice_index_or, Some, codes, IfSome, true, false};
 ghost use Rattle.pm_schema.specs.Names.{place_of};
 ghost use Rattle.pm_schema.specs.Types.{names_of_nodes, names_of_marks, node_at, mark_at, is_inline as inline_of, is_leaf as leaf_of, is_atom as atom_of, is_inclusive};
 ghost use Rattle.pm_schema.specs.Contents.{Runs, All_run, all_run-prop};
 ghost use Rattle.pm_schema.specs.MarkTexts.{allowed_row, exclude_table};
 ghost use Rattle.pm_tokens.specs.Schemas.{compatible};
 ghost use Rattle.pm_schema.specs.Documents.{documents_of};
-ghost use Rattle.pm_schema.specs.Refusals.{has_double_name};
+ghost use Rattle.pm_schema.specs.Refusals.{has_double_name, is_plain_text};
 ghost use Rattle.pm_schema.specs.Generated.{NeverStuck, never_stuck-prop};
 ghost use Rattle.pm_schema.specs.Made.{can_be_made, can_wrap};
 
@@ -35,6 +35,7 @@ pub struct Schema {
     ghost names_differ: { has_double_name spec ≡ false },
     ghost top_named: { place_of spec.top node_names ≡ Some top },
     ghost text_named: { place_of (codes "text") node_names ≡ Some text },
+    ghost text_plain: { is_plain_text spec ≡ true },
     ghost full: { length autos ≡ length spec.nodes },
     ghost runs: { All_run spec.nodes autos } by { all_run-prop spec.nodes autos },
     ghost allows: { allowed ≡ map (allowed_row spec) spec.nodes },
@@ -53,9 +54,10 @@ impl Schema {
         self.top
     }
 
-    /// The type of texts, which has the name `text`.
+    /// The type of texts, which has the name `text` and no attributes.
     pub fn text_type(&self) -> TypeId
         ensures named { place_of (codes "text") (names_of_nodes self.now.spec) ≡ Some result }
+        ensures plain { (node_at self.now.spec result).attrs ≡ [] }
         ensures inside { result < length self.now.spec.nodes }
     {
         self.text

@@ -3,6 +3,7 @@ ghost use Rattle.std.specs.Prelude.{◌≡◌};
 ghost use Rattle.pm_schema.specs.Types.{is_leaf, is_text, is_inline};
 ghost use Rattle.pm_schema.specs.Made.{needs_attrs, can_be_made, can_wrap};
 
+use crate::declared::AttrSpecs;
 use pm_auto::Expr;
 use pm_list::Listed;
 use pm_value::{Text, Value};
@@ -26,16 +27,14 @@ pub struct NodeSpec {
     pub marks: Option<Text>,
     pub inline: bool,
     pub atom: bool,
-    /// In strict byte order of their names.
-    pub attrs: Listed<AttrSpec>,
+    pub attrs: AttrSpecs,
 }
 
 /// A mark type.
 #[derive(Drop)]
 pub struct MarkSpec {
     pub name: Text,
-    /// In strict byte order of their names.
-    pub attrs: Listed<AttrSpec>,
+    pub attrs: AttrSpecs,
     /// Whether text typed at the end of such a mark has it too.
     pub inclusive: bool,
     /// The mark types that it excludes, written like `marks` of a node type. Where it is absent, it excludes its own type.

@@ -4,7 +4,8 @@ ghost use Rattle.std.specs.Prelude.{◌<◌, length};
 
 use crate::laws::content_decides;
 use crate::{
-    AnyType, AttrError, AttrSpec, Attrs, MarkSpec, NodeSpec, Schema, SchemaError, SchemaSpec,
+    AnyType, AttrError, AttrSpec, AttrSpecs, Attrs, MarkSpec, NodeSpec, Schema, SchemaError,
+    SchemaSpec,
 };
 use pm_auto::{AutoError, Expr};
 use pm_list::Listed;
@@ -69,20 +70,18 @@ fn content(alloc: Global, words: &str) -> Result<Expr, AllocError> {
     }
 }
 
-fn attr(alloc: Global, name: &str, default: Option<Value>) -> Result<Listed<AttrSpec>, AllocError> {
-    let mut list = Listed::new(alloc);
+fn attr(alloc: Global, name: &str, default: Option<Value>) -> Result<AttrSpecs, AllocError> {
     let name = Text::from_str(alloc, name)?;
-    list.push(AttrSpec { name, default })?;
-    Ok(list)
+    AttrSpecs::one(alloc, AttrSpec { name, default })
 }
 
 /// The attributes of the type or mark of this name.
-fn attrs(alloc: Global, name: &str) -> Result<Listed<AttrSpec>, AllocError> {
+fn attrs(alloc: Global, name: &str) -> Result<AttrSpecs, AllocError> {
     match name {
         "heading" => attr(alloc, "level", Some(Value::Int(1))),
         "image" => attr(alloc, "src", None),
         "link" => attr(alloc, "href", None),
-        _ => Ok(Listed::new(alloc)),
+        _ => Ok(AttrSpecs::new(alloc)),
     }
 }
 

@@ -43,7 +43,7 @@ pub fn find_types(spec: &SchemaSpec) -> Result<(TypeId, TypeId), SchemaError>
         return Err(SchemaError::NoText);
     };
     let node = &nodes[text];
-    if node.attrs.len() == 0 && node.is_leaf() {
+    if node.attrs.as_slice().len() == 0 && node.is_leaf() {
         Ok((top, text))
     } else {
         Err(SchemaError::TextAttrs)

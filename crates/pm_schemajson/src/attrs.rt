@@ -3,6 +3,7 @@ ghost use Rattle.std.specs.Prelude.{◌≡◌, ◌++◌, ◌∷◌, [], codes, o
 ghost use Rattle.serde_json.specs.Find.{get};
 ghost use Rattle.serde_json.specs.View.{view, members_view};
 ghost use Rattle.pm_value.specs.Views.{plain};
+ghost use Rattle.pm_schema.specs.AttrNames.{attr_names};
 ghost use Rattle.pm_schemajson.specs.Answers.{Gives};
 ghost use Rattle.pm_schemajson.specs.Fields.{field as field_of};
 ghost use Rattle.pm_schemajson.specs.Reading.{default_of as default_from_json, attr_list as attr_list_of, attrs_of as attrs_from};
@@ -11,7 +12,7 @@ ghost use Rattle.pm_schemajson.specs.Views.{attributes};
 use crate::error::{Field, SchemaReadError};
 use crate::fields::{field, object};
 use pm_list::Listed;
-use pm_schema::AttrSpec;
+use pm_schema::{AttrSpec, AttrSpecs};
 use pm_value::{Text, Value};
 use serde_json::{Map, Value as Json};
 use std::alloc::{AllocError, Global};
@@ -35,7 +36,8 @@ fn push_attr(
     name: &str,
     default: Option<Value>,
 ) -> Result<(), AllocError>
-    ensures { OnOk result (attributes attrs.new ≡ attributes attrs.old ++ (record { name = name.now; default = option_map plain default }) ∷ []) }
+    ensures attributes { OnOk result (attributes attrs.new ≡ attributes attrs.old ++ (record { name = name.now; default = option_map plain default }) ∷ []) }
+    ensures names { OnOk result (attr_names attrs.new ≡ attr_names attrs.old ++ name.now ∷ []) }
 {
     let name = Text::from_str(alloc, name)?;
     attrs.push(AttrSpec { name, default })?;
@@ -43,10 +45,7 @@ fn push_attr(
 }
 
 #[tactic(auto, using(crate::proofs::Fronts::attrs), unfolding(crate::specs::Reading::attr_list))]
-fn attr_list(
-    alloc: Global,
-    members: &Map<String, Json>,
-) -> Result<Listed<AttrSpec>, SchemaReadError>
+fn attr_list(alloc: Global, members: &Map<String, Json>) -> Result<AttrSpecs, SchemaReadError>
     ensures { Gives attributes result (attr_list_of (members_view members.now.entries)) }
 {
     let mut attrs = Listed::new(alloc);
@@ -55,16 +54,16 @@ fn attr_list(
         let default = default_of(alloc, value)?;
         push_attr(alloc, &mut attrs, name.as_str(), default)?;
     }
-    Ok(attrs)
+    Ok(AttrSpecs::from_list(attrs))
 }
 
 /// The field `attrs` of a type.
 #[tactic(auto, unfolding(crate::specs::Reading::attrs_of))]
-pub(crate) fn attrs_of(alloc: Global, json: &Json) -> Result<Listed<AttrSpec>, SchemaReadError>
+pub(crate) fn attrs_of(alloc: Global, json: &Json) -> Result<AttrSpecs, SchemaReadError>
     ensures { Gives attributes result (attrs_from (field_of (codes "attrs") (view json.now))) }
 {
     match field(json, "attrs") {
-        None => Ok(Listed::new(alloc)),
+        None => Ok(AttrSpecs::new(alloc)),
         Some(value) => {
             let members = object(value, Field::Attrs)?;
             attr_list(alloc, members)

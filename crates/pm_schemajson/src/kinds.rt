@@ -1,6 +1,6 @@
 //! Node types as they are read, before their content.
 use pm_list::Listed;
-use pm_schema::AttrSpec;
+use pm_schema::AttrSpecs;
 use pm_value::Text;
 
 /// A node type whose content is still a text.
@@ -12,5 +12,5 @@ pub(crate) struct NodeText {
     pub marks: Option<Text>,
     pub inline: bool,
     pub atom: bool,
-    pub attrs: Listed<AttrSpec>,
+    pub attrs: AttrSpecs,
 }

@@ -1,9 +1,10 @@
 //! Schemas as texts: the fault that each has, and one that is accepted.
-use crate::{Field, SchemaReadError, read_schema};
-use pm_auto::AutoError;
-use pm_expr::ExprError;
-use pm_schema::SchemaError;
-use pm_value::ValueError;
+mod builds;
+mod rows;
+
+use crate::{SchemaReadError, read_schema};
+use builds::BUILDS;
+use rows::{CONTENTS, NAMES, SHAPES, VALUES};
 use serde_json::Value;
 use std::alloc::Global;
 use std::test::Fail;
@@ -14,168 +15,50 @@ fn fault_of(alloc: Global, text: &str) -> Result<Option<SchemaReadError>, Fail> 
     Ok(read_schema(alloc, &json).err())
 }
 
-fn shape(field: Field) -> SchemaReadError {
-    SchemaReadError::Shape { field }
-}
-
 #[test]
-fn tells_the_field_of_another_kind(rt: HostRuntime) -> Result<(), Fail> {
-    let alloc = rt.alloc();
-    let rows = [
-        ("{}", Field::Nodes),
-        ("[]", Field::Nodes),
-        ("{\"nodes\":null}", Field::Nodes),
-        ("{\"nodes\":[1]}", Field::Nodes),
-        ("{\"nodes\":[],\"marks\":{}}", Field::Marks),
-        ("{\"nodes\":[],\"marks\":[\"em\"]}", Field::Marks),
-        ("{\"nodes\":[],\"topNode\":1}", Field::TopNode),
-        ("{\"nodes\":[{}]}", Field::Name),
-        ("{\"nodes\":[],\"marks\":[{\"name\":null}]}", Field::Name),
-        (
-            "{\"nodes\":[{\"name\":\"a\",\"content\":1}]}",
-            Field::Content,
-        ),
-        ("{\"nodes\":[{\"name\":\"a\",\"group\":[]}]}", Field::Group),
-        (
-            "{\"nodes\":[],\"marks\":[{\"name\":\"a\",\"group\":1}]}",
-            Field::Group,
-        ),
-        (
-            "{\"nodes\":[{\"name\":\"a\",\"marks\":true}]}",
-            Field::Marks,
-        ),
-        ("{\"nodes\":[{\"name\":\"a\",\"inline\":1}]}", Field::Inline),
-        (
-            "{\"nodes\":[{\"name\":\"a\",\"atom\":\"no\"}]}",
-            Field::Atom,
-        ),
-        ("{\"nodes\":[{\"name\":\"a\",\"attrs\":[]}]}", Field::Attrs),
-        (
-            "{\"nodes\":[{\"name\":\"a\",\"attrs\":{\"x\":1}}]}",
-            Field::Attrs,
-        ),
-        (
-            "{\"nodes\":[],\"marks\":[{\"name\":\"a\",\"inclusive\":0}]}",
-            Field::Inclusive,
-        ),
-        (
-            "{\"nodes\":[],\"marks\":[{\"name\":\"a\",\"excludes\":[]}]}",
-            Field::Excludes,
-        ),
-    ];
-    for (text, field) in rows {
-        let told = fault_of(alloc, text)?;
-        assert!(rt; told == Some(shape(field)));
+fn tells_the_first_field_of_another_kind(rt: HostRuntime) -> Result<(), Fail> {
+    for (text, field) in SHAPES {
+        let told = fault_of(rt.alloc(), text)?;
+        assert!(rt; told == Some(SchemaReadError::Shape { field }), "{text}");
     }
     Ok(())
 }
 
 #[test]
-fn tells_the_first_fault(rt: HostRuntime) -> Result<(), Fail> {
-    let alloc = rt.alloc();
-    let rows = [
-        (
-            "{\"nodes\":[{\"name\":\"a b\"}]}",
-            SchemaReadError::Name { field: Field::Name },
-        ),
-        (
-            "{\"nodes\":[{\"name\":\"_\",\"content\":1}]}",
-            SchemaReadError::Name { field: Field::Name },
-        ),
-        (
-            "{\"nodes\":[{\"name\":\"\"}]}",
-            SchemaReadError::Name { field: Field::Name },
-        ),
-        (
-            "{\"nodes\":[{\"name\":\"a\",\"group\":\"b -\"}]}",
-            SchemaReadError::Name {
-                field: Field::Group,
-            },
-        ),
-        (
-            "{\"nodes\":[{\"name\":\"a\",\"attrs\":{\"x\":{\"default\":1.5}}}]}",
-            SchemaReadError::Attr(ValueError::Float),
-        ),
-        (
-            "{\"nodes\":[{\"name\":\"a\",\"attrs\":{\"x\":{\"default\":9223372036854775808}}}]}",
-            SchemaReadError::Attr(ValueError::Wide),
-        ),
-        (
-            "{\"nodes\":[{\"name\":\"a\",\"attrs\":{\"x\":{\"default\":[[[[[]]]]]}}}]}",
-            SchemaReadError::Attr(ValueError::Deep),
-        ),
-        (
-            "{\"nodes\":[{\"name\":\"a\",\"attrs\":{\"y\":1,\"x\":{\"default\":1.5}}}]}",
-            SchemaReadError::Attr(ValueError::Float),
-        ),
-        (
-            "{\"nodes\":[{\"name\":\"a\",\"content\":\"(\"},{\"name\":\"b\",\"atom\":1}]}",
-            SchemaReadError::Shape { field: Field::Atom },
-        ),
-        (
-            "{\"nodes\":[{\"name\":\"a\",\"content\":\"(\"},{\"name\":\"b\",\"content\":\"zzz\"}]}",
-            SchemaReadError::Expr {
-                kind: 0,
-                error: ExprError::Syntax { at: 1 },
-            },
-        ),
-        (
-            "{\"nodes\":[{\"name\":\"a\"},{\"name\":\"b\",\"content\":\"zzz\"}]}",
-            SchemaReadError::Expr {
-                kind: 1,
-                error: ExprError::UnknownName { at: 0 },
-            },
-        ),
-        (
-            "{\"nodes\":[{\"name\":\"a\"},{\"name\":\"b\",\"content\":\"a{3,2}\"}],\"topNode\":\"zzz\"}",
-            SchemaReadError::Expr {
-                kind: 1,
-                error: ExprError::Range { at: 1 },
-            },
-        ),
-        (
-            "{\"nodes\":[]}",
-            SchemaReadError::Schema(SchemaError::NoTop),
-        ),
-        (
-            "{\"nodes\":[{\"name\":\"text\"}],\"topNode\":\"text\"}",
-            SchemaReadError::Schema(SchemaError::NoTop),
-        ),
-        (
-            "{\"nodes\":[{\"name\":\"doc\"}]}",
-            SchemaReadError::Schema(SchemaError::NoText),
-        ),
-        (
-            "{\"nodes\":[{\"name\":\"doc\"},{\"name\":\"text\",\"attrs\":{\"x\":{}}}]}",
-            SchemaReadError::Schema(SchemaError::TextAttrs),
-        ),
-        (
-            "{\"nodes\":[{\"name\":\"doc\"},{\"name\":\"text\"}],\"marks\":[{\"name\":\"doc\"}]}",
-            SchemaReadError::Schema(SchemaError::DoubleName),
-        ),
-        (
-            "{\"nodes\":[{\"name\":\"doc\",\"marks\":\"em _\"},{\"name\":\"text\"}],\"marks\":[{\"name\":\"em\"}]}",
-            SchemaReadError::Schema(SchemaError::UnknownMark),
-        ),
-        (
-            "{\"nodes\":[{\"name\":\"doc\",\"content\":\"(doc|text)*\"},{\"name\":\"text\"}]}",
-            SchemaReadError::Schema(SchemaError::Content(AutoError::Mixed)),
-        ),
-        (
-            "{\"nodes\":[{\"name\":\"doc\",\"content\":\"doc{64}{65}\"}]}",
-            SchemaReadError::Expr {
-                kind: 0,
-                error: ExprError::Range { at: 7 },
-            },
-        ),
-        (
-            "{\"nodes\":[{\"name\":\"doc\",\"content\":\"doc+\"},{\"name\":\"text\"}]}",
-            SchemaReadError::Schema(SchemaError::DeadEnd { kind: 0 }),
-        ),
-    ];
-    for (text, fault) in rows {
-        let told = fault_of(alloc, text)?;
-        assert!(rt; told == Some(fault));
+fn tells_the_first_ill_formed_name(rt: HostRuntime) -> Result<(), Fail> {
+    for (text, field) in NAMES {
+        let told = fault_of(rt.alloc(), text)?;
+        assert!(rt; told == Some(SchemaReadError::Name { field }), "{text}");
+    }
+    Ok(())
+}
+
+#[test]
+fn tells_the_first_default_that_is_no_value(rt: HostRuntime) -> Result<(), Fail> {
+    for (text, fault) in VALUES {
+        let told = fault_of(rt.alloc(), text)?;
+        assert!(rt; told == Some(SchemaReadError::Attr(fault)), "{text}");
+    }
+    Ok(())
+}
+
+#[test]
+fn tells_the_first_faulty_expression(rt: HostRuntime) -> Result<(), Fail> {
+    for (text, kind, error) in CONTENTS {
+        let told = fault_of(rt.alloc(), text)?;
+        assert!(rt;
+            told == Some(SchemaReadError::Expr { kind, error }),
+            "{text}"
+        );
+    }
+    Ok(())
+}
+
+#[test]
+fn tells_why_types_make_no_schema(rt: HostRuntime) -> Result<(), Fail> {
+    for (text, fault) in BUILDS {
+        let told = fault_of(rt.alloc(), text)?;
+        assert!(rt; told == Some(SchemaReadError::Schema(fault)), "{text}");
     }
     Ok(())
 }

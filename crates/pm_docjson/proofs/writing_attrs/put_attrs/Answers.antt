@@ -8,16 +8,16 @@ use Rattle.pm_docjson.specs.Values.{keys}
 use Rattle.pm_docjson.proofs.AttrsAgain.{attrs-again, put_attrs-empty, object-read, object-put}
 use Rattle.pm_docjson.proofs.writing_attrs.put_attrs.Goals as goal
 
-pub returns-then-attr_count-eq0-clause-put : goal.returns-then-attr_count-eq0-clause-put
-returns-then-attr_count-eq0-clause-put c =
+pub returns-then-count-eq0-clause-put : goal.returns-then-count-eq0-clause-put
+returns-then-count-eq0-clause-put c =
     let attrs = attrs_of c.args.schema.now.spec c.args.kind in
     let count : length (keys attrs) ≡ 0 = omega (arith, length-map attrs (λ a. a.name)) in
     sym (put_attrs-empty (keys attrs) c.args.attrs.now _ count)
 
-pub returns-then-attr_count-eq0-clause-again : goal.returns-then-attr_count-eq0-clause-again
-returns-then-attr_count-eq0-clause-again c =
+pub returns-then-count-eq0-clause-again : goal.returns-then-count-eq0-clause-again
+returns-then-count-eq0-clause-again c =
     let attrs = attrs_of c.args.schema.now.spec c.args.kind in
-    attrs-again attrs c.args.attrs.now c.requires.ordered c.requires.fit (object-read (keys attrs) c.args.attrs.now (plains c.values.result.now) (members_view c.in_ok-object.object.entries) c.in_ok-object.ensures.wrote c.in_ok-object.ensures.read c.values.ensures)
+    attrs-again attrs c.args.attrs.now c.attr_count-count.ensures.sorted c.requires.fit (object-read (keys attrs) c.args.attrs.now (plains c.values.result.now) (members_view c.in_ok-object.object.entries) c.in_ok-object.ensures.wrote c.in_ok-object.ensures.read c.values.ensures)
 
 pub returns-clause-put : goal.returns-clause-put
 returns-clause-put c =
@@ -28,4 +28,4 @@ returns-clause-put c =
 pub returns-clause-again : goal.returns-clause-again
 returns-clause-again c =
     let attrs = attrs_of c.args.schema.now.spec c.args.kind in
-    attrs-again attrs c.args.attrs.now c.requires.ordered c.requires.fit (object-read (keys attrs) c.args.attrs.now (plains c.values.result.now) (members_view c.in_ok-object.object.entries) c.in_ok-object.ensures.wrote c.in_ok-object.ensures.read c.values.ensures)
+    attrs-again attrs c.args.attrs.now c.attr_count-count.ensures.sorted c.requires.fit (object-read (keys attrs) c.args.attrs.now (plains c.values.result.now) (members_view c.in_ok-object.object.entries) c.in_ok-object.ensures.wrote c.in_ok-object.ensures.read c.values.ensures)

@@ -2,12 +2,8 @@ use Rattle.std.proofs.Common.{◌≡◌, ℕ, List, subst}
 use Rattle.std.specs.Prelude.{Some}
 use Rattle.pm_schema.specs.Names.{place_of}
 use Rattle.pm_schema.specs.Types.{names_of_marks}
-use Rattle.pm_schema.specs.declared.kinds.AnyType.TheVariants.{Mark}
-use Rattle.pm_docjson.proofs.MarksAgain.{mark-again, mark-inside}
+use Rattle.pm_docjson.proofs.MarksAgain.{mark-again}
 use Rattle.pm_docjson.proofs.writing_marks.mark_json.Goals as goal
-
-pub put_attrs-requires-clause-ordered : goal.put_attrs-requires-clause-ordered
-put_attrs-requires-clause-ordered c = c.requires.orderly.attrs (Mark c.args.mark.now.kind) (mark-inside c.args.schema.now.spec c.args.mark.now c.requires.fits)
 
 pub returns-clause-again : goal.returns-clause-again
 returns-clause-again c =

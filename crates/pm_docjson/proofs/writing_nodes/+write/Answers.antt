@@ -22,12 +22,12 @@ node_json-text_json-requires-clause-whole t c = (text-parts c.args.schema.now.sp
 pub node_json-nodes_json-requires : goal.node_json-nodes_json-requires
 node_json-nodes_json-requires t c = (
   omega (arith, c.decreases, node-size c.args.node.now c.in-Children.content c.in-Children.is, ap length c.children.ensures.tokens),
-  (c.requires.orderly, inside-writable c.args.schema.now.spec c.args.node.now c.in-Children.content c.children.result.now c.in-Children.is c.children.ensures.tokens c.children.ensures.normal c.requires.writable),
+  (inside-writable c.args.schema.now.spec c.args.node.now c.in-Children.content c.children.result.now c.in-Children.is c.children.ensures.tokens c.children.ensures.normal c.requires.writable),
 )
 
 pub node_json-returns-in_ok-json-in-Text-clause-again : goal.node_json-returns-in_ok-json-in-Text-clause-again
 node_json-returns-in_ok-json-in-Text-clause-again t c =
-    text-node-again c.args.schema.now.spec c.args.node.now c.in-Text.units c.in_ok-json-in-Text.ensures.named c.requires.orderly c.in-Text.is c.requires.writable c.in_ok-json-in-Text.ensures.units (subst (MarksAgain c.args.schema.now.spec) c.marks-marks.ensures c.in_ok-json-in-Text.ensures.again)
+    text-node-again c.args.schema.now.spec c.args.node.now c.in-Text.units c.in_ok-json-in-Text.ensures.named c.in_ok-json-in-Text.ensures.plain c.in-Text.is c.requires.writable c.in_ok-json-in-Text.ensures.units (subst (MarksAgain c.args.schema.now.spec) c.marks-marks.ensures c.in_ok-json-in-Text.ensures.again)
 
 pub node_json-returns-in_ok-json-in-Leaf-clause-again : goal.node_json-returns-in_ok-json-in-Leaf-clause-again
 node_json-returns-in_ok-json-in-Leaf-clause-again t c =
@@ -50,5 +50,5 @@ nodes_json-node_json-requires t c =
     let size = ap (λ (n : Node). length (node_tokens n)) c.deref.ensures in
     let w = all-at (λ x. IsWritable c.args.schema.now.spec (arc_value x)) c.args.nodes.now c.loop-node.node-index c.node-item.result c.requires.each c.loop-node-test.true c.node-item.is in (
       omega (arith, c.decreases, within, size),
-      (c.requires.orderly, subst (IsWritable c.args.schema.now.spec) (sym c.deref.ensures) w),
+      subst (IsWritable c.args.schema.now.spec) (sym c.deref.ensures) w,
     )

@@ -2,14 +2,10 @@ use Rattle.std.proofs.Common.{◌≡◌, ℕ, List, subst}
 use Rattle.std.specs.Prelude.{Some}
 use Rattle.serde_json.proofs.Views.{view-Object}
 use Rattle.serde_json.specs.View.{items_view, members_view}
-use Rattle.pm_schema.specs.declared.kinds.AnyType.TheVariants.{Node}
 use Rattle.pm_schema.specs.Names.{place_of}
 use Rattle.pm_schema.specs.Types.{names_of_nodes}
-use Rattle.pm_docjson.proofs.NodesAgain.{type-parts, branch-put}
+use Rattle.pm_docjson.proofs.NodesAgain.{branch-put}
 use Rattle.pm_docjson.proofs.writing_nodes.branch_json.Goals as goal
-
-pub put_attrs-requires-clause-ordered : goal.put_attrs-requires-clause-ordered
-put_attrs-requires-clause-ordered c = c.requires.orderly.attrs (Node c.args.kind) (type-parts c.args.schema.now.spec c.args.kind c.args.attrs.now c.requires.fits).inside
 
 pub returns-clause-written : goal.returns-clause-written
 returns-clause-written c =

@@ -1,4 +1,4 @@
-use Rattle.std.proofs.Common.{◌≡◌, Bool, true, false, ◌&&◌, ap, sym, ◌∙◌}
+use Rattle.std.proofs.Common.{◌≡◌, true, false, ◌&&◌, sym, ◌∙◌}
 use Rattle.pm_tokens.specs.Marks.{have_attrs, is_set, are_allowed}
 use Rattle.pm_schema.specs.Documents.{documents_of}
 use Rattle.pm_node.proofs.FaultWalk.{bad-marks, good-marks, and-left, and-right, and-both}

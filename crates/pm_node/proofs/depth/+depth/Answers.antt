@@ -1,5 +1,4 @@
-use Rattle.std.proofs.Common.{◌≡◌, ℕ, ◌+◌, ◌*◌, ◌<◌, ◌≤◌, ◌↔◌, length, arith, ap, sym, ◌∙◌, Bool, true, false, max, refl, subst}
-use Rattle.std.specs.Arc.{arc_value}
+use Rattle.std.proofs.Common.{◌≡◌, ◌+◌, ◌*◌, ◌<◌, ◌≤◌, length, arith, ap, sym, true, false, max, refl, subst}
 use Rattle.pm_tokens.specs.Scan.{deepest}
 use Rattle.pm_node.specs.Trees.{node_tokens}
 use Rattle.pm_node.proofs.WalkLaws.{rest, Child, child-within, child-at}

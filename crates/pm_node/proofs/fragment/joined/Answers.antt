@@ -1,6 +1,4 @@
-use Rattle.std.proofs.Common.{◌≡◌, ◌++◌, ap, ◌∙◌}
-use Rattle.pm_tokens.specs.Kids.{text_tokens}
-use Rattle.pm_node.specs.Trees.{node_tokens}
+use Rattle.std.proofs.Common.{◌++◌, ap, ◌∙◌}
 use Rattle.pm_node.proofs.TreeLaws.{text-not, joined-tokens}
 use Rattle.pm_node.proofs.fragment.joined.Goals as goal
 use Rattle.pm_node.proofs.fragment.joined.Goals.{in-Text, in_default}

@@ -1,11 +1,10 @@
-use Rattle.std.proofs.Common.{◌≡◌, ℕ, ◌+◌, ◌*◌, ◌<◌, ◌≤◌, ◌^◌, length, arith, ap, sym, ◌∙◌, refl, subst}
-use Rattle.std.specs.Prelude.{Option, Some, None, option_map}
-use Rattle.std.specs.Arc.{arc_value}
-use Rattle.pm_tokens.specs.Faults.{Fault, Pair, first_broken}
+use Rattle.std.proofs.Common.{◌≡◌, ◌+◌, ◌*◌, ◌<◌, length, arith, ap, sym, ◌∙◌, refl, subst}
+use Rattle.std.specs.Prelude.{None, option_map}
+use Rattle.pm_tokens.specs.Faults.{Pair, first_broken}
 use Rattle.pm_node.specs.Trees.{node_tokens}
 use Rattle.pm_node.proofs.WalkLaws.{Child, child-within, child-at}
 use Rattle.pm_text.specs.Lone.{HasNoLone, IsFirstLone}
-use Rattle.pm_node.proofs.PairWalk.{Walked, walked-more, walked-broken, walked-room, walked-end, broken-content, broken-lone, broken-none}
+use Rattle.pm_node.proofs.PairWalk.{Walked, walked-more, walked-broken, walked-room, broken-content, broken-lone, broken-none}
 use Rattle.pm_node.proofs.pairs.+pairs.Goals as goal
 
 pub broken_in-returns-in-Some : goal.broken_in-returns-in-Some

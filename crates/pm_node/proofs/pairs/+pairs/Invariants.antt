@@ -1,6 +1,4 @@
-use Rattle.std.proofs.Common.{◌≡◌, ◌+◌, ◌*◌, length}
-use Rattle.std.specs.Prelude.{None}
-use Rattle.pm_tokens.specs.Faults.{first_broken}
+use Rattle.std.proofs.Common.{◌+◌, ◌*◌, length}
 use Rattle.pm_node.specs.Trees.{node_tokens}
 use Rattle.pm_node.proofs.PairWalk.{Walked}
 use Rattle.pm_node.proofs.pairs.+pairs.Given as goal

@@ -1,10 +1,9 @@
-use Rattle.std.proofs.Common.{◌≡◌, ℕ, ◌+◌, false, drop, ap, sym, ◌∙◌, length}
+use Rattle.std.proofs.Common.{◌≡◌, ◌+◌, drop, ap, sym, ◌∙◌}
 use Rattle.std.specs.Prelude.{None}
 use Rattle.std.specs.Arc.{arc_value}
 use Rattle.std.proofs.lemmas.List.{drop_all}
 use Rattle.pm_auto.specs.Walks.{accepted, target, edges_at}
 use Rattle.pm_tokens.specs.Kids.{kids}
-use Rattle.pm_schema.specs.Types.{node_at}
 use Rattle.pm_schema.specs.Documents.{documents_of}
 use Rattle.pm_node.specs.Kinds.{kind_in, kinds}
 use Rattle.pm_node.proofs.KindLaws.{kids-list}

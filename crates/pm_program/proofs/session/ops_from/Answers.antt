@@ -1,4 +1,4 @@
-use Rattle.std.proofs.Common.{◌≡◌, [], map, string_bytes, length, arith, rules}
+use Rattle.std.proofs.Common.{◌≡◌, [], map, string_bytes, arith, rules}
 use Rattle.std.specs.Prelude.{Some}
 use Rattle.pm_program.specs.Lines.{lines_of}
 use Rattle.pm_program.specs.Reading.{op_line, ops_of, refused}

@@ -1,4 +1,4 @@
-use Rattle.std.proofs.Common.{◌≡◌, true, ap, sym, ◌∙◌, subst}
+use Rattle.std.proofs.Common.{◌≡◌, true, subst}
 use Rattle.pm_tokens.specs.Scan.{is_whole}
 use Rattle.pm_tokens.specs.Faults.{fault}
 use Rattle.pm_schema.specs.Documents.{documents_of}

@@ -1,5 +1,5 @@
-use Rattle.std.proofs.Common.{◌≡◌, ◌∙◌, sym, ap, length}
-use Rattle.pm_node.specs.Documents.{doc_of, content_tokens}
+use Rattle.std.proofs.Common.{◌∙◌, sym, ap, length}
+use Rattle.pm_node.specs.Documents.{content_tokens}
 use Rattle.pm_node.proofs.TreeLaws.{length-text_tokens}
 use Rattle.pm_node.proofs.document.Document.size.Goals as goal
 

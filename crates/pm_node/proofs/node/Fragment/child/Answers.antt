@@ -1,4 +1,4 @@
-use Rattle.std.proofs.Common.{◌≡◌, ◌<◌, ℕ, ◌*◌, ap, sym, ◌∙◌, length, arith, get_or, List, [], Fits, w64}
+use Rattle.std.proofs.Common.{◌≡◌, ◌<◌, ap, sym, ◌∙◌, length, arith, get_or, []}
 use Rattle.pm_tokens.specs.Kids.{children}
 use Rattle.pm_node.specs.Trees.{node_tokens}
 use Rattle.std.specs.Arc.{arc_value}

@@ -1,4 +1,4 @@
-use Rattle.std.proofs.Common.{◌≡◌, ◌<◌, ◌++◌, ◌∷◌, ◌+◌, [], List, length, length-append, arith, ap, sym, ◌∙◌, drop}
+use Rattle.std.proofs.Common.{◌++◌, ◌+◌, length, length-append, arith, ap, sym, ◌∙◌, drop}
 use Rattle.std.proofs.lemmas.List.{take_all}
 use Rattle.std.specs.Arc.{arc_value}
 use Rattle.pm_node.specs.Trees.{node_tokens, list_tokens}

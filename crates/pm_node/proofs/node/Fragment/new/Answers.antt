@@ -1,6 +1,5 @@
 use Rattle.std.proofs.Common.{refl, lit<}
 use Rattle.pm_tokens.specs.Scan.{none}
-use Rattle.pm_node.specs.Trees.{Form}
 use Rattle.pm_node.proofs.node.Fragment.new.Goals as goal
 
 pub invariant_of-result : goal.invariant_of-result

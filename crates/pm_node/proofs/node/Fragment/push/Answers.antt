@@ -1,9 +1,7 @@
-use Rattle.std.proofs.Common.{◌≡◌, ◌<◌, ℕ, ◌+◌, ◌-◌, ◌^◌, List, [], ◌∷◌, ◌++◌, length, arith, ap, sym, ◌∙◌, subst, refl, length-append, Global}
+use Rattle.std.proofs.Common.{◌≡◌, ◌+◌, ◌-◌, [], ◌∷◌, ◌++◌, length, arith, ap, ◌∙◌, subst, length-append}
 use Rattle.std.specs.Arc.{arc_value}
-use Rattle.std.specs.declared.sync.Arc.{Arc}
-use Rattle.pm_node.specs.declared.node.Node.{Node}
 use Rattle.pm_tokens.specs.Scan.{Balanced}
-use Rattle.pm_node.specs.Trees.{node_tokens, list_tokens, Joined, Meets, Form, WholeBody}
+use Rattle.pm_node.specs.Trees.{node_tokens, list_tokens, WholeBody}
 use Rattle.pm_node.proofs.TreeLaws.{form-last, form-push, tokens-last, list_tokens-push, last_of, joined_as, apart_as}
 use Rattle.pm_node.proofs.node.Fragment.push.Goals as goal
 use Rattle.pm_node.proofs.node.Fragment.push.Goals.{then-len-gt0+in_ok-joined+in_default, else-len-gt0}

@@ -1,7 +1,6 @@
 use Rattle.std.proofs.Common.{◌∙◌, sym, ap, length, subst}
-use Rattle.pm_tokens.specs.Scan.{Balanced, none, leaf}
-use Rattle.pm_node.specs.Trees.{node_tokens, WholeBody}
-use Rattle.pm_node.specs.declared.node.Body.TheVariants.{Text, Leaf as Childless, Children}
+use Rattle.pm_tokens.specs.Scan.{none, leaf}
+use Rattle.pm_node.specs.Trees.{WholeBody}
 use Rattle.pm_node.proofs.TreeLaws.{node_tokens_at, length-text_tokens, balanced-node}
 use Rattle.pm_tokens.proofs.KidLaws.{balanced-text}
 use Rattle.pm_node.proofs.node.Node.size.Goals as goal

@@ -6,6 +6,7 @@ use Rattle.pm_schema.specs.Made.{can_wrap}
 use Rattle.pm_schema.specs.Generated.{IsGeneratable, AllFinishing}
 use Rattle.pm_schema.proofs.Tables.{all-run}
 use Rattle.pm_schema.proofs.Makes.{makes-all, runs-of, live-of, never-stuck}
+use Rattle.pm_schema.proofs.Plain.{plain-text}
 use Rattle.pm_schema.proofs.schema.Schema.build.Goals as goal
 
 pub generatable-requires-clause-runs : goal.generatable-requires-clause-runs
@@ -30,6 +31,7 @@ invariant_of-result c =
       names_differ = c.in_ok-node_names.ensures.differ;
       top_named = ap (λ (ns : List (List ℕ)). place_of c.args.spec.top ns) c.in_ok-node_names.ensures.nodes ∙ c.in_ok-top.ensures.top;
       text_named = ap (λ (ns : List (List ℕ)). place_of (codes "text") ns) c.in_ok-node_names.ensures.nodes ∙ c.in_ok-top.ensures.text;
+      text_plain = plain-text c.args.spec c.in_ok-top.ensures.types;
       full = c.in_ok-autos.ensures.full;
       runs = runs;
       allows = c.in_ok-allowed.ensures;

@@ -1,0 +1,17 @@
+use Rattle.std.proofs.Common.{◌≡◌, ℕ, ◌+◌, ◌*◌, length}
+use Rattle.pm_node.specs.Trees.{node_tokens, list_tokens}
+use Rattle.pm_node.proofs.WalkLaws.{rest}
+use Rattle.pm_build.specs.Positions.{path}
+use Rattle.pm_build.proofs.builder.Builder.+path.Given as goal
+
+abbrev pub invariant-open_path-loop-child : goal.invariant-open_path-loop-child
+invariant-open_path-loop-child l = record {
+  same : path (list_tokens l.child-items) l.pos ≡ path (rest l.child-items l.child-index) l.rest;
+  kept : l.self ≡ l.fn.self;
+}
+
+abbrev pub decreases-open_path : goal.decreases-open_path
+decreases-open_path l = 2 * length l.source.now + 1
+
+abbrev pub decreases-open_path_in : goal.decreases-open_path_in
+decreases-open_path_in l = 2 * length (node_tokens l.node.now)

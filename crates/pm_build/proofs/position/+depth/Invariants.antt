@@ -1,0 +1,17 @@
+use Rattle.std.proofs.Common.{◌≡◌, ℕ, ◌+◌, ◌*◌, ◌≤◌, length}
+use Rattle.pm_tokens.specs.Scan.{depth_at}
+use Rattle.pm_node.specs.Trees.{node_tokens, list_tokens}
+use Rattle.pm_node.proofs.WalkLaws.{rest}
+use Rattle.pm_build.proofs.position.+depth.Given as goal
+
+abbrev pub invariant-depth_at-loop-child : goal.invariant-depth_at-loop-child
+invariant-depth_at-loop-child l = record {
+  same : depth_at (list_tokens l.child-items) l.pos ≡ depth_at (rest l.child-items l.child-index) l.rest;
+  below : l.rest ≤ l.pos;
+}
+
+abbrev pub decreases-depth_at : goal.decreases-depth_at
+decreases-depth_at l = 2 * length l.content.now + 1
+
+abbrev pub decreases-depth_in : goal.decreases-depth_in
+decreases-depth_in l = 2 * length (node_tokens l.node.now)

@@ -1,0 +1,14 @@
+use Rattle.std.proofs.Common.{◌≡◌, ℕ, ◌+◌, ◌*◌, length}
+use Rattle.pm_node.specs.Trees.{node_tokens, list_tokens}
+use Rattle.pm_node.proofs.WalkLaws.{rest}
+use Rattle.pm_build.specs.Positions.{unit_at}
+use Rattle.pm_build.proofs.position.+unit.Given as goal
+
+abbrev pub invariant-unit_at-loop-child : goal.invariant-unit_at-loop-child
+invariant-unit_at-loop-child l = unit_at (list_tokens l.child-items) l.pos ≡ unit_at (rest l.child-items l.child-index) l.rest
+
+abbrev pub decreases-unit_at : goal.decreases-unit_at
+decreases-unit_at l = 2 * length l.content.now + 1
+
+abbrev pub decreases-unit_in : goal.decreases-unit_in
+decreases-unit_in l = 2 * length (node_tokens l.node.now)

@@ -1,0 +1,199 @@
+//! Tables of what is read, with ample memory. The types are 0 doc, 1 paragraph, 2 heading, 3 image, 4 text; the marks are 0 link, 1 em,
+//! 2 strong, 3 code.
+mod writing;
+
+use crate::{DocReadError, read_mark, read_node};
+use pm_auto::Expr;
+use pm_list::Listed;
+use pm_node::{Body, Node};
+use pm_schema::{AttrSpec, AttrSpecs, MarkSpec, NodeSpec, Schema, SchemaSpec};
+use pm_value::{Text, Value};
+use serde_json::Value as Json;
+use std::alloc::{AllocError, Global};
+use std::test::Fail;
+
+fn node(alloc: Global, name: &str, content: Expr) -> Result<NodeSpec, AllocError> {
+    Ok(NodeSpec {
+        name: Text::from_str(alloc, name)?,
+        content,
+        groups: Listed::new(alloc),
+        marks: None,
+        inline: false,
+        atom: false,
+        attrs: AttrSpecs::new(alloc),
+    })
+}
+
+fn mark(alloc: Global, name: &str, excludes: Option<&str>) -> Result<MarkSpec, AllocError> {
+    let excludes = match excludes {
+        None => None,
+        Some(text) => Some(Text::from_str(alloc, text)?),
+    };
+    Ok(MarkSpec {
+        name: Text::from_str(alloc, name)?,
+        attrs: AttrSpecs::new(alloc),
+        inclusive: true,
+        excludes,
+        groups: Listed::new(alloc),
+    })
+}
+
+fn attrs(alloc: Global, name: &str, default: Option<Value>) -> Result<AttrSpecs, AllocError> {
+    let name = Text::from_str(alloc, name)?;
+    AttrSpecs::one(alloc, AttrSpec { name, default })
+}
+
+fn inline(alloc: Global) -> Result<Expr, AllocError> {
+    let all = vec![in alloc; Expr::One(3), Expr::One(4)]?;
+    Ok(Expr::Star(Box::new(alloc, Expr::Choice(all))?))
+}
+
+fn nodes(alloc: Global) -> Result<Listed<NodeSpec>, AllocError> {
+    let mut nodes = Listed::new(alloc);
+    let blocks = Expr::Choice(vec![in alloc; Expr::One(1), Expr::One(2)]?);
+    nodes.push(node(alloc, "doc", Expr::Plus(Box::new(alloc, blocks)?))?)?;
+    nodes.push(node(alloc, "paragraph", inline(alloc)?)?)?;
+    let mut heading = node(alloc, "heading", inline(alloc)?)?;
+    heading.attrs = attrs(alloc, "level", Some(Value::Int(1)))?;
+    nodes.push(heading)?;
+    let mut image = node(alloc, "image", Expr::Empty)?;
+    image.inline = true;
+    image.attrs = attrs(alloc, "src", None)?;
+    nodes.push(image)?;
+    nodes.push(node(alloc, "text", Expr::Empty)?)?;
+    Ok(nodes)
+}
+
+fn schema(alloc: Global) -> Result<Schema, Fail> {
+    let mut marks = Listed::new(alloc);
+    let mut link = mark(alloc, "link", None)?;
+    link.attrs = attrs(alloc, "href", None)?;
+    marks.push(link)?;
+    marks.push(mark(alloc, "em", None)?)?;
+    marks.push(mark(alloc, "strong", None)?)?;
+    marks.push(mark(alloc, "code", Some("_"))?)?;
+    let top = Text::from_str(alloc, "doc")?;
+    let nodes = nodes(alloc)?;
+    Ok(Schema::build(alloc, SchemaSpec { nodes, marks, top })?)
+}
+
+/// How many children a node has, or none where it holds a text or is a leaf.
+fn children(node: &Node) -> Option<usize> {
+    match &node.body {
+        Body::Children(content) => Some(content.len()),
+        Body::Leaf | Body::Text(_) => None,
+    }
+}
+
+#[test]
+fn nodes_are_read_with_their_sizes_and_children(rt: HostRuntime) -> Result<(), Fail> {
+    let alloc = rt.alloc();
+    let schema = schema(alloc)?;
+    let rows: [(&str, usize, usize, Option<usize>); 8] = [
+        ("{\"type\":\"doc\"}", 0, 2, Some(0)),
+        (
+            "{\"type\":\"image\",\"attrs\":{\"src\":1},\"content\":null}",
+            3,
+            1,
+            None,
+        ),
+        (
+            "{\"type\":\"image\",\"attrs\":{\"src\":1},\"content\":[{\"type\":\"doc\"}]}",
+            3,
+            4,
+            Some(1),
+        ),
+        ("{\"type\":\"heading\",\"marks\":null}", 2, 2, Some(0)),
+        (
+            "{\"type\":\"text\",\"text\":\"a\\ud83d\\ude00\",\"content\":5}",
+            4,
+            3,
+            None,
+        ),
+        (
+            "{\"type\":\"paragraph\",\"content\":[{\"type\":\"text\",\"text\":\"a\"},{\"type\":\"text\",\"text\":\"b\"}]}",
+            1,
+            4,
+            Some(1),
+        ),
+        (
+            "{\"type\":\"paragraph\",\"content\":[{\"type\":\"text\",\"text\":\"a\",\"marks\":[{\"type\":\"em\"}]},{\"type\":\"text\",\"text\":\"b\"}]}",
+            1,
+            4,
+            Some(2),
+        ),
+        (
+            "{\"type\":\"paragraph\",\"marks\":[{\"type\":\"em\"},{\"type\":\"strong\"}],\"more\":0}",
+            1,
+            2,
+            Some(0),
+        ),
+    ];
+    for (text, kind, size, inner) in &rows {
+        let json = Json::from_str(alloc, text)?;
+        let node = read_node(alloc, &schema, &json)?;
+        assert!(rt; node.kind == *kind);
+        assert!(rt; node.size() == *size);
+        assert!(rt; children(&node) == *inner);
+    }
+    Ok(())
+}
+
+#[test]
+fn the_first_fault_is_named(rt: HostRuntime) -> Result<(), Fail> {
+    let alloc = rt.alloc();
+    let schema = schema(alloc)?;
+    let rows: [(&str, DocReadError); 14] = [
+        ("[]", DocReadError::Shape),
+        ("{\"type\":null}", DocReadError::Shape),
+        (
+            "{\"type\":\"table\",\"attrs\":0}",
+            DocReadError::UnknownType,
+        ),
+        ("{\"type\":\"text\"}", DocReadError::Shape),
+        (
+            "{\"type\":\"text\",\"text\":\"\",\"attrs\":0}",
+            DocReadError::EmptyText,
+        ),
+        (
+            "{\"type\":\"text\",\"text\":\"a\",\"attrs\":{\"x\":1}}",
+            DocReadError::Attr,
+        ),
+        ("{\"type\":\"image\",\"marks\":0}", DocReadError::Attr),
+        (
+            "{\"type\":\"image\",\"attrs\":{\"src\":1.5}}",
+            DocReadError::Attr,
+        ),
+        (
+            "{\"type\":\"image\",\"attrs\":{\"src\":[[[[[0]]]]]}}",
+            DocReadError::Attr,
+        ),
+        (
+            "{\"type\":\"doc\",\"attrs\":[],\"marks\":0}",
+            DocReadError::Shape,
+        ),
+        (
+            "{\"type\":\"doc\",\"marks\":[{\"type\":\"bold\"}],\"content\":0}",
+            DocReadError::UnknownType,
+        ),
+        (
+            "{\"type\":\"doc\",\"marks\":[{\"type\":\"strong\"},{\"type\":\"em\"}],\"content\":0}",
+            DocReadError::NotASet,
+        ),
+        ("{\"type\":\"doc\",\"content\":{}}", DocReadError::Shape),
+        (
+            "{\"type\":\"doc\",\"content\":[{\"type\":\"doc\",\"content\":[0]},{\"type\":\"x\"}]}",
+            DocReadError::Shape,
+        ),
+    ];
+    for (text, fault) in &rows {
+        let json = Json::from_str(alloc, text)?;
+        assert!(rt; read_node(alloc, &schema, &json).err() == Some(*fault));
+    }
+    let json = Json::from_str(alloc, "{\"type\":\"link\",\"attrs\":{\"href\":null}}")?;
+    let mark = read_mark(alloc, &schema, &json)?;
+    assert!(rt; mark.kind == 0 && mark.attrs.values().len() == 1);
+    let json = Json::from_str(alloc, "{\"type\":\"link\"}")?;
+    assert!(rt; read_mark(alloc, &schema, &json).err() == Some(DocReadError::Attr));
+    Ok(())
+}

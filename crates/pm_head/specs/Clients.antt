@@ -1,0 +1,70 @@
+-- The clients that line 3 lists.
+use Rattle.std.specs.Prelude.{ℕ, suc, nat_lt, nat_le, nat_eq, Bool, true, false, not, ◌&&◌, List, [], ◌∷◌, ◌++◌, codes, Option, Some, None, Result, Ok, Err, option_and_then, option_map, if◌then◌else◌}
+use Rattle.std.specs.List.{list_any}
+use Rattle.std.specs.Cmp.Lexicographic.{pointwise}
+use Rattle.serde_json.specs.Data.{Data, null, boolean, number, string, array, object, Items, no_items, item}
+use Rattle.serde_json.specs.Find.{get, as_str, as_array}
+use Rattle.pm_list.specs.Readings.{◌>>=◌, or_fault}
+use Rattle.pm_head.specs.declared.clients.ClientEntry.{ClientEntry}
+use Rattle.pm_head.specs.Names.{is_name}
+use Rattle.pm_head.specs.Lines.{json_line}
+
+-- an editor's entry is its name, and a raw client's an object with its name at `raw`
+abbrev pub editor : List ℕ → ClientEntry
+editor name = record { name = name; raw = false }
+
+abbrev pub raw_client : List ℕ → ClientEntry
+raw_client name = record { name = name; raw = true }
+
+abbrev pub raw_entry : Data → Option ClientEntry
+raw_entry d = option_map raw_client (option_and_then as_str (get (codes "raw") d))
+
+abbrev pub entry_of : Data → Option ClientEntry
+entry_of null = None
+entry_of (boolean b) = None
+entry_of (number n) = None
+entry_of (string name) = Some (editor name)
+entry_of (array ds) = None
+entry_of (object ms) = raw_entry (object ms)
+
+-- its name is well-formed, and no earlier entry has it
+abbrev pub is_new : List ClientEntry → ClientEntry → Bool
+is_new earlier c = is_name c.name && not (list_any (λ other. pointwise nat_eq c.name other.name) earlier)
+
+-- an entry behind these earlier ones
+abbrev pub next_client : List ClientEntry → Data → Result ClientEntry ℕ
+next_client earlier d = do
+  entry ← or_fault 6 (entry_of d)
+  if is_new earlier entry then Ok entry else Err 19
+
+-- the entries behind these earlier ones, from the front
+unfoldable pub entries_of : List ClientEntry → Items → Result (List ClientEntry) ℕ
+entries_of earlier no_items = Ok []
+entries_of earlier (item d ds) = do
+  entry ← next_client earlier d
+  rest ← entries_of (earlier ++ entry ∷ []) ds
+  Ok (entry ∷ rest)
+
+abbrev pub count_of : Items → ℕ
+count_of no_items = 0
+count_of (item d ds) = suc (count_of ds)
+
+-- from 1 to 32 entries
+abbrev pub bounded : Items → Result Items ℕ
+bounded ds = if nat_lt 0 (count_of ds) && nat_le (count_of ds) 32 then Ok ds else Err 19
+
+-- First the value's kind counts, then the number of entries, then the entries.
+unfoldable pub clients_of : Data → Result (List ClientEntry) ℕ
+clients_of d = do
+  items ← or_fault 6 (as_array d)
+  entries ← bounded items
+  entries_of [] entries
+
+-- line 3
+unfoldable pub clients_line : List ℕ → Result (List ClientEntry) ℕ
+clients_line line = json_line line >>= clients_of
+
+-- the names of the clients, where none is raw
+abbrev pub editors : List ClientEntry → Option (List (List ℕ))
+editors [] = Some []
+editors (c ∷ cs) = if c.raw then None else option_map (λ names. c.name ∷ names) (editors cs)

@@ -1,0 +1,9 @@
+pub mod Lines
+pub mod Codes
+pub mod Answers
+pub mod Names
+pub mod Clients
+pub mod Entries
+pub mod Schemas
+pub mod Documents
+pub mod Heads

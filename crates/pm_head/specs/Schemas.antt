@@ -1,0 +1,23 @@
+-- The schema that line 1 writes.
+use Rattle.std.specs.Prelude.{◌≡◌, ℕ, List, Some, Result, Ok, Err}
+use Rattle.serde_json.specs.Data.{Data}
+use Rattle.pm_schema.specs.declared.schema.Schema.{Schema}
+use Rattle.pm_schemajson.specs.declared.error.SchemaReadError.{SchemaReadError}
+use Rattle.pm_schemajson.specs.Contents.{schema_of}
+use Rattle.pm_schemajson.specs.Views.{types_of_spec, IsFault}
+use Rattle.pm_head.specs.Codes.{schema_code}
+use Rattle.pm_head.specs.Lines.{json_line}
+
+-- what is true of a line's value, and of the line where it has none: it has that code
+abbrev pub OfValue : {X : Type 0} → (Data → Result X ℕ → Type 0) → Result Data ℕ → Result X ℕ → Type 0
+OfValue P (Ok d) r = P d r
+OfValue P (Err code) r = r ≡ Err code
+
+-- the schema that the value writes, or the code of its first fault
+abbrev pub SchemaIs : Data → Result Schema ℕ → Type 0
+SchemaIs d (Ok s) = schema_of d ≡ Ok (types_of_spec s.spec)
+SchemaIs d (Err code) = (e : SchemaReadError) × IsFault d e × (schema_code e ≡ Some code)
+
+-- line 1
+abbrev pub SchemaLine : List ℕ → Result Schema ℕ → Type 0
+SchemaLine line r = OfValue SchemaIs (json_line line) r

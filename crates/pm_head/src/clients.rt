@@ -1,0 +1,152 @@
+//! Line 3: the clients.
+ghost use Rattle.std.specs.Prelude.{◌≡◌, ◌≤◌, [], length, nat_eq, map, codes, option_map, option_and_then, string_bytes, IfOk};
+ghost use Rattle.std.specs.List.{list_any};
+ghost use Rattle.std.specs.Cmp.Lexicographic.{pointwise};
+ghost use Rattle.serde_json.specs.View.{view, items_view};
+ghost use Rattle.serde_json.specs.Find.{get, as_str};
+ghost use Rattle.pm_head.specs.Answers.{Gives};
+ghost use Rattle.pm_head.specs.Entries.{entry_view};
+ghost use Rattle.pm_head.specs.Clients.{entry_of as entry_in, next_client as client_behind, entries_of as entries_from, clients_of as clients_in, clients_line as line_of_clients, editors};
+
+use crate::fault::LineError;
+use crate::lines::json_line;
+use crate::names::is_name;
+use pm_list::Listed;
+use pm_value::Text;
+use serde_json::Value;
+use std::alloc::{AllocError, Global};
+
+/// A client as the line of clients lists it.
+#[derive(Debug, Drop)]
+pub struct ClientEntry {
+    /// Its name: 1 to 16 characters of `a` to `z` and `0` to `9`.
+    pub name: Text,
+    /// Whether it is a raw client, whose messages are made as they stand in the file, and no editor.
+    pub raw: bool,
+}
+
+/// The greatest number of clients.
+const MAX_CLIENTS: usize = 32;
+
+/// The clients that line 3 lists.
+#[tactic(auto, unfolding(crate::specs::Clients::clients_line))]
+pub(crate) fn clients_line(alloc: Global, line: &[u8]) -> Result<Listed<ClientEntry>, LineError>
+    ensures read { Gives (λ l. l) result (line_of_clients line.now) }
+    ensures few { IfOk result (λ l. length l ≤ 32) }
+{
+    let json = json_line(alloc, line)?;
+    clients_of(alloc, &json)
+}
+
+#[tactic(auto, using(crate::proofs::Counts::counts), unfolding(crate::specs::Clients::clients_of))]
+fn clients_of(alloc: Global, json: &Value) -> Result<Listed<ClientEntry>, LineError>
+    ensures read { Gives (λ l. l) result (clients_in (view json.now)) }
+    ensures few { IfOk result (λ l. length l ≤ 32) }
+{
+    let Some(items) = json.as_array() else {
+        return Err(LineError::Code(6));
+    };
+    if items.is_empty() || items.len() > MAX_CLIENTS {
+        return Err(LineError::Code(19));
+    }
+    entries_of(alloc, items)
+}
+
+/// The entries, each of which has a well-formed name that no earlier one has.
+#[tactic(auto, using(pm_list::specs::Readings::fronts), unfolding(crate::specs::Clients::entries_of))]
+fn entries_of(alloc: Global, items: &[Value]) -> Result<Listed<ClientEntry>, LineError>
+    ensures read { Gives (λ l. l) result (entries_from [] (items_view items.now)) }
+    ensures few { IfOk result (λ l. length l ≤ length items.now) }
+{
+    let mut clients = Listed::new(alloc);
+    for item in items {
+        let client = next_client(alloc, clients.as_slice(), item)?;
+        clients.push(client)?;
+    }
+    Ok(clients)
+}
+
+/// The entry, behind these.
+fn next_client(
+    alloc: Global,
+    earlier: &[ClientEntry],
+    json: &Value,
+) -> Result<ClientEntry, LineError>
+    ensures { Gives (λ c. c) result (client_behind earlier.now (view json.now)) }
+{
+    let Some(entry) = entry_of(json) else {
+        return Err(LineError::Code(6));
+    };
+    if !is_name(entry.name) || is_taken(entry.name, earlier) {
+        return Err(LineError::Code(19));
+    }
+    Ok(ClientEntry {
+        name: Text::from_str(alloc, entry.name)?,
+        raw: entry.raw,
+    })
+}
+
+/// An entry as its value holds it.
+#[derive(Clone, Copy)]
+struct Entry<'a> {
+    name: &'a str,
+    raw: bool,
+}
+
+fn entry_of(json: &Value) -> Option<Entry<'_>>
+    ensures { option_map entry_view result ≡ entry_in (view json.now) }
+{
+    match json {
+        Value::String(name) => Some(Entry {
+            name: name.as_str(),
+            raw: false,
+        }),
+        Value::Object(_) => {
+            let name = raw_name(json)?;
+            Some(Entry { name, raw: true })
+        }
+        _ => None,
+    }
+}
+
+fn raw_name(json: &Value) -> Option<&str>
+    ensures { option_map (λ s. s.now) result ≡ option_and_then as_str (get (codes "raw") (view json.now)) }
+{
+    match json.get("raw") {
+        Some(value) => value.as_str(),
+        None => None,
+    }
+}
+
+fn is_taken(name: &str, earlier: &[ClientEntry]) -> bool
+    ensures { result ≡ list_any (λ other. pointwise nat_eq name.now other.name) earlier.now }
+{
+    earlier.iter().any(|other| name == other.name.as_str())
+}
+
+/// The clients' names, `None` exactly where one of them is raw.
+#[tactic(auto, using(crate::proofs::NameLists::fronts))]
+pub fn editor_names(
+    alloc: Global,
+    clients: &[ClientEntry],
+) -> Result<Option<Vec<String>>, AllocError>
+    ensures { IfOk result (λ o. option_map (λ v. map string_bytes v.items) o ≡ editors clients.now) }
+{
+    let mut names = Vec::new(alloc);
+    for client in clients {
+        if client.raw {
+            return Ok(None);
+        }
+        push_name(alloc, &mut names, client.name.as_str())?;
+    }
+    Ok(Some(names))
+}
+
+fn push_name(alloc: Global, names: &mut Vec<String>, name: &str) -> Result<(), AllocError>
+    ensures { OnOk result (map string_bytes names.new.items ≡ map string_bytes names.old.items ++ name.now ∷ []) }
+{
+    names.push(String::from_str(alloc, name)?)?;
+    Ok(())
+}
+
+ghost use Rattle.std.specs.Prelude.{◌++◌, ◌∷◌, OnOk};

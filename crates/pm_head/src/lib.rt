@@ -1,0 +1,20 @@
+//! The first three lines of a session file: the schema, the first document and the clients.
+#![tactic(auto)]
+
+mod clients;
+mod codes;
+mod document;
+mod fault;
+mod lines;
+mod names;
+mod reading;
+mod schema;
+
+pub use clients::{ClientEntry, editor_names};
+pub use fault::HeadError;
+pub use lines::{after_head, first_line, json_of};
+pub use names::is_name;
+pub use reading::{Head, read_head};
+
+#[cfg(test)]
+mod tests;

@@ -1,0 +1,80 @@
+//! The lines of an input, and the JSON value of a line.
+ghost use Rattle.std.specs.Prelude.{◌≡◌, ◌<◌, [], ◌∷◌, ◌==◌, length, position, drop, option_map, MatchOption, IfOk};
+ghost use Rattle.serde_json.specs.View.{view};
+ghost use Rattle.pm_head.specs.Answers.{Gives};
+ghost use Rattle.pm_head.specs.Lines.{lines_of, json_of, json_line};
+
+use crate::fault::LineError;
+use serde_json::Value;
+use std::alloc::{AllocError, Global};
+
+/// The greatest number of bytes of a line, its LF not counted.
+const MAX_LINE: usize = 1_048_576;
+
+const LF: u8 = b'\n';
+
+/// The first line, and what follows its LF. There is none in an empty input. It takes no memory.
+pub fn first_line(bytes: &[u8]) -> Option<(&[u8], &[u8])>
+    ensures lines { MatchOption result (bytes.now ≡ []) (λ p. lines_of bytes.now ≡ p.0.now ∷ lines_of p.1.now) }
+    ensures shorter { MatchOption result (bytes.now ≡ []) (λ p. length p.1.now < length bytes.now) }
+{
+    if bytes.is_empty() {
+        return None;
+    }
+    match end_of_line(bytes) {
+        Some(i) => Some((&bytes[..i], &bytes[i + 1..])),
+        None => Some((bytes, &[])),
+    }
+}
+
+/// The place of the first LF.
+fn end_of_line(bytes: &[u8]) -> Option<usize>
+    ensures { result ≡ position (λ b. b == 10) bytes.now }
+{
+    bytes.iter().position(|b| *b == LF)
+}
+
+/// What follows the first line.
+fn after_line(bytes: &[u8]) -> &[u8]
+    ensures { lines_of result.now ≡ drop 1 (lines_of bytes.now) }
+{
+    match first_line(bytes) {
+        Some((_line, rest)) => rest,
+        None => bytes,
+    }
+}
+
+/// What follows the first three lines. It takes no memory.
+pub fn after_head(bytes: &[u8]) -> &[u8]
+    ensures { lines_of result.now ≡ drop 3 (lines_of bytes.now) }
+{
+    after_line(after_line(after_line(bytes)))
+}
+
+/// The JSON value of a text, `None` where it is not UTF-8 or no JSON.
+pub fn json_of(alloc: Global, text: &[u8]) -> Result<Option<Value>, AllocError>
+    ensures { IfOk result (λ o. option_map view o ≡ json_of text.now) }
+{
+    match Value::from_slice(alloc, text) {
+        Ok(value) => Ok(Some(value)),
+        Err(e) => if e.is_memory() {
+            Err(AllocError)
+        } else {
+            Ok(None)
+        },
+    }
+}
+
+/// The JSON value of a line: code 3 where the line passes 1,048,576 bytes, code 5 where it is not UTF-8 or no JSON.
+#[tactic(auto, unfolding(crate::specs::Lines::json_line))]
+pub(crate) fn json_line(alloc: Global, line: &[u8]) -> Result<Value, LineError>
+    ensures { Gives view result (json_line line.now) }
+{
+    if line.len() > MAX_LINE {
+        return Err(LineError::Code(3));
+    }
+    match json_of(alloc, line)? {
+        Some(value) => Ok(value),
+        None => Err(LineError::Code(5)),
+    }
+}

@@ -1,0 +1,147 @@
+-- The fill of a type, which is there and has only types that can be made.
+use Rattle.std.proofs.Common.{◌≡◌, ℕ, zero, suc, ◌+◌, ◌<◌, List, [], ◌∷◌, length, Bool, true, false, ◌&&◌, cond, refl, ap, ◌∙◌, sym, subst, get_or, arith}
+use Rattle.std.specs.Prelude.{Option, Some, None, IfSome, eqb}
+use Rattle.std.proofs.lemmas.Bool.{eqb-true}
+use Rattle.std.proofs.lemmas.List.{length-map}
+use Rattle.pm_auto.specs.declared.auto.Edge.{Edge}
+use Rattle.pm_auto.specs.declared.auto.Auto.{Auto}
+use Rattle.pm_auto.specs.declared.sets.PlaceSet.{PlaceSet}
+use Rattle.pm_auto.specs.Graph.{leads, Inside, Is_graph, Is_shortest}
+use Rattle.pm_auto.specs.Walks.{target, edges_at, ends_at, accepted, via}
+use Rattle.pm_auto.specs.Fills.{kept, makeable, fits_from, filled}
+use Rattle.pm_auto.specs.Finish.{all_can, Finishes}
+use Rattle.pm_schema.specs.declared.schema.Schema.{Schema}
+use Rattle.pm_schema.specs.Made.{can_be_made}
+use Rattle.pm_node.specs.Filled.{IsFill}
+
+-- the edges of types that can be made
+none-either : (b : Bool) (n : Option ℕ) → n ≡ cond b n n
+none-either true n = refl
+none-either false n = refl
+
+kept-step : (can : List Bool) (k : ℕ) (e : Edge) (es : List Edge) → target k (kept can es) ≡ cond (get_or can k false) (target k es) None → (b c : Bool) → get_or can e.kind false ≡ b → eqb e.kind k ≡ c
+    → target k (kept can (e ∷ es)) ≡ cond (get_or can k false) (target k (e ∷ es)) None
+kept-step can k e es ih true true p q = let r : get_or can k false ≡ true = ap (λ (n : ℕ). get_or can n false) (sym (eqb-true e.kind k q)) ∙ p in rw (p, q, r) refl
+kept-step can k e es ih true false p q = rw (p, q, ih) refl
+kept-step can k e es ih false true p q = let r : get_or can k false ≡ false = ap (λ (n : ℕ). get_or can n false) (sym (eqb-true e.kind k q)) ∙ p in rw (p, ih, r) refl
+kept-step can k e es ih false false p q = rw (p, q, ih) refl
+
+target-kept : (can : List Bool) (k : ℕ) (es : List Edge) → target k (kept can es) ≡ cond (get_or can k false) (target k es) None
+target-kept can k [] = none-either (get_or can k false) None
+target-kept can k (e ∷ es) = kept-step can k e es (target-kept can k es) (get_or can e.kind false) (eqb e.kind k) refl refl
+
+edges-kept : (can : List Bool) (ess : List (List Edge)) (s : ℕ) → edges_at (makeable can ess) s ≡ kept can (edges_at ess s)
+edges-kept can [] s = refl
+edges-kept can (es ∷ ess) zero = refl
+edges-kept can (es ∷ ess) (suc s) = edges-kept can ess s
+
+target-state : (n k s : ℕ) (ess : List (List Edge)) → Is_graph n ess → IfSome (target k (edges_at ess s)) (λ t. t < n)
+target-state n k s [] g = tt
+target-state n k zero (es ∷ ess) g = one es g.0.1
+  where
+    one : (es : List Edge) → Inside n es → IfSome (target k es) (λ t. t < n)
+    one [] h = tt
+    one (e ∷ es) h = at (eqb e.kind k) (one es h.1)
+      where
+        at : (b : Bool) → IfSome (target k es) (λ t. t < n) → IfSome (cond b (Some e.to) (target k es)) (λ t. t < n)
+        at true i = h.0
+        at false i = i
+target-state n k (suc s) (es ∷ ess) g = target-state n k s ess g.1
+
+ends-from : (ss : List PlaceSet) (ess : List (List Edge)) (s n : ℕ) (xs : List PlaceSet) → s < length xs → get_or (fits_from ss ess true [] n xs) s false ≡ ends_at ss (n + s)
+ends-from ss ess s n [] l = absurd (omega arith)
+ends-from ss ess zero n (x ∷ xs) l = let z : n ≡ n + 0 = omega arith in ap (ends_at ss) z
+ends-from ss ess (suc s) n (x ∷ xs) l = let z : suc n + s ≡ n + suc s = omega arith in ends-from ss ess s (suc n) xs (omega arith) ∙ ap (ends_at ss) z
+
+and-false : (c : Bool) → false ≡ c && false
+and-false true = refl
+and-false false = refl
+
+on-both : (b c : Bool) (t : Option ℕ) (f g : ℕ → Bool) → IfSome t (λ i. f i ≡ c && g i) → via f (cond b t None) ≡ (b && c) && via g t
+on-both true c None f g h = and-false c
+on-both true c (Some i) f g h = h
+on-both false c t f g h = refl
+
+if_some-map : {P Q : ℕ → Type 0} (t : Option ℕ) → ((i : ℕ) → P i → Q i) → IfSome t P → IfSome t Q
+if_some-map None f h = tt
+if_some-map (Some i) f h = f i h
+
+-- a list leads to a goal where it is of types that can be made and leads to a valid end
+leads-ends : (can : List Bool) (a : Auto) (w : List ℕ) (s : ℕ) → s < length a.sets
+    → leads (makeable can a.edges) (filled a true []) s w ≡ all_can can w && accepted a.sets a.edges s w
+leads-ends can a [] s l = let z : 0 + s ≡ s = omega arith in ends-from a.sets a.edges s 0 a.sets l ∙ ap (ends_at a.sets) z
+leads-ends can a (k ∷ w) s l =
+    ap (λ (es : List Edge). via (λ t. leads (makeable can a.edges) (filled a true []) t w) (target k es)) (edges-kept can a.edges s)
+    ∙ ap (via (λ t. leads (makeable can a.edges) (filled a true []) t w)) (target-kept can k (edges_at a.edges s))
+    ∙ on-both (get_or can k false) (all_can can w) (target k (edges_at a.edges s)) (λ t. leads (makeable can a.edges) (filled a true []) t w) (λ t. accepted a.sets a.edges t w)
+    (if_some-map (target k (edges_at a.edges s)) (λ i m. leads-ends can a w i m) (target-state (length a.sets) k s a.edges a.graph))
+
+and-first : (b c : Bool) → b && c ≡ true → b ≡ true
+and-first true c h = refl
+and-first false c h = absurd (cc)
+
+-- a fill has only types that can be made
+pub fill-made : (can : List Bool) (a : Auto) (w : List ℕ) → IsFill can a w → all_can can w ≡ true
+fill-made can a w f = and-first (all_can can w) (accepted a.sets a.edges 0 w) (sym (leads-ends can a w 0 a.some) ∙ f.leads_on)
+
+-- where the start is not stuck, it is absurd that no list leads to a valid end
+pub fill-there : (can : List Bool) (a : Auto) → ((Finishes can a 0 → ⊥) → ⊥) → ((w : List ℕ) → leads (makeable can a.edges) (filled a true []) 0 w ≡ false) → ⊥
+fill-there can a n none = n (λ f.
+    let yes : leads (makeable can a.edges) (filled a true []) 0 f.list ≡ true = leads-ends can a f.list 0 a.some ∙ rw (f.makeable, f.ends) refl in
+    let no : leads (makeable can a.edges) (filled a true []) 0 f.list ≡ false = none f.list in
+    let z : true ≡ false = sym yes ∙ no in cc)
+
+-- an entry of a list is the same whatever stands for those beyond its end
+pub entry-any : {X : Type 0} (xs : List X) (k : ℕ) (x d : X) → k < length xs → x ≡ get_or xs k x → get_or xs k d ≡ x
+entry-any [] k x d l e = absurd (omega arith)
+entry-any (y ∷ xs) zero x d l e = sym e
+entry-any (y ∷ xs) (suc k) x d l e = entry-any xs k x d (omega arith) e
+
+pub same-entry : {X : Type 0} (xs : List X) (k : ℕ) (d e : X) → k < length xs → get_or xs k d ≡ get_or xs k e
+same-entry [] k d e l = absurd (omega arith)
+same-entry (x ∷ xs) zero d e l = refl
+same-entry (x ∷ xs) (suc k) d e l = same-entry xs k d e (omega arith)
+
+true-inside : (can : List Bool) (k : ℕ) → get_or can k false ≡ true → k < length can
+true-inside [] k h = absurd (cc)
+true-inside (b ∷ can) zero h = omega arith
+true-inside (b ∷ can) (suc k) h = let i = true-inside can k h in omega (arith, i)
+
+and-next : (b c : Bool) → b && c ≡ true → c ≡ true
+and-next true c h = h
+and-next false c h = absurd (cc)
+
+all_can-at : (can : List Bool) (w : List ℕ) (i d : ℕ) → all_can can w ≡ true → i < length w → get_or can (get_or w i d) false ≡ true
+all_can-at can [] i d h l = absurd (omega arith)
+all_can-at can (k ∷ w) zero d h l = and-first (get_or can k false) (all_can can w) h
+all_can-at can (k ∷ w) (suc i) d h l = all_can-at can w i d (and-next (get_or can k false) (all_can can w) h) (omega arith)
+
+-- a type of such a list is one of the schema's
+pub kind-inside : (s : Schema) (w : List ℕ) (i k : ℕ) → all_can s.generatable w ≡ true → i < length w → k ≡ get_or w i k → k < length s.spec.nodes
+kind-inside s w i k h l e =
+    let m = true-inside s.generatable (get_or w i k) (all_can-at s.generatable w i k h l) in
+    let n : length s.generatable ≡ length s.spec.nodes = ap length s.makes ∙ length-map s.spec.nodes can_be_made in
+    omega (arith, m, n, e)
+
+-- the fill that was found is the type's
+pub fill-is : (s : Schema) (a : Auto) (can : List Bool) (start : ℕ) (o : Option (List ℕ)) (w : List ℕ) → can ≡ s.generatable → start ≡ 0 → o ≡ Some w
+    → Is_shortest (makeable can a.edges) (filled a true []) start o → IsFill s.generatable a w
+fill-is s a can start o w c z is h =
+    subst (λ (m : List Bool). IsFill m a w) c (subst (λ (i : ℕ). Is_shortest (makeable can a.edges) (filled a true []) i (Some w)) z (subst (Is_shortest (makeable can a.edges) (filled a true []) start) is h))
+
+pub fill-any : (s : Schema) (k : ℕ) (a d : Auto) (w : List ℕ) → k < length s.spec.nodes → a ≡ get_or s.autos k a → IsFill s.generatable a w → IsFill s.generatable (get_or s.autos k d) w
+fill-any s k a d w l e h =
+    let m : k < length s.autos = omega (arith, l, s.full) in
+    subst (λ (b : Auto). IsFill s.generatable b w) (sym (entry-any s.autos k a d m e)) h
+
+-- no type is without one
+pub fill-never-none : (s : Schema) (k : ℕ) (a : Auto) (can : List Bool) (start : ℕ) (o : Option (List ℕ)) → k < length s.spec.nodes → a ≡ get_or s.autos k a → can ≡ s.generatable → start ≡ 0 → o ≡ None
+    → Is_shortest (makeable can a.edges) (filled a true []) start o → ⊥
+fill-never-none s k a can start o l e c z is h0 =
+    let h : Is_shortest (makeable can a.edges) (filled a true []) start None = subst (Is_shortest (makeable can a.edges) (filled a true []) start) is h0 in
+    let m : k < length s.autos = omega (arith, l, s.full) in
+    let n : (Finishes s.generatable (get_or s.autos k a) 0 → ⊥) → ⊥ = s.never_stuck k a 0 m (get_or s.autos k a).some in
+    let n' : (Finishes s.generatable a 0 → ⊥) → ⊥ = subst (λ (b : Auto). (Finishes s.generatable b 0 → ⊥) → ⊥) (sym e) n in
+    let g : (w : List ℕ) → leads (makeable s.generatable a.edges) (filled a true []) 0 w ≡ false =
+    subst (λ (x : List Bool). (w : List ℕ) → leads (makeable x a.edges) (filled a true []) 0 w ≡ false) c (subst (λ (i : ℕ). (w : List ℕ) → leads (makeable can a.edges) (filled a true []) i w ≡ false) z h) in
+    fill-there s.generatable a n' g

@@ -1,0 +1,36 @@
+-- The states and edges of an automaton by place words.
+use Rattle.std.specs.Prelude.{◌≡◌, ℕ, ◌<◌, List, length, Some, IsSome, ◌↔◌}
+use Rattle.pm_auto.specs.declared.expr.Expr.{Expr}
+use Rattle.pm_auto.specs.declared.auto.Auto.{Auto}
+use Rattle.pm_auto.specs.Expand.{expand}
+use Rattle.pm_auto.specs.Table.{rows}
+use Rattle.pm_auto.specs.States.{start_of, set_at, edge_kinds}
+use Rattle.pm_auto.specs.Automata.{Is_automaton}
+use Rattle.pm_auto.specs.Walks.{edges_at}
+use Rattle.pm_places.specs.Chosen.{HasAlternatives}
+use Rattle.pm_places.specs.Nexts.{IsBegun, led_to, IsStateAfter, AreTypesNext, AreAlike}
+
+-- the automaton is that of the expression, in which each choice has an alternative
+abbrev pub IsAutomatonOf : Expr → Auto → Type 0
+IsAutomatonOf e a = HasAlternatives e × Is_automaton (rows 0 (expand e)) (start_of (expand e)) a
+
+-- A list leads from the start to a state exactly where some place word begins with places that spell it.
+abbrev pub LeadsWhereBegun : Expr → Auto → Type 0
+LeadsWhereBegun e a = IsAutomatonOf e a → (w : List ℕ) → IsSome (led_to a.edges 0 w) ↔ IsBegun e w
+
+-- The state that a list leads to has the places that may come next, and says whether the list is in the language.
+abbrev pub LeadsToState : Expr → Auto → Type 0
+LeadsToState e a = IsAutomatonOf e a → (w : List ℕ) (s : ℕ) → led_to a.edges 0 w ≡ Some s → IsStateAfter e w (set_at a.sets s)
+
+-- The edges of that state are the types of these places, in the order of the least place of each.
+abbrev pub HasEdgesNext : Expr → Auto → Type 0
+HasEdgesNext e a = IsAutomatonOf e a → (w : List ℕ) (s : ℕ) → led_to a.edges 0 w ≡ Some s → AreTypesNext e w (edge_kinds (edges_at a.edges s))
+
+-- Each state is one that some list leads to.
+abbrev pub ReachesEachState : Expr → Auto → Type 0
+ReachesEachState e a = IsAutomatonOf e a → (s : ℕ) → s < length a.sets → (w : List ℕ) × (led_to a.edges 0 w ≡ Some s)
+
+-- Lists after which the same places may come next, both in the language or both not, lead to one state.
+abbrev pub LeadsAlikeTogether : Expr → Auto → Type 0
+LeadsAlikeTogether e a = IsAutomatonOf e a → (v w : List ℕ) (s t : ℕ) → led_to a.edges 0 v ≡ Some s → led_to a.edges 0 w ≡ Some t
+    → AreAlike e v w → s ≡ t

@@ -1,0 +1,3 @@
+pub mod FedSplices
+pub mod OutcomeAnswers
+pub mod LawProofs

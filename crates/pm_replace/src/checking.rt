@@ -1,0 +1,53 @@
+//! The check of a document that a step made.
+ghost use Rattle.pm_change.specs.Failing.{Answers};
+ghost use Rattle.pm_meaning.specs.Outcomes.{checked};
+ghost use Rattle.pm_node.specs.Documents.{doc_with};
+ghost use Rattle.pm_schema.specs.Documents.{documents_of};
+
+use pm_change::Failed;
+use pm_marks::Same;
+use pm_meaning::Reason;
+use pm_node::{Body, Document, Fragment, MAX_DEPTH, MAX_SIZE, Node};
+use pm_schema::Schema;
+use std::alloc::Global;
+
+/// The document, unless it has more than 500,000 tokens (Large), a position is in more than 48 nodes (Deep), or a node or
+/// unit has a fault of attributes, marks or children or is a broken unit (Content, with the least such place).
+pub fn checked(alloc: Global, schema: &Schema, doc: Document) -> Result<Document, Failed<Reason>>
+    ensures { Answers (checked (documents_of schema.now.spec) doc) result }
+{
+    let size = doc.size();
+    if size > MAX_SIZE {
+        return Err(Failed::Reason(Reason::Large));
+    }
+    let nests = doc.nests_within(MAX_DEPTH);
+    if !nests {
+        return Err(Failed::Reason(Reason::Deep));
+    }
+    let place = doc.fault_place(alloc, schema)?;
+    match place {
+        Some(at) => Err(Failed::Reason(Reason::Content { at })),
+        None => Ok(doc),
+    }
+}
+
+/// The document with the type, attributes and marks of a node and this content, under the same reasons.
+pub fn checked_content(
+    alloc: Global,
+    schema: &Schema,
+    top: &Node,
+    content: Fragment,
+) -> Result<Document, Failed<Reason>>
+    ensures { Answers (checked (documents_of schema.now.spec) (doc_with top.now content)) result }
+{
+    let attrs = top.attrs.copy(alloc)?;
+    let marks = top.marks.copy(alloc)?;
+    let next = Node {
+        kind: top.kind,
+        attrs,
+        marks,
+        body: Body::Children(content),
+    };
+    let next = Document::new(alloc, next)?;
+    checked(alloc, schema, next)
+}

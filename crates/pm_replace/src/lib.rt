@@ -1,0 +1,19 @@
+//! Replacing a range of a document by a slice.
+#![tactic(auto)]
+
+mod checking;
+pub mod laws;
+mod refusing;
+mod replacing;
+mod splicing;
+
+pub use checking::{checked, checked_content};
+pub use pm_meaning::Reason;
+pub use refusing::failed;
+pub use replacing::{replace, splice_document};
+pub use splicing::{join, splice};
+
+#[cfg(test)]
+mod sample;
+#[cfg(test)]
+mod tests;

@@ -1,0 +1,136 @@
+//! Replacing a range by a slice.
+ghost use Rattle.std.specs.Prelude.{◌≡◌, ◌≤◌, true, false, length};
+ghost use Rattle.pm_tokens.specs.Slices.{spliced, depths_fit};
+ghost use Rattle.pm_tokens.specs.Faults.{Valid};
+ghost use Rattle.pm_change.specs.Failing.{Answers};
+ghost use Rattle.pm_meaning.specs.Steps.{Replace};
+ghost use Rattle.pm_meaning.specs.Outcomes.{outcome};
+ghost use Rattle.pm_node.specs.Documents.{doc_of, doc_with};
+ghost use Rattle.pm_schema.specs.Documents.{documents_of};
+ghost use Rattle.pm_replace.specs.Splices.{spliced_outcome};
+
+use crate::checking::checked_content;
+use crate::refusing::failed;
+use crate::splicing::{join, splice};
+use pm_build::{depth_at, parts_pair};
+use pm_change::Failed;
+use pm_meaning::Reason;
+use pm_node::{Body, Document, Fragment, MAX_SIZE, Node, text_alone};
+use pm_schema::Schema;
+use pm_slice::Slice;
+use std::alloc::Global;
+
+/// The document with the range from..to replaced by the slice, or the first reason why not. Positions are in tokens. A
+/// joined node keeps the left type, attributes and marks. The reasons come in this order. Range: not
+/// from <= to <= size. Depth: the open sides don't fit the depths of from and to. Pair: from or to parts a surrogate pair.
+/// Join: an open node meets a close whose owner's type isn't compatible with its own. Large, Deep and Content: the result
+/// has too many tokens, nests too deep, or has a fault, of which the least place is named.
+pub fn replace(
+    alloc: Global,
+    schema: &Schema,
+    doc: &Document,
+    from: u64,
+    to: u64,
+    slice: &Slice,
+) -> Result<Document, Failed<Reason>>
+    requires { Valid (documents_of schema.now.spec) doc.now }
+    ensures { Answers (outcome (documents_of schema.now.spec) (Replace from to slice.now false) doc.now) result }
+{
+    let top = doc.top();
+    replace_below(alloc, schema, top, from as usize, to as usize, slice)
+}
+
+fn replace_below(
+    alloc: Global,
+    schema: &Schema,
+    top: &Node,
+    from: usize,
+    to: usize,
+    slice: &Slice,
+) -> Result<Document, Failed<Reason>>
+    requires { Valid (documents_of schema.now.spec) (doc_of top.now) }
+    ensures { Answers (outcome (documents_of schema.now.spec) (Replace from to slice.now false) (doc_of top.now)) result }
+{
+    match &top.body {
+        Body::Children(content) => replace_in(alloc, schema, top, content, from, to, slice),
+        Body::Leaf => {
+            let content = Fragment::new(alloc);
+            replace_in(alloc, schema, top, &content, from, to, slice)
+        }
+        Body::Text(units) => {
+            let content = text_alone(alloc, &top.marks, units)?;
+            replace_in(alloc, schema, top, &content, from, to, slice)
+        }
+    }
+}
+
+/// The document with the top node's type, attributes and marks and this content, with the range from..to replaced.
+fn replace_in(
+    alloc: Global,
+    schema: &Schema,
+    top: &Node,
+    content: &Fragment,
+    from: usize,
+    to: usize,
+    slice: &Slice,
+) -> Result<Document, Failed<Reason>>
+    ensures { Answers (outcome (documents_of schema.now.spec) (Replace from to slice.now false) (doc_with top.now content.now)) result }
+{
+    let size = content.size();
+    let _ = slice.size();
+    if to < from {
+        return Err(Failed::Reason(Reason::Range));
+    }
+    if size < to {
+        return Err(Failed::Reason(Reason::Range));
+    }
+    let left = depth_at(content, from);
+    let right = depth_at(content, to);
+    let start = slice.open_start();
+    let end = slice.open_end();
+    if left < start {
+        return Err(Failed::Reason(Reason::Depth));
+    }
+    if left + end != right + start {
+        return Err(Failed::Reason(Reason::Depth));
+    }
+    if parts_pair(content, from) {
+        return Err(Failed::Reason(Reason::Pair));
+    }
+    if parts_pair(content, to) {
+        return Err(Failed::Reason(Reason::Pair));
+    }
+    splice_document(alloc, schema, top, content, from, to, slice)
+}
+
+/// The document with the top node's type, attributes and marks and this content, with the range from..to replaced by the
+/// slice, or the first reason why not, in the order Join, Large, Deep, Content. A result that is too large is not built,
+/// since only its joins are asked for.
+pub fn splice_document(
+    alloc: Global,
+    schema: &Schema,
+    top: &Node,
+    content: &Fragment,
+    from: usize,
+    to: usize,
+    slice: &Slice,
+) -> Result<Document, Failed<Reason>>
+    requires order { from ≤ to }
+    requires within { to ≤ length content.now }
+    requires fits { depths_fit content.now from to slice.now ≡ true }
+    ensures { Answers (spliced_outcome (documents_of schema.now.spec) (doc_with top.now content.now) (spliced content.now from to slice.now)) result }
+{
+    let size = content.size();
+    let added = slice.size();
+    let total = from + added + (size - to);
+    if total > MAX_SIZE {
+        return match join(alloc, schema, content, from, to, slice) {
+            Ok(()) => Err(Failed::Reason(Reason::Large)),
+            Err(refused) => Err(failed(refused)),
+        };
+    }
+    match splice(alloc, schema, content, from, to, slice) {
+        Ok(made) => checked_content(alloc, schema, top, made),
+        Err(refused) => Err(failed(refused)),
+    }
+}

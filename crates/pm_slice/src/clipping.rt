@@ -1,0 +1,118 @@
+//! Parts of a content as contents of their own.
+ghost use Rattle.std.specs.Prelude.{◌≡◌, ◌+◌, ◌<◌, ◌≤◌, ◌^◌, ◌++◌, length, IfOk, OnOk};
+ghost use Rattle.std.specs.Arc.{arc_value};
+ghost use Rattle.pm_node.specs.Trees.{node_tokens, body_tokens};
+ghost use Rattle.pm_slice.specs.Sides.{clipped, some_arc_tokens};
+
+use pm_marks::Same;
+use pm_node::{Body, Fragment, Node};
+use std::alloc::{AllocError, Global};
+use std::sync::Arc;
+
+/// The tokens from..to of a content, with the nodes around `from` opened before them and those around `to` closed behind
+/// them. It shares each whole node.
+#[cycle(clip)]
+pub fn clip(
+    alloc: Global,
+    content: &Fragment,
+    from: usize,
+    to: usize,
+) -> Result<Fragment, AllocError>
+    requires { from ≤ to }
+    ensures tokens { IfOk result (λ f. f ≡ clipped content.now from to) }
+    ensures small { IfOk result (λ f. length f ≤ length content.now) }
+{
+    let _ = content.size();
+    let mut made = Fragment::new(alloc);
+    let mut start = from;
+    let mut end = to;
+    for child in content.children() {
+        let size = child.size();
+        let piece = clip_node(alloc, child, start, end)?;
+        push_some(alloc, &mut made, piece)?;
+        start = start.saturating_sub(size);
+        end = end.saturating_sub(size);
+    }
+    Ok(made)
+}
+
+/// The same of a node, which is shared where it is whole.
+#[cycle(clip)]
+fn clip_node(
+    alloc: Global,
+    node: &Arc<Node, Global>,
+    from: usize,
+    to: usize,
+) -> Result<Option<Arc<Node, Global>>, AllocError>
+    requires { from ≤ to }
+    ensures tokens { IfOk result (λ o. some_arc_tokens o ≡ clipped (node_tokens (arc_value node.now)) from to) }
+    ensures small { IfOk result (λ o. length (some_arc_tokens o) ≤ length (node_tokens (arc_value node.now))) }
+{
+    let size = node.size();
+    if to == 0 {
+        return Ok(None);
+    }
+    if size <= from {
+        return Ok(None);
+    }
+    if from == 0 && size <= to {
+        let shared = Arc::try_clone(node)?;
+        return Ok(Some(shared));
+    }
+    let part = clip_part(alloc, node, from, to)?;
+    let made = Arc::new(alloc, part)?;
+    Ok(Some(made))
+}
+
+/// Puts the node, if there is one, behind the others.
+fn push_some(
+    alloc: Global,
+    made: &mut Fragment,
+    node: Option<Arc<Node, Global>>,
+) -> Result<(), AllocError>
+    requires { length made.old + length (some_arc_tokens node) < 2 ^ 32 }
+    ensures { OnOk result (made.new ≡ made.old ++ some_arc_tokens node) }
+{
+    match node {
+        None => Ok(()),
+        Some(node) => made.push(alloc, node),
+    }
+}
+
+/// The same of a node that is not whole in the part.
+#[cycle(clip)]
+fn clip_part(alloc: Global, node: &Node, from: usize, to: usize) -> Result<Node, AllocError>
+    requires order { from ≤ to }
+    requires start { from < length (node_tokens node.now) }
+    requires some { 0 < to }
+    requires parted { from ≡ 0 → to < length (node_tokens node.now) }
+    ensures tokens { IfOk result (λ n. node_tokens n ≡ clipped (node_tokens node.now) from to) }
+    ensures small { IfOk result (λ n. length (node_tokens n) ≤ length (node_tokens node.now)) }
+{
+    match &node.body {
+        Body::Text(units) => {
+            let end = units.len().min(to);
+            let cut = units.cut(alloc, from, end)?;
+            with_body(alloc, node, Body::Text(cut))
+        }
+        Body::Leaf => with_body(alloc, node, Body::Leaf),
+        Body::Children(content) => {
+            let _ = content.size();
+            let start = from.saturating_sub(1);
+            let inner = clip(alloc, content, start, to - 1)?;
+            with_body(alloc, node, Body::Children(inner))
+        }
+    }
+}
+
+/// A node with the type, attributes and marks of another one.
+fn with_body(alloc: Global, head: &Node, body: Body) -> Result<Node, AllocError>
+    ensures { IfOk result (λ n. node_tokens n ≡ body_tokens head.now.kind head.now.attrs head.now.marks body) }
+{
+    Ok(Node {
+        kind: head.kind,
+        attrs: head.attrs.copy(alloc)?,
+        marks: head.marks.copy(alloc)?,
+        body,
+    })
+}

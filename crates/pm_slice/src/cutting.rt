@@ -1,0 +1,138 @@
+//! Cutting a slice out of a document.
+ghost use Rattle.std.specs.Prelude.{◌≡◌, ◌≤◌, ◌<◌, length, IfOk, IfSome, IsNone};
+ghost use Rattle.pm_tokens.specs.Slices.{cut};
+ghost use Rattle.pm_node.specs.Documents.{doc_of};
+ghost use Rattle.pm_node.specs.Trees.{node_tokens};
+ghost use Rattle.pm_slice.specs.Cuts.{Cuts, Inside, HoldsNone, Flat};
+
+use crate::clipping::clip;
+use crate::fault::CutError;
+use crate::slice::Slice;
+use pm_build::depth_at;
+use pm_node::{Body, Document, Fragment, Node, text_alone};
+use std::alloc::{AllocError, Global};
+
+/// The part from..to of a document as a slice. Its tokens are the document's from..to. Nodes that are around one of the two
+/// positions and not around both are open in it, with their attributes and marks. Range comes exactly where not
+/// from <= to <= size.
+pub fn cut(alloc: Global, doc: &Document, from: usize, to: usize) -> Result<Slice, CutError>
+    ensures { Cuts doc.now.tokens from to result }
+{
+    let top = doc.top();
+    cut_below(alloc, top, from, to)
+}
+
+fn cut_below(alloc: Global, top: &Node, from: usize, to: usize) -> Result<Slice, CutError>
+    ensures { Cuts (doc_of top.now).tokens from to result }
+{
+    match &top.body {
+        Body::Children(content) => cut_range(alloc, content, from, to),
+        Body::Leaf => {
+            let content = Fragment::new(alloc);
+            cut_range(alloc, &content, from, to)
+        }
+        Body::Text(units) => {
+            if to < from {
+                return Err(CutError::Range);
+            }
+            let len = units.len();
+            if len < to {
+                return Err(CutError::Range);
+            }
+            if len > MAX_TOKENS {
+                return Err(CutError::NoMemory);
+            }
+            let content = text_alone(alloc, &top.marks, units)?;
+            cut_range(alloc, &content, from, to)
+        }
+    }
+}
+
+/// The greatest number of tokens of a fragment. A text of more units has no room in one.
+const MAX_TOKENS: usize = 0xFFFF_FFFF;
+
+fn cut_range(alloc: Global, content: &Fragment, from: usize, to: usize) -> Result<Slice, CutError>
+    ensures { Cuts content.now from to result }
+{
+    if to < from {
+        return Err(CutError::Range);
+    }
+    let size = content.size();
+    if size < to {
+        return Err(CutError::Range);
+    }
+    let made = cut_content(alloc, content, from, to)?;
+    Ok(made)
+}
+
+/// The part from..to of a content: of the content of the innermost node that has both positions inside.
+pub fn cut_content(
+    alloc: Global,
+    content: &Fragment,
+    from: usize,
+    to: usize,
+) -> Result<Slice, AllocError>
+    requires order { from ≤ to }
+    requires within { to ≤ length content.now }
+    ensures { IfOk result (λ s. s ≡ cut content.now from to) }
+{
+    let _ = content.size();
+    let mut start = from;
+    let mut end = to;
+    for child in content.children() {
+        let size = child.size();
+        if start < size {
+            return match inner_content(child, start, end) {
+                Some(inner) => cut_content(alloc, inner, start - 1, end - 1),
+                None => cut_across(alloc, content, from, to),
+            };
+        }
+        start -= size;
+        end -= size;
+    }
+    cut_across(alloc, content, from, to)
+}
+
+/// The content of the node, if both positions are inside.
+fn inner_content(node: &Node, start: usize, end: usize) -> Option<&Fragment>
+    ensures inside { IfSome result (λ inner. Inside node.now start end inner.now) }
+    ensures none { IsNone result → 0 < start → end < length (node_tokens node.now) → HoldsNone node.now }
+{
+    let size = node.size();
+    if start == 0 {
+        return None;
+    }
+    if size <= end {
+        return None;
+    }
+    match &node.body {
+        Body::Children(inner) => {
+            let _ = inner.size();
+            Some(inner)
+        }
+        _ => None,
+    }
+}
+
+/// The part from..to of a content, where some position between has no node around it.
+fn cut_across(
+    alloc: Global,
+    content: &Fragment,
+    from: usize,
+    to: usize,
+) -> Result<Slice, AllocError>
+    requires order { from ≤ to }
+    requires within { to ≤ length content.now }
+    requires flat { Flat content.now from to }
+    ensures { IfOk result (λ s. s ≡ cut content.now from to) }
+{
+    let _ = content.size();
+    let open_start = depth_at(content, from);
+    let open_end = depth_at(content, to);
+    let made = clip(alloc, content, from, to)?;
+    Ok(Slice {
+        content: made,
+        open_start,
+        open_end,
+    })
+}
