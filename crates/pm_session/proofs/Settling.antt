@@ -50,11 +50,11 @@ take-append (suc k) (x ∷ xs) = ap (λ l. x ∷ l) (take-append k xs)
 
 own_run-within : {C : Type 0} (client : ℕ) (ns : List (Named C)) → own_run client ns ≤ length ns
 own_run-within client [] = omega arith
-own_run-within client (n ∷ ns) = by-test (n.name.client == client)
+own_run-within client (n ∷ ns) = by-test (n.name.client == client) (own_run-within client ns)
   where
-    by-test : (b : Bool) → (if b then own_run client ns + 1 else 0) ≤ suc (length ns)
-    by-test true = omega (arith, own_run-within client ns)
-    by-test false = omega arith
+    by-test : (b : Bool) → own_run client ns ≤ length ns → (if b then own_run client ns + 1 else 0) ≤ suc (length ns)
+    by-test true h = omega (arith, h)
+    by-test false h = omega arith
 
 -- a client that takes all entries past its version
 module _ {Rules Doc Reason C : Type 0} (m : Meaning Rules Doc Reason C) (rules : Rules) (first : Doc) (log : List (Named C))
