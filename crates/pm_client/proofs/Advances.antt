@@ -108,6 +108,7 @@ module _ {Rules Doc Reason C : Type 0} (m : Meaning Rules Doc Reason C) (rules :
       let after_base : fold m rules c.base (changes_of kin.past) ≡ Some kin.log_applies.0 =
       sym (fold-append m rules first c.base (changes_of kin.before) (changes_of kin.past) kin.base_is)
       ∙ ap (fold m rules first) (sym (changes-append kin.before kin.past)) ∙ all in
+      let reaches = front-applies m rules c.base kin.log_applies.0 rest r.after (rw whole at after_base) in
       let long : c.version + length rest < 2 ^ 64 =
       omega (arith, kin.version_is, ap length kin.log_is, length-append kin.before kin.past, ap length whole, length-append rest r.after, h.short) in
       record {
@@ -117,10 +118,12 @@ module _ {Rules Doc Reason C : Type 0} (m : Meaning Rules Doc Reason C) (rules :
           within = omega (arith, r.own_is, s.counted, ap length s.pending_is, length-append s.standing s.later);
           short = omega (arith, long, r.own_is, s.counted, ap length r.rest_is, length-append s.standing r.front);
         };
-        applies = front-applies m rules c.base kin.log_applies.0 rest r.after (rw whole at after_base);
+        applies = reaches;
         over = λ base h2.
             over-of laws c rest s.standing r.front s.later (own_run c.name rest) (base-good m rules first h.log c kin laws) (r.own_is ∙ sym s.counted) r.rest_is s.pending_is kin.doc_is base h2;
         room = λ base h2.
             room-of laws c rest s.standing r.front s.later (own_run c.name rest) (base-good m rules first h.log c kin laws) (r.own_is ∙ sym s.counted) r.rest_is s.pending_is kin.doc_is base h2 kin.cursors;
+        have_maps = (over-of laws c rest s.standing r.front s.later (own_run c.name rest) (base-good m rules first h.log c kin laws) (r.own_is ∙ sym s.counted) r.rest_is s.pending_is kin.doc_is reaches.0 reaches.1).have_maps;
+        remembered = kin.remembered;
         short = long;
       }

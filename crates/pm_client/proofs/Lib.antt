@@ -8,3 +8,5 @@ mod Leads
 pub mod TokenRuns
 pub mod TokenLeads
 pub mod TokenKeeps
+pub mod Turns
+pub mod Makings

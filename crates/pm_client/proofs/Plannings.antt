@@ -1,6 +1,10 @@
 -- A plan for the answer of a number.
-use Rattle.std.proofs.Common.{◌≡◌, ℕ, ℤ, ◌+◌, ◌-◌, ◌≤◌, ◌<◌, ◌==◌, if◌then◌else◌, Bool, true, false, List, length, drop, Some, slice_index_or, sym, ap, ◌∙◌, subst, arith, refl}
+use Rattle.std.proofs.Common.{◌≡◌, ℕ, ℤ, ◌-◌, ◌≤◌, ◌<◌, ◌==◌, if◌then◌else◌, Bool, true, false, List, Vec, length, length-drop, drop, Some, slice_index_or, sym, ap, ◌∙◌, subst, refl}
+use Rattle.std.specs.Prelude.{Result, Ok, Err, IfOk, OnOk, OnErr}
 use Rattle.std.proofs.lemmas.Bool.{eqb-true}
+use Rattle.std.proofs.lemmas.List.{length-map}
+use Rattle.std.specs.declared.alloc.Global.{Global}
+use Rattle.pm_map.specs.declared.step_map.Span.{Span}
 use Rattle.pm_change.specs.Changes.{Meaning}
 use Rattle.pm_authority.specs.declared.named.Named.{Named}
 use Rattle.pm_authority.specs.Runs.{AllApply}
@@ -12,7 +16,7 @@ use Rattle.pm_client.specs.Serials.{merged}
 use Rattle.pm_authority.specs.declared.message.Answer.{Answer}
 use Rattle.pm_client.specs.declared.client.Client.{Client}
 use Rattle.pm_client.specs.Clients.{answer_at}
-use Rattle.pm_client.specs.Rebases.{maps_of, start, rebased}
+use Rattle.pm_client.specs.Rebases.{maps_of, ranges_of, start, rebased}
 use Rattle.pm_client.specs.Kins.{Stands}
 use Rattle.pm_client.specs.Plans.{Meets, carried_out}
 use Rattle.pm_client.specs.Takings.{index-get, answer-stands}
@@ -45,16 +49,30 @@ pub carried-is : {Rules Doc Reason C : Type 0} (m : Meaning Rules Doc Reason C) 
 carried-is m rules c rest foreign later own base so is f l = rw (f, l) at is
 
 -- the plan that carries the later pending steps over others' entries
-pub plan-is : {Rules Doc Reason C : Type 0} (m : Meaning Rules Doc Reason C) (rules : Rules) (c : Client C Rules Doc Reason) (rest : List (Named C)) (own : ℕ) (base : Doc)
+pub plan-is : {Rules Doc Reason C : Type 0} (m : Meaning Rules Doc Reason C) (rules : Rules) (c : Client C Rules Doc Reason) (rest : List (Named C)) (own : ℕ) (foreign : Vec (List Span) Global) (base : Doc)
     (so : Rebasing C Rules Doc Reason) (dropped : List ℕ) (cursors : List (ℕ × ℤ)) → own ≡ own_run c.name rest → own ≤ length rest → (own ≡ length rest → ⊥)
-    → AllApply m rules c.base rest base → so ≡ carried m rules c own (drop own rest) base → dropped ≡ merged c.dropped so.dropped → cursors ≡ moved_over so.maps c.cursors
-    → carried_out c (Rebase own (length rest - own) base so dropped cursors) ≡ rest_taken m rules c rest (own_run c.name rest)
-plan-is m rules c rest own base so dropped cursors own_is within more applies so_is dropped_is cursors_are = rw (← own_is) (by-test (own == length rest) refl)
+    → AllApply m rules c.base rest base → foreign.items ≡ ranges_of m (drop own rest) → so ≡ carried m rules c own (drop own rest) base → dropped ≡ merged c.dropped so.dropped
+    → cursors ≡ moved_over so.maps c.cursors
+    → carried_out c (Rebase own foreign base so dropped cursors) ≡ rest_taken m rules c rest (own_run c.name rest)
+plan-is m rules c rest own foreign base so dropped cursors own_is within more applies foreign_are so_is dropped_is cursors_are = rw (← own_is) (by-test (own == length rest) refl)
   where
-    all : own + (length rest - own) ≡ length rest
-    all = omega (arith, within)
+    others : length foreign.items ≡ length (drop own rest)
+    others = ap length foreign_are ∙ length-map (drop own rest) (λ n. m.step_map n.change)
+
+    count : length (drop own rest) ≡ length rest - own
+    count = length-drop own rest
 
     by-test : (b : Bool) → (own == length rest) ≡ b
-        → carried_out c (Rebase own (length rest - own) base so dropped cursors) ≡ (if b then confirmed_first m rules c own else others_taken m rules c rest own)
+        → carried_out c (Rebase own foreign base so dropped cursors) ≡ (if b then confirmed_first m rules c own else others_taken m rules c rest own)
     by-test true e = absurd (more (eqb-true own (length rest) e))
-    by-test false e = rw (applies, dropped_is, cursors_are, so_is, all) refl
+    by-test false e = rw (applies, dropped_is, cursors_are, so_is, others, foreign_are, count) refl
+
+-- A plan was carried out, or memory ran out and nothing changed. What holds in both cases holds.
+pub either-way : {T E A : Type 0} (P : A → Type 0) (r : Result T E) (old new : A) (via to : T × A) → via ≡ to → IfOk r (λ t. (t, new) ≡ via) → OnErr r (new ≡ old) → P old → P to.1 → P new
+either-way P (Ok t) old new via to e h k a b = subst P (sym (ap (λ x. x.1) (h ∙ e))) b
+either-way P (Err x) old new via to e h k a b = subst P (sym k) a
+
+-- what holds once it was carried out
+pub on-way : {T E A : Type 0} (P : A → Type 0) (r : Result T E) (new : A) (via to : T × A) → via ≡ to → IfOk r (λ t. (t, new) ≡ via) → P to.1 → OnOk r (P new)
+on-way P (Ok t) new via to e h b = subst P (sym (ap (λ x. x.1) (h ∙ e))) b
+on-way P (Err x) new via to e h b = tt

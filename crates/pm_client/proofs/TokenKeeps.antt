@@ -1,7 +1,7 @@
 -- A client's calls keep its cursors before their tokens.
 use Rattle.std.specs.Prelude.{◌≡◌, ℕ, zero, suc, pos, ◌+◌, ◌-◌, ◌<◌, List, [], ◌∷◌, ◌++◌, length, map, take, drop, slice_get, Option, Some, None, Result, Ok, Err, refl}
 use Rattle.std.specs.List.{AllByRecursion as Each}
-use Rattle.std.proofs.Common.{arith, sym, ap, ◌∙◌, subst, append_assoc, append-nil}
+use Rattle.std.proofs.Common.{true, arith, sym, ap, ◌∙◌, subst, append_assoc, append-nil, length-append}
 use Rattle.std.proofs.Math.Seq.{drop-append_seam}
 use Rattle.pm_map.specs.Through.{through}
 use Rattle.pm_change.specs.Changes.{Meaning, Laws, fold}
@@ -10,14 +10,19 @@ use Rattle.pm_authority.specs.declared.named.Named.{Named}
 use Rattle.pm_authority.specs.declared.running.Refusal.{Refusal}
 use Rattle.pm_authority.specs.Runs.{run, changes_of, AllApply}
 use Rattle.pm_authority.specs.RunFolds.{run-fold}
+use Rattle.pm_history.specs.declared.branches.Branches.{Branches}
+use Rattle.pm_history.specs.declared.branches.Side.TheVariants.{Edit}
+use Rattle.pm_history.specs.Histories.{noted_all}
+use Rattle.pm_history.specs.Timelines.{items_from}
 use Rattle.pm_client.specs.declared.client.Client.{Client}
 use Rattle.pm_client.specs.declared.rebasing.Rebasing.{Rebasing}
 use Rattle.pm_client.specs.Lists.{Each-front, Each-back, take-seam}
 use Rattle.pm_client.specs.Serials.{serials_of, own_serials, Rises}
 use Rattle.pm_client.specs.Rebases.{maps_of, start, rebased}
 use Rattle.pm_client.specs.RebaseLaws.{fork, maps-fit, plain-paired}
-use Rattle.pm_client.specs.Cursors.{moved_cursor, moved_over}
-use Rattle.pm_client.specs.Clients.{named, edited, tried, confirmed, brought, taken_if, taken_at, answer_at}
+use Rattle.pm_client.specs.Cursors.{moved_cursor}
+use Rattle.pm_client.specs.Timelines.{edit_steps}
+use Rattle.pm_client.specs.Clients.{named, gone_on, edited, tried, confirmed, brought, taken_if, taken_at, answer_at}
 use Rattle.pm_client.specs.Takings.{one-taken, answer-stands}
 use Rattle.pm_authority.specs.declared.message.Answer.{Answer}
 use Rattle.pm_client.specs.Kins.{IsOwn, IsForeign, Kin}
@@ -135,12 +140,13 @@ module _ {Rules Doc Reason C : Type 0} (m : Meaning Rules Doc Reason C) (rules :
   brought-keeps : (base : Doc) (front back : List (Named C)) (r : Rebasing C Rules Doc Reason) → kin.stands.foreign ≡ front ++ back
       → fold m rules c.base (changes_of (kin.stands.standing ++ front)) ≡ Some base
       → r ≡ rebased m rules (start m base (maps_of m front)) kin.stands.later
-      → KeepsTokens m log c (brought c (length (kin.stands.standing ++ front)) base r) (m.size c.base)
+      → KeepsTokens m log c (brought m rules c kin.standing front base r) (m.size c.base)
   brought-keeps base front back r split h is names may i p t at before after =
       let s = kin.stands in
       let gone : List (Named C) = s.standing ++ front in
       let past : kin.past ≡ gone ++ back = s.past_is ∙ ap (λ l. s.standing ++ l) split ∙ sym (append_assoc s.standing front back) in
-      let went = some-passed gone back past in
+      let so_many : kin.standing + length front ≡ length gone = omega (arith, s.counted, length-append s.standing front) in
+      let went : passed log c.version (c.version + (kin.standing + length front)) ≡ gone = rw so_many (some-passed gone back past) in
       let good = base-good m rules first log c kin laws in
       let pending : AllDiffer (s.standing ++ s.later) = rw s.pending_is at pending-differ in
       let well : Named_well m rules laws c.base gone names =
@@ -177,7 +183,7 @@ module _ {Rules Doc Reason C : Type 0} (m : Meaning Rules Doc Reason C) (rules :
       rw is (rebased-leads m rules laws f.at (start m base (maps_of m front)) s.later shared (names_after m shared front) following (rw (← is) may.made_unpinched)) in
       let was : slice_get (names_after m shared s.later) p ≡ Some t =
       ap (λ l. slice_get l p) (sym (names-append m names s.standing s.later) ∙ ap (names_after m names) (sym s.pending_is)) ∙ before in
-      let same : names_after m (names_after m names (passed log c.version (c.version + length gone))) r.kept ≡ names_after m (names_after m shared front) r.kept =
+      let same : names_after m (names_after m names (passed log c.version (c.version + (kin.standing + length front)))) r.kept ≡ names_after m (names_after m shared front) r.kept =
       ap (λ l. names_after m (names_after m names l) r.kept) went ∙ ap (λ l. names_after m l r.kept) (names-append m names s.standing front) in
       let there : Has (names_after m (names_after m shared front) r.kept) t = (after.0, ap (λ l. slice_get l after.0) (sym same) ∙ after.1) in (
         (through r.maps p (pos 1)).pos,
@@ -185,22 +191,15 @@ module _ {Rules Doc Reason C : Type 0} (m : Meaning Rules Doc Reason C) (rules :
         ap (λ l. slice_get l (through r.maps p (pos 1)).pos) same ∙ leads p t was there,
       )
 
-  -- steps were made
-  edited-so : (cs : List C) (doc : Doc) → run m rules c.doc 0 (named c.name (c.serials + 1) cs) ≡ Ok doc → AllDiffer (c.pending ++ named c.name (c.serials + 1) cs)
-      → KeepsTokens m log c
-      (record c {
-        doc = doc;
-        pending = c.pending ++ named c.name (c.serials + 1) cs;
-        serials = c.serials + length cs;
-        cursors = moved_over (maps_of m (named c.name (c.serials + 1) cs)) c.cursors;
-      })
-      (m.size c.base)
-  edited-so cs doc ran differ names may i p t at before after =
+  -- own steps were made
+  made-keeps : (cs : List C) (doc : Doc) (h : Branches C) → AllApply m rules c.doc (named c.name (c.serials + 1) cs) doc → AllDiffer (c.pending ++ named c.name (c.serials + 1) cs)
+      → KeepsTokens m log c (gone_on m c cs doc h) (m.size c.base)
+  made-keeps cs doc h applies differ names may i p t at before after =
       let new : List (Named C) = named c.name (c.serials + 1) cs in
       let well : Named_well m rules laws c.base (c.pending ++ new) names =
       record { good = base-good m rules first log c kin laws; size = may.size; once = may.once; none = may.made; differ = differ; apart = may.made_unpinched } in
       let old : List Token = names_after m names c.pending in
-      let leads = maps-lead m rules laws c.doc doc new old (run-fold m rules c.doc doc 0 new ran) (well-after m rules laws c.base c.doc c.pending new names kin.doc_is well) in
+      let leads = maps-lead m rules laws c.doc doc new old applies (well-after m rules laws c.base c.doc c.pending new names kin.doc_is well) in
       let same : names_after m (names_after m names (passed log c.version c.version)) (c.pending ++ new) ≡ names_after m old new =
       ap (λ l. names_after m (names_after m names l) (c.pending ++ new)) none-passed ∙ names-append m names c.pending new in
       let there : Has (names_after m old new) t = (after.0, ap (λ l. slice_get l after.0) (sym same) ∙ after.1) in (
@@ -209,21 +208,25 @@ module _ {Rules Doc Reason C : Type 0} (m : Meaning Rules Doc Reason C) (rules :
         ap (λ l. slice_get l (through (maps_of m new) p (pos 1)).pos) same ∙ leads p t before there,
       )
 
-  tried-keeps : (cs : List C) (next : Client C Rules Doc Reason) (r : Result Doc (Refusal Reason)) → run m rules c.doc 0 (named c.name (c.serials + 1) cs) ≡ r
-      → tried m rules c cs r ≡ Ok next → Kin m rules first log next → KeepsTokens m log c next (m.size c.base)
-  tried-keeps cs next (Err e) ran h k = absurd (cc)
-  tried-keeps cs next (Ok doc) ran h k =
-      let new : List (Named C) = named c.name (c.serials + 1) cs in
-      let made : Client C Rules Doc Reason =
-      record c { doc = doc; pending = c.pending ++ new; serials = c.serials + length cs; cursors = moved_over (maps_of m new) c.cursors } in
-      let is : made ≡ next = cc in
-      let made_kin : Kin m rules first log made = subst (Kin m rules first log) (sym is) k in
-      subst (λ d. KeepsTokens m log c d (m.size c.base)) is
-      (edited-so cs doc ran (rises-differ (c.pending ++ new) (rises-back (own_serials c.name made_kin.before) (serials_of (c.pending ++ new)) made_kin.parted.rise)))
+  pub gone_on-keeps : (cs : List C) (doc : Doc) (h : Branches C) → AllApply m rules c.doc (named c.name (c.serials + 1) cs) doc → Kin m rules first log (gone_on m c cs doc h)
+      → KeepsTokens m log c (gone_on m c cs doc h) (m.size c.base)
+  gone_on-keeps cs doc h applies k =
+      made-keeps cs doc h applies
+      (rises-differ (c.pending ++ named c.name (c.serials + 1) cs) (rises-back (own_serials c.name k.before) (serials_of (c.pending ++ named c.name (c.serials + 1) cs)) k.parted.rise))
 
-  pub edited-keeps : (cs : List C) (next : Client C Rules Doc Reason) → edited m rules c cs ≡ Ok next → KeepsTokens m log c next (m.size c.base)
-  edited-keeps cs next h =
-      tried-keeps cs next (run m rules c.doc 0 (named c.name (c.serials + 1) cs)) refl h (kin-edited m rules first log c kin laws cs next h)
+  tried-keeps : (cs : List C) (event : Option ℕ) (next : Client C Rules Doc Reason) (r : Result Doc (Refusal Reason)) → run m rules c.doc 0 (named c.name (c.serials + 1) cs) ≡ r
+      → tried m rules c cs event r ≡ Ok next → Kin m rules first log next → KeepsTokens m log c next (m.size c.base)
+  tried-keeps cs event next (Err e) ran h k = absurd (cc)
+  tried-keeps cs event next (Ok doc) ran h k =
+      let new : List (Named C) = named c.name (c.serials + 1) cs in
+      let history : Branches C = noted_all c.history (items_from m rules c.doc (edit_steps new)) (Edit event true) in
+      let is : gone_on m c cs doc history ≡ next = cc in
+      subst (λ d. KeepsTokens m log c d (m.size c.base)) is
+      (gone_on-keeps cs doc history (run-fold m rules c.doc doc 0 new ran) (subst (Kin m rules first log) (sym is) k))
+
+  pub edited-keeps : (cs : List C) (event : Option ℕ) (next : Client C Rules Doc Reason) → edited m rules c cs event ≡ Ok next → KeepsTokens m log c next (m.size c.base)
+  edited-keeps cs event next h =
+      tried-keeps cs event next (run m rules c.doc 0 (named c.name (c.serials + 1) cs)) refl h (kin-edited m rules first log c kin laws cs event next h)
 
   -- the answer of a number was taken
   pub taken-keeps : (i : ℕ) → KeepsTokens m log c (taken_at m rules c i).1 (m.size c.base)

@@ -1,6 +1,16 @@
 -- What a client's calls make of it. Each is a function of the client's state.
-use Rattle.std.specs.Prelude.{ℕ, ℤ, ◌+◌, ◌-◌, ◌≡◌, ◌<◌, ◌==◌, nat_le, if◌then◌else◌, List, [], ◌∷◌, ◌++◌, length, take, drop, slice_get, Option, Some, None, Result, Ok, Err}
+use Rattle.std.specs.Prelude.{ℕ, ℤ, ◌+◌, ◌-◌, ◌≡◌, ◌<◌, ◌==◌, nat_le, if◌then◌else◌, Bool, true, false, List, [], ◌∷◌, ◌++◌, length, take, drop, slice_get, Option, Some, None, Result, Ok, Err}
 use Rattle.pm_change.specs.Changes.{Meaning, fold}
+use Rattle.pm_map.specs.declared.step_map.Span.{Span}
+use Rattle.pm_history.specs.declared.item.Item.{Item}
+use Rattle.pm_history.specs.declared.branch.Event.{Event}
+use Rattle.pm_history.specs.declared.branches.Branches.{Branches}
+use Rattle.pm_history.specs.declared.branches.Side.TheVariants.{Edit}
+use Rattle.pm_history.specs.declared.undoing.Undone.{Undone}
+use Rattle.pm_history.specs.Histories.{event_of, names_in, new_history, noted_all, last_items, last_of, rebased as rebased_last, undone}
+use Rattle.pm_history.specs.Tied.{all_tied}
+use Rattle.pm_history.specs.Timelines.{items_from}
+use Rattle.pm_history.specs.Undos.{undo_event}
 use Rattle.pm_authority.specs.declared.named.Named.{Named}
 use Rattle.pm_authority.specs.declared.running.Refusal.{Refusal}
 use Rattle.pm_authority.specs.declared.message.Message.{Message}
@@ -18,8 +28,9 @@ use Rattle.pm_client.specs.declared.taken.Kind.TheVariants.{Submit as ToSubmit, 
 use Rattle.pm_client.specs.declared.taken.Taken.{Taken}
 use Rattle.pm_client.specs.declared.taken.Taken.TheVariants.{Confirmed, Rebased, Stale, Refused}
 use Rattle.pm_client.specs.declared.rebasing.Rebasing.{Rebasing}
-use Rattle.pm_client.specs.Rebases.{maps_of, start, rebased}
+use Rattle.pm_client.specs.Rebases.{maps_of, ranges_of, start, rebased}
 use Rattle.pm_client.specs.Cursors.{moved_over}
+use Rattle.pm_client.specs.Timelines.{edit_steps}
 use Rattle.pm_client.specs.Serials.{merged}
 
 -- the steps under names of this client, with serials from this one on
@@ -31,6 +42,11 @@ named client serial (c ∷ cs) = record { name = record { client = client; seria
 abbrev pub own_run : {C : Type 0} → ℕ → List (Named C) → ℕ
 own_run client [] = 0
 own_run client (n ∷ ns) = if n.name.client == client then own_run client ns + 1 else 0
+
+-- In the history foreign steps with these ranges and the items of the steps kept stand in place of the last ones. Each step
+-- kept undoes what it did before.
+abbrev pub carried_history : {C : Type 0} → Branches C → ℕ → List (List Span) → List (Item C) → Branches C
+carried_history h gone foreign kept = rebased_last h gone foreign (all_tied (last_items gone h.items) kept)
 
 module _ {Rules Doc Reason C : Type 0} where
   -- a client of this name at version 0, with this document and nothing pending
@@ -46,6 +62,7 @@ module _ {Rules Doc Reason C : Type 0} where
     serials = 0;
     dropped = [];
     cursors = [];
+    history = new_history;
   }
 
   -- the message of this kind: all pending steps at the client's version, or a request for what is past it
@@ -77,18 +94,6 @@ module _ {Rules Doc Reason C : Type 0} where
   abbrev pub confirmed : Client C Rules Doc Reason → ℕ → Doc → Client C Rules Doc Reason
   confirmed c k base = record c { version = c.version + k; base = base; pending = drop k c.pending }
 
-  -- The log goes on by k entries that give this base, over which the later pending steps were carried so. The serials lost
-  -- are among those dropped, and each cursor goes over the whole mapping.
-  abbrev pub brought : Client C Rules Doc Reason → ℕ → Doc → Rebasing C Rules Doc Reason → Client C Rules Doc Reason
-  brought c k base r = record c {
-    version = c.version + k;
-    base = base;
-    doc = r.doc;
-    pending = r.kept;
-    dropped = merged c.dropped r.dropped;
-    cursors = moved_over r.maps c.cursors;
-  }
-
   -- What is told and what the client is with this document. Without a document nothing is done; steps that stand in a log
   -- always give one.
   abbrev pub given : Client C Rules Doc Reason → Option Doc → (Doc → Taken × Client C Rules Doc Reason) → Taken × Client C Rules Doc Reason
@@ -100,25 +105,56 @@ abbrev pub IsCursorRefusal : ℕ → ℕ → CursorError → Type 0
 IsCursorRefusal size p Range = size < p
 IsCursorRefusal size p NoCursorMemory = Unit {0}
 
-module _ {Rules Doc Reason C : Type 0} (m : Meaning Rules Doc Reason C) (rules : Rules) where
-  -- What steps get that were tried on the client's document: one is refused, or they are pending under the next serials, and
-  -- each cursor goes over their maps.
-  abbrev pub tried : Client C Rules Doc Reason → List C → Result Doc (Refusal Reason) → Result (Client C Rules Doc Reason) (Refusal Reason)
-  tried c cs (Ok doc) =
+module _ {Rules Doc Reason C : Type 0} (m : Meaning Rules Doc Reason C) where
+  -- Own steps of these changes, which lead to this document, are pending under the next serials. Each cursor goes over their
+  -- maps, and this is the history with them.
+  abbrev pub gone_on : Client C Rules Doc Reason → List C → Doc → Branches C → Client C Rules Doc Reason
+  gone_on c cs doc history =
       let new = named c.name (c.serials + 1) cs in
-      Ok
-      (record c {
+      record c {
         doc = doc;
         pending = c.pending ++ new;
         serials = c.serials + length cs;
         cursors = moved_over (maps_of m new) c.cursors;
-      })
-  tried c cs (Err e) = Err e
+        history = history;
+      }
+
+  -- The client once an event of this number was undone by what was made, or redone where `redo` holds. The steps made are an
+  -- event of the other branch, which has the same number.
+  abbrev pub turned : Client C Rules Doc Reason → Bool → Option ℕ → Undone Doc C → Client C Rules Doc Reason
+  turned c redo number w = gone_on c w.made w.doc (undone redo c.history (event_of number (names_in w.items)) w.items)
+
+module _ {Rules Doc Reason C : Type 0} (m : Meaning Rules Doc Reason C) (rules : Rules) where
+  -- What steps get that were tried on the client's document: one is refused, or they are made, as steps of an edit with this
+  -- event number.
+  abbrev pub tried : Client C Rules Doc Reason → List C → Option ℕ → Result Doc (Refusal Reason) → Result (Client C Rules Doc Reason) (Refusal Reason)
+  tried c cs event (Ok doc) =
+      Ok (gone_on m c cs doc (noted_all c.history (items_from m rules c.doc (edit_steps (named c.name (c.serials + 1) cs))) (Edit event true)))
+  tried c cs event (Err e) = Err e
 
   -- The client once these steps were made, one after another, or the first of them that does not apply to the document
   -- that the ones before it give.
-  abbrev pub edited : Client C Rules Doc Reason → List C → Result (Client C Rules Doc Reason) (Refusal Reason)
-  edited c cs = tried c cs (run m rules c.doc 0 (named c.name (c.serials + 1) cs))
+  abbrev pub edited : Client C Rules Doc Reason → List C → Option ℕ → Result (Client C Rules Doc Reason) (Refusal Reason)
+  edited c cs event = tried c cs event (run m rules c.doc 0 (named c.name (c.serials + 1) cs))
+
+  -- How many steps undoing this event makes, and the client after it.
+  abbrev pub event_turned : Client C Rules Doc Reason → Bool → Event → ℕ × Client C Rules Doc Reason
+  event_turned c redo e =
+      let w = undo_event m rules c.name e.names c.history.items c.doc (c.serials + 1) in
+      (length w.made, turned m c redo e.number w)
+
+  -- the same of the last event of a branch, unless it has none
+  abbrev pub last_turned : Client C Rules Doc Reason → Bool → Option Event → Option (ℕ × Client C Rules Doc Reason)
+  last_turned c redo None = None
+  last_turned c redo (Some e) = Some (event_turned c redo e)
+
+  -- The last event is undone.
+  abbrev pub undone_last : Client C Rules Doc Reason → Option (ℕ × Client C Rules Doc Reason)
+  undone_last c = last_turned c false (last_of false c.history)
+
+  -- The last event that was undone is redone.
+  abbrev pub redone_last : Client C Rules Doc Reason → Option (ℕ × Client C Rules Doc Reason)
+  redone_last c = last_turned c true (last_of true c.history)
 
   -- an edit's error is the refusal, or want of memory
   abbrev pub IsRefusal : Result (Client C Rules Doc Reason) (Refusal Reason) → EditError Reason → Type 0
@@ -133,6 +169,20 @@ module _ {Rules Doc Reason C : Type 0} (m : Meaning Rules Doc Reason C) (rules :
   abbrev pub carried : Client C Rules Doc Reason → ℕ → List (Named C) → Doc → Rebasing C Rules Doc Reason
   carried c own foreign base = rebased m rules (start m base (maps_of m foreign)) (drop own c.pending)
 
+  -- The log goes on by so many own steps, which are the first pending ones, and these foreign ones, which give this base, and
+  -- over which the later pending steps were carried so. The serials lost are among those dropped, each cursor goes over the
+  -- whole mapping, and the foreign steps and the steps kept stand in the history for the later pending ones.
+  abbrev pub brought : Client C Rules Doc Reason → ℕ → List (Named C) → Doc → Rebasing C Rules Doc Reason → Client C Rules Doc Reason
+  brought c own foreign base r = record c {
+    version = c.version + (own + length foreign);
+    base = base;
+    doc = r.doc;
+    pending = r.kept;
+    dropped = merged c.dropped r.dropped;
+    cursors = moved_over r.maps c.cursors;
+    history = carried_history c.history (length c.pending - own) (ranges_of m foreign) r.items;
+  }
+
   -- These entries past the version have so many own ones in front, which are the first pending steps, and others after
   -- them. The later pending steps are carried over the others.
   abbrev pub others_taken : Client C Rules Doc Reason → List (Named C) → ℕ → Taken × Client C Rules Doc Reason
@@ -140,7 +190,7 @@ module _ {Rules Doc Reason C : Type 0} (m : Meaning Rules Doc Reason C) (rules :
       given c (fold m rules c.base (changes_of rest))
       (λ base.
       let r = carried c own (drop own rest) base in
-      (Rebased own (length rest - own) (length r.dropped), brought c (length rest) base r))
+      (Rebased own (length rest - own) (length r.dropped), brought c own (drop own rest) base r))
 
   -- These entries past the version have so many own ones in front. Where there are no others, these are confirmed.
   abbrev pub rest_taken : Client C Rules Doc Reason → List (Named C) → ℕ → Taken × Client C Rules Doc Reason

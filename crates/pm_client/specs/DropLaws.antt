@@ -101,7 +101,7 @@ parted-dropped client before pending kept dropped gone drawn h counted rise = re
 
 module _ {Rules Doc Reason C : Type 0} (m : Meaning Rules Doc Reason C) (rules : Rules) where
   held-times : (s : ℕ) (so : Rebasing C Rules Doc Reason) (n : Named C) (c : C) (d : Doc)
-      → times s (serials_of (held m so n c d).kept) ≡ times s (serials_of so.kept) + times s (n.name.serial ∷ [])
+      → times s (serials_of (held m rules so n c d).kept) ≡ times s (serials_of so.kept) + times s (n.name.serial ∷ [])
   held-times s so n c d = ap (times s) (serials-append so.kept (record { name = n.name; change = c } ∷ [])) ∙ times-append s (serials_of so.kept) (n.name.serial ∷ [])
 
   -- a step is kept or dropped

@@ -1,6 +1,6 @@
 -- Each call keeps how its client stands to the log, and each growth of the log keeps it too.
-use Rattle.std.specs.Prelude.{◌≡◌, ℕ, ℤ, ◌+◌, ◌≤◌, ◌<◌, ◌⊎◌, true, false, nat_lt, List, [], ◌∷◌, ◌++◌, length, drop, Some, Result, Ok, Err, refl}
-use Rattle.std.proofs.Common.{sym, subst, ap, ◌∙◌, inl, inr, arith, length-append, append_assoc, append-nil}
+use Rattle.std.specs.Prelude.{◌≡◌, ℕ, ℤ, ◌+◌, ◌≤◌, ◌<◌, ◌⊎◌, true, false, nat_lt, List, [], ◌∷◌, ◌++◌, length, drop, Option, Some, Result, Ok, Err, refl}
+use Rattle.std.proofs.Common.{sym, subst, ap, ◌∙◌, inl, inr, arith, length-append, length-drop, append_assoc, append-nil}
 use Rattle.std.proofs.Math.Seq.{drop-append_seam}
 use Rattle.std.proofs.lemmas.List.Elements.{All-from_recursion}
 use Rattle.std.proofs.lemmas.Bool.{ltb-true, ltb-false}
@@ -14,19 +14,30 @@ use Rattle.pm_authority.specs.declared.message.Message.{Message}
 use Rattle.pm_authority.specs.declared.message.Message.TheVariants.{Submit, Ask}
 use Rattle.pm_authority.specs.declared.message.Answer.{Answer}
 use Rattle.pm_authority.specs.declared.message.Answer.TheVariants.{Accepted, WrongVersion, StepRefused, Entries}
-use Rattle.pm_authority.specs.Runs.{run, changes_of}
+use Rattle.pm_authority.specs.Runs.{run, changes_of, AllApply}
 use Rattle.pm_authority.specs.RunFolds.{changes-append, run-fold}
+use Rattle.pm_history.specs.declared.branches.Branches.{Branches}
+use Rattle.pm_history.specs.declared.branches.Side.TheVariants.{Edit}
+use Rattle.pm_history.specs.Histories.{noted_all}
+use Rattle.pm_history.specs.Timelines.{Step, changes_of as steps_changes, items_from}
+use Rattle.pm_history.specs.Standing.{IsHistoryOf}
+use Rattle.pm_history.specs.Grows.{history-new}
+use Rattle.pm_history.specs.Rebased.{items-length}
+use Rattle.pm_history.specs.Calls.{history-call}
 use Rattle.pm_client.specs.declared.client.Client.{Client}
 use Rattle.pm_client.specs.declared.taken.Kind.{Kind}
 use Rattle.pm_client.specs.declared.taken.Kind.TheVariants.{Submit as ToSubmit, Ask as ToAsk}
-use Rattle.pm_client.specs.Clients.{named, new_client, tried, edited, message_of, composed, kept, confirmed, brought, cursor_set}
+use Rattle.pm_client.specs.Clients.{named, new_client, gone_on, tried, edited, message_of, composed, kept, confirmed, brought, cursor_set}
 use Rattle.pm_client.specs.Kins.{IsOwn, IsForeign, IsPrefix, IsPart, MessageStands, AnswerStands, Past, Kin}
 use Rattle.pm_client.specs.Lists.{All-more, All-push, Each-append, Each-front, Each-back, nothing}
 use Rattle.pm_client.specs.Serials.{Parted, Rises, own_serials, serials_of, merged}
 use Rattle.pm_client.specs.Rebases.{maps_of, start, rebased}
-use Rattle.pm_client.specs.Cursors.{IsWithin, moved_over}
+use Rattle.pm_client.specs.Cursors.{IsWithin}
 use Rattle.pm_client.specs.RebaseLaws.{maps-fit, plain-paired, cursors-move, fork, over-can, rebased-applied}
 use Rattle.pm_client.specs.declared.rebasing.Rebasing.{Rebasing}
+use Rattle.pm_client.specs.Timelines.{IsTimeline, edit_steps}
+use Rattle.pm_client.specs.TimelineLaws.{changes-are, timeline-append, edits-timeline, named-length, edits-length}
+use Rattle.pm_client.specs.Pasts.{past-carried}
 use Rattle.pm_client.specs.Partings.{parted-edited, parted-confirmed, parted-foreign}
 use Rattle.pm_client.specs.DropLaws.{parted-dropped, rebased-times, rebased-order, rebased-own}
 
@@ -105,15 +116,19 @@ module _ {Rules Doc Reason C : Type 0} (m : Meaning Rules Doc Reason C) (rules :
   pub doc-good : Laws m → m.is_good rules c.doc
   doc-good laws = fold-good m rules laws c.base c.doc (changes_of c.pending) (base-good laws) kin.doc_is
 
-  -- steps that were tried on the client's document
-  kin-tried : Laws m → (cs : List C) (next : Client C Rules Doc Reason) (r : Result Doc (Refusal Reason))
-      → run m rules c.doc 0 (named c.name (c.serials + 1) cs) ≡ r → tried m rules c cs r ≡ Ok next → Kin m rules first log next
-  kin-tried laws cs next (Err e) ran h = absurd (cc)
-  kin-tried laws cs next (Ok doc) ran h =
+  -- the document is the first one after the timeline
+  pub timeline-applies : fold m rules first (steps_changes kin.timeline) ≡ Some c.doc
+  timeline-applies =
+      ap (fold m rules first) (changes-are kin.timeline ∙ ap changes_of kin.timeline_is.named_are ∙ changes-append kin.before c.pending)
+      ∙ fold-append m rules first c.base (changes_of kin.before) (changes_of c.pending) kin.base_is ∙ kin.doc_is
+
+  -- own steps more, as the history has them
+  pub kin-gone_on : Laws m → (cs : List C) (doc : Doc) (more : List (Step C)) (h : Branches C) → AllApply m rules c.doc (named c.name (c.serials + 1) cs) doc
+      → IsTimeline c.name more (named c.name (c.serials + 1) cs) → IsHistoryOf m rules c.name (c.serials + length cs) first (kin.timeline ++ more) h
+      → length h.items ≡ length c.history.items + length cs → Kin m rules first log (gone_on m c cs doc h)
+  kin-gone_on laws cs doc more h applies more_are stands count =
       let new : List (Named C) = named c.name (c.serials + 1) cs in
-      let is : record c { doc = doc; pending = c.pending ++ new; serials = c.serials + length cs; cursors = moved_over (maps_of m new) c.cursors } ≡ next = cc in
-      let fits = maps-fit m rules laws c.doc doc new (doc-good laws) (run-fold m rules c.doc doc 0 new ran) in
-      subst (Kin m rules first log) is
+      let fits = maps-fit m rules laws c.doc doc new (doc-good laws) applies in
       record {
         before = kin.before;
         past = kin.past;
@@ -122,20 +137,44 @@ module _ {Rules Doc Reason C : Type 0} (m : Meaning Rules Doc Reason C) (rules :
         version_is = kin.version_is;
         base_is = kin.base_is;
         doc_is = ap (fold m rules c.base) (changes-append c.pending new)
-            ∙ fold-append m rules c.base c.doc (changes_of c.pending) (changes_of new) kin.doc_is ∙ run-fold m rules c.doc doc 0 new ran;
+            ∙ fold-append m rules c.base c.doc (changes_of c.pending) (changes_of new) kin.doc_is ∙ applies;
         first_good = kin.first_good;
         log_applies = kin.log_applies;
         own = Each-append (IsOwn c.name) c.pending new kin.own (named-own c.name (c.serials + 1) cs);
         cursors = (cursors-move (maps_of m new) (m.size c.doc) (m.size doc) (plain-paired m rules new) fits.0 c.cursors kin.cursors).1;
         parted = parted-edited c.name kin.before c.pending c.dropped c.serials kin.parted cs;
         stands = past-grows new kin.stands;
+        timeline = kin.timeline ++ more;
+        timeline_is = subst (IsTimeline c.name (kin.timeline ++ more)) (append_assoc kin.before c.pending new)
+            (timeline-append c.name kin.timeline more (kin.before ++ c.pending) new kin.timeline_is more_are);
+        history = stands;
+        remembered = omega (arith, count, kin.remembered, length-append c.pending new, named-length c.name (c.serials + 1) cs);
         messages = All-more _ _ c.messages (message-grows c.version c.pending new) kin.messages;
         answers = kin.answers;
       }
 
+  -- steps that were tried on the client's document
+  kin-tried : Laws m → (cs : List C) (event : Option ℕ) (next : Client C Rules Doc Reason) (r : Result Doc (Refusal Reason))
+      → run m rules c.doc 0 (named c.name (c.serials + 1) cs) ≡ r → tried m rules c cs event r ≡ Ok next → Kin m rules first log next
+  kin-tried laws cs event next (Err e) ran h = absurd (cc)
+  kin-tried laws cs event next (Ok doc) ran h =
+      let new : List (Named C) = named c.name (c.serials + 1) cs in
+      let ss : List (Step C) = edit_steps new in
+      let edits = edits-timeline c.name (c.serials + 1) cs in
+      let applies : AllApply m rules c.doc new doc = run-fold m rules c.doc doc 0 new ran in
+      let made : fold m rules c.doc (steps_changes ss) ≡ Some doc = ap (fold m rules c.doc) (changes-are ss ∙ ap changes_of edits.0.named_are) ∙ applies in
+      let n : length ss ≡ length cs = edits-length c.name (c.serials + 1) cs in
+      let history : Branches C = noted_all c.history (items_from m rules c.doc ss) (Edit event true) in
+      let stands : IsHistoryOf m rules c.name (c.serials + length cs) first (kin.timeline ++ ss) history =
+      subst (λ k. IsHistoryOf m rules c.name (c.serials + k) first (kin.timeline ++ ss) history) n
+      (history-call m rules c.name c.serials first c.doc doc kin.timeline ss c.history event true kin.history timeline-applies made edits.1) in
+      let is : gone_on m c cs doc history ≡ next = cc in
+      subst (Kin m rules first log) is
+      (kin-gone_on laws cs doc ss history applies edits.0 stands (length-append c.history.items (items_from m rules c.doc ss) ∙ ap (λ k. length c.history.items + k) (items-length m rules c.doc doc ss made ∙ n)))
+
   -- steps made
-  pub kin-edited : Laws m → (cs : List C) (next : Client C Rules Doc Reason) → edited m rules c cs ≡ Ok next → Kin m rules first log next
-  kin-edited laws cs next h = kin-tried laws cs next (run m rules c.doc 0 (named c.name (c.serials + 1) cs)) refl h
+  pub kin-edited : Laws m → (cs : List C) (event : Option ℕ) (next : Client C Rules Doc Reason) → edited m rules c cs event ≡ Ok next → Kin m rules first log next
+  kin-edited laws cs event next h = kin-tried laws cs event next (run m rules c.doc 0 (named c.name (c.serials + 1) cs)) refl h
 
   -- a message composed
   pub kin-composed : (kind : Kind) → Kin m rules first log (composed c kind)
@@ -153,6 +192,10 @@ module _ {Rules Doc Reason C : Type 0} (m : Meaning Rules Doc Reason C) (rules :
     cursors = kin.cursors;
     parted = kin.parted;
     stands = kin.stands;
+    timeline = kin.timeline;
+    timeline_is = kin.timeline_is;
+    history = kin.history;
+    remembered = kin.remembered;
     messages = All-push (MessageStands c.version c.pending) c.messages (message_of c kind) kin.messages (new kind);
     answers = kin.answers;
   }
@@ -177,6 +220,10 @@ module _ {Rules Doc Reason C : Type 0} (m : Meaning Rules Doc Reason C) (rules :
     cursors = Each-append (IsWithin (m.size c.doc)) c.cursors ((p, side) ∷ []) kin.cursors ((within, is_side), tt);
     parted = kin.parted;
     stands = kin.stands;
+    timeline = kin.timeline;
+    timeline_is = kin.timeline_is;
+    history = kin.history;
+    remembered = kin.remembered;
     messages = kin.messages;
     answers = kin.answers;
   }
@@ -197,6 +244,10 @@ module _ {Rules Doc Reason C : Type 0} (m : Meaning Rules Doc Reason C) (rules :
     cursors = kin.cursors;
     parted = kin.parted;
     stands = kin.stands;
+    timeline = kin.timeline;
+    timeline_is = kin.timeline_is;
+    history = kin.history;
+    remembered = kin.remembered;
     messages = kin.messages;
     answers = All-push (AnswerStands log c.version kin.standing) c.answers a kin.answers h;
   }
@@ -226,6 +277,10 @@ module _ {Rules Doc Reason C : Type 0} (m : Meaning Rules Doc Reason C) (rules :
       pending_is = kin.stands.pending_is;
       are_foreign = Each-append (IsForeign c.name) kin.stands.foreign more kin.stands.are_foreign far;
     };
+    timeline = kin.timeline;
+    timeline_is = kin.timeline_is;
+    history = kin.history;
+    remembered = kin.remembered;
     messages = kin.messages;
     answers = All-more _ _ c.answers (answer-grows log more c.version kin.standing) kin.answers;
   }
@@ -255,6 +310,11 @@ module _ {Rules Doc Reason C : Type 0} (m : Meaning Rules Doc Reason C) (rules :
         cursors = kin.cursors;
         parted = rw rest (parted-confirmed c.name kin.before s.standing s.later c.dropped c.serials (Each-front (IsOwn c.name) s.standing s.later (rw s.pending_is at kin.own)) (rw s.pending_is at kin.parted));
         stands = record { foreign = s.foreign; later = s.later; standing = []; counted = refl; past_is = refl; pending_is = rest; are_foreign = s.are_foreign };
+        timeline = kin.timeline;
+        timeline_is = subst (IsTimeline c.name kin.timeline)
+            (ap (λ l. kin.before ++ l) s.pending_is ∙ sym (append_assoc kin.before s.standing s.later) ∙ ap (λ l. kin.before ++ s.standing ++ l) (sym rest)) kin.timeline_is;
+        history = kin.history;
+        remembered = omega (arith, kin.remembered, length-drop kin.standing c.pending);
         messages = All-more _ _ c.messages (λ x a. message-passed c.version (c.version + kin.standing) c.pending (drop kin.standing c.pending) x (omega arith) a) kin.messages;
         answers = All-more _ _ c.answers (λ x a. answer-passed log c.version kin.standing 0 (c.version + kin.standing) x (omega arith) a) kin.answers;
       }
@@ -263,7 +323,7 @@ module _ {Rules Doc Reason C : Type 0} (m : Meaning Rules Doc Reason C) (rules :
   pub kin-brought : Laws m → (base : Doc) (front back : List (Named C)) (r : Rebasing C Rules Doc Reason) → 0 < length front → kin.stands.foreign ≡ front ++ back
       → fold m rules c.base (changes_of (kin.stands.standing ++ front)) ≡ Some base
       → r ≡ rebased m rules (start m base (maps_of m front)) kin.stands.later
-      → Kin m rules first log (brought c (length (kin.stands.standing ++ front)) base r)
+      → Kin m rules first log (brought m rules c kin.standing front base r)
   kin-brought laws base front back r some split h is =
       let s = kin.stands in
       let begun : Rebasing C Rules Doc Reason = start m base (maps_of m front) in
@@ -284,12 +344,14 @@ module _ {Rules Doc Reason C : Type 0} (m : Meaning Rules Doc Reason C) (rules :
       let f = fork m rules laws c.base base c.doc s.standing front s.later (base-good laws) h (ap (λ l. fold m rules c.base (changes_of l)) (sym s.pending_is) ∙ kin.doc_is) in
       let can = over-can m rules laws f.at base c.doc front s.later f.at_good f.left_applies f.right_applies in
       let reach = rw (← is) at can in
+      let past = past-carried m rules first log c kin laws base front f.at r (ap (fold m rules first) (changes-append kin.before s.standing) ∙ fold-append m rules first c.base (changes_of kin.before) (changes_of s.standing) kin.base_is ∙ f.reached)
+      f.left_applies f.right_applies far is in
       record {
         before = kin.before ++ taken;
         past = back;
         standing = 0;
         log_is = kin.log_is ∙ ap (λ l. kin.before ++ l) (s.past_is ∙ ap (λ l. s.standing ++ l) split ∙ sym (append_assoc s.standing front back)) ∙ sym (append_assoc kin.before taken back);
-        version_is = omega (arith, kin.version_is, length-append kin.before taken);
+        version_is = omega (arith, kin.version_is, n, length-append kin.before taken);
         base_is = ap (fold m rules first) (changes-append kin.before taken)
             ∙ fold-append m rules first c.base (changes_of kin.before) (changes_of taken) kin.base_is ∙ h;
         doc_is = rw is (rebased-applied m rules base begun s.later refl);
@@ -299,8 +361,12 @@ module _ {Rules Doc Reason C : Type 0} (m : Meaning Rules Doc Reason C) (rules :
         cursors = (cursors-move r.maps (m.size c.doc) (m.size r.doc) reach.paired reach.fits c.cursors kin.cursors).1;
         parted = subst (λ l. Parted c.name l r.kept (merged c.dropped r.dropped) c.serials) (append_assoc kin.before s.standing front) dropped_is;
         stands = record { foreign = back; later = r.kept; standing = []; counted = refl; past_is = refl; pending_is = refl; are_foreign = Each-back (IsForeign c.name) front back (rw split at s.are_foreign) };
-        messages = All-more _ _ c.messages (λ x a. message-passed c.version (c.version + length taken) c.pending r.kept x (omega (arith, n)) a) kin.messages;
-        answers = All-more _ _ c.answers (λ x a. answer-passed log c.version kin.standing (length front) (c.version + length taken) x (omega (arith, n)) a) kin.answers;
+        timeline = past.steps;
+        timeline_is = past.timeline_is;
+        history = past.history;
+        remembered = past.remembered;
+        messages = All-more _ _ c.messages (λ x a. message-passed c.version (c.version + (kin.standing + length front)) c.pending r.kept x (omega (arith, some)) a) kin.messages;
+        answers = All-more _ _ c.answers (λ x a. answer-passed log c.version kin.standing (length front) (c.version + (kin.standing + length front)) x (omega arith) a) kin.answers;
       }
 
   -- the client's own submission accepted
@@ -324,6 +390,10 @@ module _ {Rules Doc Reason C : Type 0} (m : Meaning Rules Doc Reason C) (rules :
         cursors = kin.cursors;
         parted = kin.parted;
         stands = record { foreign = []; later = pre.0; standing = steps; counted = refl; past_is = sym (append-nil steps); pending_is = sym pre.1; are_foreign = tt };
+        timeline = kin.timeline;
+        timeline_is = kin.timeline_is;
+        history = kin.history;
+        remembered = kin.remembered;
         messages = kin.messages;
         answers = All-more (AnswerStands log c.version kin.standing) _ c.answers (λ x a. answer-accepted log steps c.version (length steps) x at (rw zero_standing at a)) kin.answers;
       }
@@ -353,6 +423,10 @@ kin-new m rules name doc good = record {
   cursors = tt;
   parted = record { parts = λ s. omega arith; rise = tt; dropped_rise = tt };
   stands = record { foreign = []; later = []; standing = []; counted = refl; past_is = refl; pending_is = refl; are_foreign = tt };
+  timeline = [];
+  timeline_is = record { named_are = refl; own_are = tt };
+  history = history-new m rules name doc;
+  remembered = omega arith;
   messages = All-from_recursion _ [] tt;
   answers = All-from_recursion _ [] tt;
 }

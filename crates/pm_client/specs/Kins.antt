@@ -8,9 +8,12 @@ use Rattle.pm_authority.specs.declared.message.Message.TheVariants.{Submit, Ask}
 use Rattle.pm_authority.specs.declared.message.Answer.{Answer}
 use Rattle.pm_authority.specs.declared.message.Answer.TheVariants.{Accepted, WrongVersion, StepRefused, Entries}
 use Rattle.pm_authority.specs.Runs.{AllApply}
+use Rattle.pm_history.specs.Timelines.{Step}
+use Rattle.pm_history.specs.Standing.{IsHistoryOf}
 use Rattle.pm_client.specs.declared.client.Client.{Client}
 use Rattle.pm_client.specs.Serials.{Parted}
 use Rattle.pm_client.specs.Cursors.{AreWithin}
+use Rattle.pm_client.specs.Timelines.{IsTimeline}
 
 module _ {C : Type 0} where
   -- the step is this client's
@@ -62,7 +65,8 @@ module _ {Rules Doc Reason C : Type 0} (m : Meaning Rules Doc Reason C) (rules :
   -- version and what is past it. The first document is good, and the log's steps apply to it one after another; those
   -- before the version give the base, and the pending steps, which are all the client's, make of it the client's
   -- document, within which the cursors are. The serials drawn are parted, the log past the version is as `Past` says, and
-  -- each message and answer stands.
+  -- each message and answer stands. The client's history stands for its timeline, which is the log before the version and
+  -- then the pending steps, and has an item for each pending step.
   pub record Kin (log : List (Named C)) (c : Client C Rules Doc Reason) : Type 0 where
     pub before : List (Named C)
     pub past : List (Named C)
@@ -77,6 +81,10 @@ module _ {Rules Doc Reason C : Type 0} (m : Meaning Rules Doc Reason C) (rules :
     pub cursors : AreWithin (m.size c.doc) c.cursors
     pub parted : Parted c.name before c.pending c.dropped c.serials
     pub stands : Past c.name c.pending past standing
+    pub timeline : List (Step C)
+    pub timeline_is : IsTimeline c.name timeline (before ++ c.pending)
+    pub history : IsHistoryOf m rules c.name c.serials first timeline c.history
+    pub remembered : length c.pending ≤ length c.history.items
     pub messages : All (MessageStands c.version c.pending) c.messages
     pub answers : All (AnswerStands log c.version standing) c.answers
 

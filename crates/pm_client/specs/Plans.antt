@@ -1,5 +1,5 @@
 -- Taking an answer in two steps: a plan, which needs memory, and carrying it out, which needs none.
-use Rattle.std.specs.Prelude.{ℕ, ◌+◌, ◌≤◌, ◌<◌, ◌^◌, List, length, drop, All}
+use Rattle.std.specs.Prelude.{ℕ, ◌+◌, ◌-◌, ◌≤◌, ◌<◌, ◌^◌, List, length, drop, All}
 use Rattle.pm_change.specs.Changes.{Meaning}
 use Rattle.pm_authority.specs.declared.named.Named.{Named}
 use Rattle.pm_authority.specs.declared.message.Answer.{Answer}
@@ -9,9 +9,9 @@ use Rattle.pm_client.specs.declared.plan.Plan.{Plan}
 use Rattle.pm_client.specs.declared.plan.Plan.TheVariants.{Confirm, Rebase, PassOver, TellRefused}
 use Rattle.pm_client.specs.declared.taken.Taken.{Taken}
 use Rattle.pm_client.specs.declared.taken.Taken.TheVariants.{Confirmed, Rebased, Stale, Refused}
-use Rattle.pm_client.specs.Clients.{confirmed, carried, own_run}
+use Rattle.pm_client.specs.Clients.{confirmed, carried, carried_history, own_run}
 use Rattle.pm_client.specs.Cursors.{HasRoomIn}
-use Rattle.pm_client.specs.Rebasables.{CanRebaseOver}
+use Rattle.pm_client.specs.Rebasables.{NamedHasMap, CanRebaseOver}
 use Rattle.pm_client.specs.Kins.{AnswerStands, Kin}
 
 module _ {Rules Doc Reason C : Type 0} where
@@ -21,14 +21,24 @@ module _ {Rules Doc Reason C : Type 0} where
   carried_out c TellRefused = (Refused, c)
   carried_out c (Confirm own base) = (Confirmed own, confirmed c own base)
   carried_out c (Rebase own foreign base r dropped cursors) = (
-    Rebased own foreign (length r.dropped),
-    record c { version = c.version + (own + foreign); base = base; doc = r.doc; pending = r.kept; dropped = dropped; cursors = cursors },
+    Rebased own (length foreign.items) (length r.dropped),
+    record c {
+      version = c.version + (own + length foreign.items);
+      base = base;
+      doc = r.doc;
+      pending = r.kept;
+      dropped = dropped;
+      cursors = cursors;
+      history = carried_history c.history (length c.pending - own) foreign.items r.items;
+    },
   )
 
-  -- a plan that may be carried out: what it confirms is pending, and the version stays a number of 64 bits
+  -- A plan that may be carried out: what it confirms is pending, the history has an item for each pending step, and the
+  -- version stays a number of 64 bits.
   abbrev pub MayCarryOut : Client C Rules Doc Reason → Plan C Rules Doc Reason → Type 0
   MayCarryOut c (Confirm own base) = (own ≤ length c.pending) × (c.version + own < 2 ^ 64)
-  MayCarryOut c (Rebase own foreign base r dropped cursors) = c.version + (own + foreign) < 2 ^ 64
+  MayCarryOut c (Rebase own foreign base r dropped cursors) =
+      (own ≤ length c.pending) × (length c.pending ≤ length c.history.items) × (c.version + (own + length foreign.items) < 2 ^ 64)
   MayCarryOut c p = Unit {0}
 
 module _ {Rules Doc Reason C : Type 0} (m : Meaning Rules Doc Reason C) (rules : Rules) where
@@ -49,8 +59,8 @@ module _ {Rules Doc Reason C : Type 0} (m : Meaning Rules Doc Reason C) (rules :
     pub short : c.version + own < 2 ^ 64
 
   -- The entries past the version apply to the base one after another, their leading own ones may be confirmed, the later
-  -- pending steps may be carried over others', the maps of which have room for the cursors, and the version stays a number
-  -- of 64 bits.
+  -- pending steps may be carried over others', the maps of which have room for the cursors, the history has an item for each
+  -- pending step, and the version stays a number of 64 bits.
   pub record Fits (c : Client C Rules Doc Reason) (rest : List (Named C)) : Type 0 where
     pub leading : MayConfirm c (own_run c.name rest)
     pub applies : (end : Doc) × AllApply m rules c.base rest end
@@ -58,4 +68,6 @@ module _ {Rules Doc Reason C : Type 0} (m : Meaning Rules Doc Reason C) (rules :
         → CanRebaseOver m rules base (drop (own_run c.name rest) rest) (drop (own_run c.name rest) c.pending)
     pub room : (base : Doc) → AllApply m rules c.base rest base
         → All (HasRoomIn (carried m rules c (own_run c.name rest) (drop (own_run c.name rest) rest) base).maps) c.cursors
+    pub have_maps : All (NamedHasMap m) (drop (own_run c.name rest) rest)
+    pub remembered : length c.pending ≤ length c.history.items
     pub short : c.version + length rest < 2 ^ 64

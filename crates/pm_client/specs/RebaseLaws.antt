@@ -57,7 +57,7 @@ module _ {Rules Doc Reason C : Type 0} (m : Meaning Rules Doc Reason C) (rules :
         fit-front so.maps (inverted_ranges (m.step_map n.change)) None (m.size next) (m.size old) (m.size so.doc) (laws.small rules next next_good)
         (inverted-fits (m.step_map n.change) (m.size old) (m.size next) (laws.fits rules n.change old next old_good applies)) fits
 
-    held-fits : (c : C) (d : Doc) → m.outcome rules c so.doc ≡ Ok d → FitBetween (held m so n c d).maps (m.size next) (m.size d)
+    held-fits : (c : C) (d : Doc) → m.outcome rules c so.doc ≡ Ok d → FitBetween (held m rules so n c d).maps (m.size next) (m.size d)
     held-fits c d ok =
         let d_good : m.is_good rules d = laws.good rules c so.doc d new_good ok in
         fit-front (so.maps ++ entry (m.step_map c) None ∷ []) (inverted_ranges (m.step_map n.change))

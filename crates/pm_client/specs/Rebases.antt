@@ -1,10 +1,12 @@
 -- Pending steps carried over others' steps.
 use Rattle.std.specs.Prelude.{List, [], ◌∷◌, ◌++◌, map, Option, Some, None, Result, Ok, Err}
+use Rattle.pm_map.specs.declared.step_map.Span.{Span}
 use Rattle.pm_map.specs.declared.mapping.Mirrored.{Mirrored}
 use Rattle.pm_map.specs.Moves.{inverted_ranges}
 use Rattle.pm_map.specs.Mirrors.{entry, fronted, enclosed}
 use Rattle.pm_change.specs.Changes.{Meaning}
 use Rattle.pm_authority.specs.declared.named.Named.{Named}
+use Rattle.pm_history.specs.Undos.{own_item}
 use Rattle.pm_client.specs.declared.rebasing.Rebasing.{Rebasing}
 
 module _ {Rules Doc Reason C : Type 0} (m : Meaning Rules Doc Reason C) where
@@ -16,9 +18,13 @@ module _ {Rules Doc Reason C : Type 0} (m : Meaning Rules Doc Reason C) where
   abbrev pub maps_of : List (Named C) → List Mirrored
   maps_of ns = map map_of ns
 
+  -- the ranges of steps one after another
+  abbrev pub ranges_of : List (Named C) → List (List Span)
+  ranges_of ns = map (λ (n : Named C). m.step_map n.change) ns
+
   -- No pending step was gone through yet: others' maps lead to this document.
   abbrev pub start : Doc → List Mirrored → Rebasing C Rules Doc Reason
-  start doc maps = record { doc = doc; maps = maps; kept = []; dropped = [] }
+  start doc maps = record { doc = doc; maps = maps; kept = []; items = []; dropped = [] }
 
   -- A step is lost: its map back stands in front, alone.
   abbrev pub lost : Rebasing C Rules Doc Reason → Named C → Rebasing C Rules Doc Reason
@@ -27,19 +33,20 @@ module _ {Rules Doc Reason C : Type 0} (m : Meaning Rules Doc Reason C) where
     dropped = so.dropped ++ n.name.serial ∷ [];
   }
 
+module _ {Rules Doc Reason C : Type 0} (m : Meaning Rules Doc Reason C) (rules : Rules) where
   -- A step is kept as the change c, which makes the document d: its map back stands in front, and the map of c behind as
-  -- the mirror of that.
+  -- the mirror of that. Its item has the changes that undo c on the document before it.
   abbrev pub held : Rebasing C Rules Doc Reason → Named C → C → Doc → Rebasing C Rules Doc Reason
   held so n c d = record so {
     doc = d;
     maps = enclosed so.maps (inverted_ranges (m.step_map n.change)) (m.step_map c);
     kept = so.kept ++ record { name = n.name; change = c } ∷ [];
+    items = so.items ++ own_item m rules n.name.client so.doc c n.name.serial None ∷ [];
   }
 
-module _ {Rules Doc Reason C : Type 0} (m : Meaning Rules Doc Reason C) (rules : Rules) where
   -- a carried step is kept where it applies
   abbrev pub ended : Rebasing C Rules Doc Reason → Named C → C → Result Doc Reason → Rebasing C Rules Doc Reason
-  ended so n c (Ok d) = held m so n c d
+  ended so n c (Ok d) = held so n c d
   ended so n c (Err r) = lost m so n
 
   -- nothing is left of a step, or it goes on as the change c

@@ -74,7 +74,7 @@ module _ {Rules Doc Reason C : Type 0} (m : Meaning Rules Doc Reason C) (rules :
       (brings : (base : Doc) (front back : List (Named C)) (r : Rebasing C Rules Doc Reason) → 0 < length front → kin.stands.foreign ≡ front ++ back
       → fold m rules c.base (changes_of (kin.stands.standing ++ front)) ≡ Some base
       → r ≡ rebased m rules (start m base (maps_of m front)) kin.stands.later
-      → Q (brought c (length (kin.stands.standing ++ front)) base r)) where
+      → Q (brought m rules c kin.standing front base r)) where
     one-given : (o : Option Doc) (next : Doc → Taken × Client C Rules Doc Reason) → ((d : Doc) → o ≡ Some d → Q (next d).1)
         → Q (given c o next).1
     one-given None next h = now
@@ -111,13 +111,14 @@ module _ {Rules Doc Reason C : Type 0} (m : Meaning Rules Doc Reason C) (rules :
             one-given (fold m rules c.base (changes_of rest))
             (λ base.
             let so = carried m rules c own (drop own rest) base in
-            (Rebased own (length rest - own) (length so.dropped), brought c (length rest) base so))
+            (Rebased own (length rest - own) (length so.dropped), brought m rules c own (drop own rest) base so))
             (λ d h.
             let so = carried m rules c own (drop own rest) d in
             let is : so ≡ rebased m rules (start m d (maps_of m r.front)) s.later = rw (front_is, later_is) refl in
-            rw (ap length r.rest_is)
+            subst (λ (n : ℕ). Q (brought m rules c n (drop own rest) d so)) (sym r.own_is)
+            (subst (λ (l : List (Named C)). Q (brought m rules c kin.standing l d so)) (sym front_is)
             (brings d r.front r.after so
-            (positive (length r.front) (λ z. more (omega (arith, n, z, r.own_is)))) r.foreign_is (rw r.rest_is at h) is))
+            (positive (length r.front) (λ z. more (omega (arith, n, z, r.own_is)))) r.foreign_is (rw r.rest_is at h) is)))
           where
             positive : (k : ℕ) → (k ≡ 0 → ⊥) → 0 < k
             positive zero h = absurd (h refl)

@@ -1,42 +1,35 @@
 //! A client: its base, what is pending, and its document.
-ghost use Rattle.std.specs.Prelude.{◌≡◌, ◌+◌, ◌-◌, ◌<◌, ◌≤◌, ◌^◌, List, [], length, take, Ok, Some, IfOk, IfErr, OnOk, OnErr};
-ghost use Rattle.pm_authority.specs.Runs.{AllApply};
+ghost use Rattle.std.specs.Prelude.{◌≡◌, ◌+◌, ◌-◌, ◌<◌, ◌≤◌, ◌^◌, List, [], length, Some, IfOk, IfErr, OnOk, OnErr};
 ghost use Rattle.pm_authority.specs.declared.named.Named.{Named};
-ghost use Rattle.pm_authority.specs.declared.message.Answer.TheVariants.{Accepted, Entries};
 ghost use Rattle.pm_map.specs.Moves.{IsSide};
-ghost use Rattle.pm_client.specs.Clients.{new_client, edited, IsRefusal, cursor_set, IsCursorRefusal, composed, kept, message_of, message_at, taken, taken_at, rest_taken, confirmed_first, own_run};
-ghost use Rattle.pm_client.specs.Cursors.{AreWithin};
-ghost use Rattle.pm_client.specs.TokenNames.{KeepsTokens};
-ghost use Rattle.pm_client.specs.Kins.{AnswerStands, Kin, Stands};
-ghost use Rattle.pm_client.specs.Plans.{carried_out, MayCarryOut, Meets, MayConfirm, Fits};
+ghost use Rattle.pm_client.specs.Clients.{new_client, cursor_set, IsCursorRefusal, composed, kept, message_of, message_at};
+ghost use Rattle.pm_client.specs.Kins.{AnswerStands, Kin};
 
-use crate::cursors::move_all;
-use crate::failing::{CursorError, EditError};
-use crate::naming::{name_steps, own_steps};
-use crate::plan::Plan;
-use crate::rebasing::{Rebasing, maps_over, rebase_over};
-use crate::serials::merge;
-use crate::taken::{Kind, Taken};
-use pm_authority::{Answer, Message, Named, Refusal, apply_all, copy_steps};
-use pm_change::{Change, Failed};
+use crate::failing::CursorError;
+use crate::taken::Kind;
+use pm_authority::{Answer, Message, Named, copy_steps};
+use pm_change::Change;
+use pm_history::Branches;
 use pm_list::Listed;
 use std::alloc::{AllocError, Global};
 
 /// A client. `base` is the document after the first `version` steps of the log, and `doc` is the base after the pending
 /// steps. It keeps the messages that it composed and the answers that it was given, each under a number from 1 on. A cursor
-/// is a position in the document, in tokens, and a side, 1 or -1.
+/// is a position in the document, in tokens, and a side, 1 or -1. `history` stands for the client's timeline: the log's first
+/// `version` steps, and then the pending ones.
 #[derive(Drop)]
 pub struct Client<C: Change> {
-    name: u32,
-    version: u64,
-    base: C::Doc,
-    doc: C::Doc,
-    pending: Listed<Named<C>>,
-    messages: Listed<Message<C>>,
-    answers: Listed<Answer<C>>,
-    serials: u64,
-    dropped: Listed<u64>,
-    cursors: Listed<(u64, i8)>,
+    pub(crate) name: u32,
+    pub(crate) version: u64,
+    pub(crate) base: C::Doc,
+    pub(crate) doc: C::Doc,
+    pub(crate) pending: Listed<Named<C>>,
+    pub(crate) messages: Listed<Message<C>>,
+    pub(crate) answers: Listed<Answer<C>>,
+    pub(crate) serials: u64,
+    pub(crate) dropped: Listed<u64>,
+    pub(crate) cursors: Listed<(u64, i8)>,
+    pub(crate) history: Branches<C>,
 }
 
 impl<C: Change> Client<C> {
@@ -57,6 +50,7 @@ impl<C: Change> Client<C> {
             serials: 0,
             dropped: Listed::new(alloc),
             cursors: Listed::new(alloc),
+            history: Branches::new(alloc),
         })
     }
 
@@ -109,6 +103,13 @@ impl<C: Change> Client<C> {
         self.cursors.as_slice()
     }
 
+    /// The items of the client's timeline, and the events that it can undo and redo.
+    pub fn history(&self) -> &Branches<C>
+        ensures { result.now ≡ self.now.history }
+    {
+        &self.history
+    }
+
     /// How many messages were composed.
     pub fn composed(&self) -> u64
         ensures { result ≡ length self.now.messages }
@@ -121,53 +122,6 @@ impl<C: Change> Client<C> {
         ensures { result ≡ length self.now.answers }
     {
         self.answers.len() as u64
-    }
-
-    /// Makes these steps, one after another, on the client's document, and tells their number. They are pending under the
-    /// next serials, and each cursor goes through their maps by its side. `Refused` comes exactly where one of them does not
-    /// apply, and names the first. Then, and for want of memory, the client is as it was. There is no serial past 2^64 - 1:
-    /// asked for one, the client answers `NoMemory`.
-    ///
-    /// The client's document must be good under these rules, and its cursors within it, as they are where it stands to a
-    /// log.
-    pub fn edit(
-        &mut self,
-        alloc: Global,
-        rules: &C::Rules,
-        steps: Vec<C>,
-    ) -> Result<u64, EditError<C::Reason>>
-        requires good { C.means.is_good rules.now self.old.doc }
-        requires cursors { AreWithin (C.means.size self.old.doc) self.old.cursors }
-        ensures count { IfOk result (λ n. n ≡ length steps.items) }
-        ensures made { IfOk result (λ n. edited C.means rules.now self.old steps.items ≡ Ok self.new) }
-        ensures refused { IfErr result (IsRefusal C.means rules.now (edited C.means rules.now self.old steps.items)) }
-        ensures err { OnErr result (self.new ≡ self.old) }
-        // To what log the client stood, it stands.
-        ensures kin { (first : C.Doc) (log : List (Named C)) → Kin C.means rules.now first log self.old
-            → Kin C.means rules.now first log self.new }
-        // A cursor with side 1 that stood before a token stands before it, where that is still there.
-        ensures tokens { OnOk result ((first : C.Doc) (log : List (Named C)) → Kin C.means rules.now first log self.old
-            → KeepsTokens C.means log self.old self.new (C.means.size self.old.base)) }
-    {
-        let count = steps.len() as u64;
-        let serial = self.serials.checked_add(1).ok_or(AllocError)?;
-        let serials = self.serials.checked_add(count).ok_or(AllocError)?;
-        let added = name_steps(alloc, self.name, serial, steps)?;
-        match apply_all(alloc, rules, &self.doc, added.as_slice()) {
-            Ok(next) => {
-                let maps = maps_over(alloc, added.as_slice())?;
-                let cursors = move_all(alloc, self.cursors.as_slice(), &maps)?;
-                self.pending.append(added)?;
-                self.doc = next;
-                self.serials = serials;
-                self.cursors = cursors;
-                Ok(count)
-            }
-            Err(Failed::Reason(Refusal { index, reason })) => {
-                Err(EditError::Refused { index, reason })
-            }
-            Err(Failed::NoMemory) => Err(EditError::NoMemory),
-        }
     }
 
     /// Sets one cursor more, at this position of the client's document and with this side, 1 or -1. `Range` comes exactly
@@ -247,209 +201,5 @@ impl<C: Change> Client<C> {
     {
         self.answers.push(answer)?;
         Ok(self.answers.len() as u64)
-    }
-
-    /// Takes the answer of this number, which was kept. `Refused` comes exactly for `WrongVersion` and `StepRefused`,
-    /// `Stale` exactly where an `Accepted` or `Entries` holds nothing past the version, and `Confirmed` exactly where what it
-    /// holds past the version is own steps alone. Else it is `Rebased`: the leading own steps are confirmed, others' steps
-    /// are applied to the base, and each later pending step is carried over the maps back of those before it, others' maps
-    /// and the maps of those kept so far. It is kept where something of it is left that applies; else its serial is among
-    /// `dropped` from now on. Each cursor goes through that whole mapping by its side. Only `Confirmed` and `Rebased` change
-    /// the client, and want of memory does not.
-    ///
-    /// Under the rules that are lent the client must stand to a log. Each call keeps this.
-    pub fn take(&mut self, alloc: Global, rules: &C::Rules, i: u64) -> Result<Taken, AllocError>
-        requires kept { (0 < i) × (i ≤ length self.old.answers) }
-        requires stands { Stands C.means rules.now self.old }
-        ensures takes { IfOk result (λ t. (t, self.new) ≡ taken_at C.means rules.now self.old i) }
-        ensures err { OnErr result (self.new ≡ self.old) }
-        // To what log the client stood, it stands.
-        ensures kin { (first : C.Doc) (log : List (Named C)) → Kin C.means rules.now first log self.old
-            → Kin C.means rules.now first log self.new }
-        // A cursor with side 1 that stood before a token stands before it, where that is still there.
-        ensures tokens { OnOk result ((first : C.Doc) (log : List (Named C)) → Kin C.means rules.now first log self.old
-            → KeepsTokens C.means log self.old self.new (C.means.size self.old.base)) }
-    {
-        let plan = self.plan(alloc, rules, i)?;
-        Ok(self.carry_out(plan))
-    }
-
-    /// What taking the answer of this number is to do.
-    fn plan(&self, alloc: Global, rules: &C::Rules, i: u64) -> Result<Plan<C>, AllocError>
-        requires kept { (0 < i) × (i ≤ length self.now.answers) }
-        requires stands { Stands C.means rules.now self.now }
-        ensures plan { IfOk result (λ p. carried_out self.now p ≡ taken_at C.means rules.now self.now i) }
-        ensures may { IfOk result (MayCarryOut self.now) }
-    {
-        let answer = &self.answers.as_slice()[i as usize - 1];
-        self.plan_for(alloc, rules, answer)
-    }
-
-    /// What taking this answer is to do.
-    fn plan_for(
-        &self,
-        alloc: Global,
-        rules: &C::Rules,
-        answer: &Answer<C>,
-    ) -> Result<Plan<C>, AllocError>
-        requires { Meets C.means rules.now self.now answer.now }
-        ensures plan { IfOk result (λ p. carried_out self.now p ≡ taken C.means rules.now self.now answer.now) }
-        ensures may { IfOk result (MayCarryOut self.now) }
-    {
-        match answer {
-            Answer::Accepted { from, count } => self.plan_accepted(alloc, rules, *from, *count),
-            Answer::Entries { since, entries } => {
-                self.plan_entries(alloc, rules, *since, entries.as_slice())
-            }
-            Answer::WrongVersion { length: _ } => Ok(Plan::TellRefused),
-            Answer::StepRefused {
-                index: _,
-                reason: _,
-            } => Ok(Plan::TellRefused),
-        }
-    }
-
-    /// What taking an `Accepted` is to do: past the version it holds the first pending steps, or nothing.
-    fn plan_accepted(
-        &self,
-        alloc: Global,
-        rules: &C::Rules,
-        from: u64,
-        count: u64,
-    ) -> Result<Plan<C>, AllocError>
-        requires { Meets C.means rules.now self.now (Accepted from count) }
-        ensures plan { IfOk result (λ p. carried_out self.now p ≡ taken C.means rules.now self.now (Accepted from count)) }
-        ensures may { IfOk result (MayCarryOut self.now) }
-    {
-        if count <= self.version - from {
-            return Ok(Plan::PassOver);
-        }
-        self.plan_confirm(alloc, rules, count as usize)
-    }
-
-    /// What taking entries is to do. Those before the version are passed over.
-    fn plan_entries(
-        &self,
-        alloc: Global,
-        rules: &C::Rules,
-        since: u64,
-        entries: &[Named<C>],
-    ) -> Result<Plan<C>, AllocError>
-        requires { Meets C.means rules.now self.now (Entries since entries.now) }
-        ensures plan { IfOk result (λ p. carried_out self.now p ≡ taken C.means rules.now self.now (Entries since entries.now)) }
-        ensures may { IfOk result (MayCarryOut self.now) }
-    {
-        let skipped = self.version - since;
-        if entries.len() as u64 <= skipped {
-            return Ok(Plan::PassOver);
-        }
-        self.plan_rest(alloc, rules, &entries[skipped as usize..])
-    }
-
-    /// What taking the entries past the version is to do.
-    fn plan_rest(
-        &self,
-        alloc: Global,
-        rules: &C::Rules,
-        rest: &[Named<C>],
-    ) -> Result<Plan<C>, AllocError>
-        requires { Fits C.means rules.now self.now rest.now }
-        ensures plan { IfOk result (λ p. carried_out self.now p ≡ rest_taken C.means rules.now self.now rest.now (own_run self.now.name rest.now)) }
-        ensures may { IfOk result (MayCarryOut self.now) }
-    {
-        let own = own_steps(self.name, rest);
-        if own == rest.len() {
-            return self.plan_confirm(alloc, rules, own);
-        }
-        let base = advance(alloc, rules, &self.base, rest)?;
-        let later = &self.pending.as_slice()[own..];
-        let rebasing = rebase_over(alloc, rules, &base, &rest[own..], later)?;
-        Ok(Plan::Rebase {
-            own: own as u64,
-            foreign: (rest.len() - own) as u64,
-            base,
-            dropped: merge(alloc, self.dropped.as_slice(), rebasing.dropped.as_slice())?,
-            cursors: move_all(alloc, self.cursors.as_slice(), &rebasing.maps)?,
-            rebasing,
-        })
-    }
-
-    /// The plan that confirms the first pending steps.
-    fn plan_confirm(
-        &self,
-        alloc: Global,
-        rules: &C::Rules,
-        own: usize,
-    ) -> Result<Plan<C>, AllocError>
-        requires { MayConfirm C.means rules.now self.now own }
-        ensures plan { IfOk result (λ p. carried_out self.now p ≡ confirmed_first C.means rules.now self.now own) }
-        ensures may { IfOk result (MayCarryOut self.now) }
-    {
-        let base = advance(alloc, rules, &self.base, &self.pending.as_slice()[..own])?;
-        Ok(Plan::Confirm {
-            own: own as u64,
-            base,
-        })
-    }
-
-    /// Carries a plan out, and tells what it did. It takes no memory.
-    fn carry_out(&mut self, plan: Plan<C>) -> Taken
-        requires { MayCarryOut self.old plan }
-        ensures { (result, self.new) ≡ carried_out self.old plan }
-    {
-        match plan {
-            Plan::PassOver => Taken::Stale,
-            Plan::TellRefused => Taken::Refused,
-            Plan::Confirm { own, base } => {
-                self.version += own;
-                self.base = base;
-                self.pending.drop_front(own as usize);
-                Taken::Confirmed { own }
-            }
-            Plan::Rebase {
-                own,
-                foreign,
-                base,
-                rebasing,
-                dropped,
-                cursors,
-            } => {
-                let Rebasing {
-                    doc,
-                    maps: _,
-                    kept,
-                    dropped: lost,
-                } = rebasing;
-                self.version += own + foreign;
-                self.base = base;
-                self.doc = doc;
-                self.pending = kept;
-                self.dropped = dropped;
-                self.cursors = cursors;
-                Taken::Rebased {
-                    own,
-                    foreign,
-                    dropped: lost.len() as u64,
-                }
-            }
-        }
-    }
-}
-
-/// The document after steps that are known to apply.
-fn advance<C: Change>(
-    alloc: Global,
-    rules: &C::Rules,
-    doc: &C::Doc,
-    steps: &[Named<C>],
-) -> Result<C::Doc, AllocError>
-    requires good { C.means.is_good rules.now doc.now }
-    requires applies { ((end : C.Doc) × AllApply C.means rules.now doc.now steps.now end) }
-    ensures { IfOk result (AllApply C.means rules.now doc.now steps.now) }
-{
-    match apply_all(alloc, rules, doc, steps) {
-        Ok(end) => Ok(end),
-        Err(Failed::NoMemory) => Err(AllocError),
-        Err(Failed::Reason(_)) => unreachable!(),
     }
 }

@@ -1,6 +1,7 @@
-//! Why steps were not made, or a cursor not set.
+//! Why steps were not made or undone, or a cursor not set.
 ghost use Rattle.std.specs.Prelude.{◌≡◌};
 ghost use Rattle.pm_client.specs.declared.failing.EditError.TheVariants.{NoMemory};
+ghost use Rattle.pm_client.specs.declared.failing.UndoError.TheVariants.{NoMemory as NoUndoMemory};
 ghost use Rattle.pm_client.specs.declared.failing.CursorError.TheVariants.{NoMemory as NoCursorMemory};
 
 use std::alloc::{AllocError, AllocFailed};
@@ -30,6 +31,33 @@ impl<R, T: Drop> From<AllocFailed<T>> for EditError<R> {
 
     fn from(_error: AllocFailed<T>) -> EditError<R> {
         EditError::NoMemory
+    }
+}
+
+/// Why no event was undone or redone.
+#[derive(Clone, Copy, Debug, PartialEq, Eq, Error)]
+pub enum UndoError {
+    /// There is no event to undo, or to redo.
+    #[error("there is nothing to undo")]
+    NothingToUndo,
+    /// Memory ran out, or the serials did.
+    #[error("out of memory")]
+    NoMemory,
+}
+
+impl From<AllocError> for UndoError {
+    ghost from_gives = { λ _ e. e ≡ NoUndoMemory };
+
+    fn from(_error: AllocError) -> UndoError {
+        UndoError::NoMemory
+    }
+}
+
+impl<T: Drop> From<AllocFailed<T>> for UndoError {
+    ghost from_gives = { λ _ e. e ≡ NoUndoMemory };
+
+    fn from(_error: AllocFailed<T>) -> UndoError {
+        UndoError::NoMemory
     }
 }
 

@@ -3,15 +3,18 @@
 
 pub mod client;
 pub mod cursors;
+pub mod editing;
 pub mod failing;
+pub mod making;
 pub mod naming;
 pub mod plan;
 pub mod rebasing;
 pub mod serials;
 pub mod taken;
+pub mod taking;
 #[cfg(test)]
 mod tests;
 
 pub use client::Client;
-pub use failing::{CursorError, EditError};
+pub use failing::{CursorError, EditError, UndoError};
 pub use taken::{Kind, Taken};

@@ -2,8 +2,9 @@
 use crate::rebasing::Rebasing;
 use pm_change::Change;
 use pm_list::Listed;
+use pm_map::StepMap;
 
-/// What taking an answer is to do, with all that it needs, so that doing it takes no memory.
+/// What taking an answer is to do, with all that it needs. Doing it takes memory for the history alone.
 #[derive(Drop)]
 pub enum Plan<C: Change> {
     /// Pass the answer over: it holds nothing past the version.
@@ -15,11 +16,11 @@ pub enum Plan<C: Change> {
         own: u64,
         base: C::Doc,
     },
-    /// Go on by `own` own steps and `foreign` ones of others to this base. The later pending steps were carried over
-    /// others', and these are the serials dropped and the cursors after that.
+    /// Go on by `own` own steps and by others' with the maps `foreign` to this base. The later pending steps were carried
+    /// over others', and these are the serials dropped and the cursors after that.
     Rebase {
         own: u64,
-        foreign: u64,
+        foreign: Vec<StepMap>,
         base: C::Doc,
         rebasing: Rebasing<C>,
         dropped: Listed<u64>,

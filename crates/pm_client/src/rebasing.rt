@@ -1,24 +1,29 @@
 //! Pending steps carried over others' steps.
-ghost use Rattle.std.specs.Prelude.{◌≡◌, ◌++◌, ◌∷◌, [], IfOk, OnOk, All};
+ghost use Rattle.std.specs.Prelude.{◌≡◌, ◌++◌, ◌∷◌, [], None, Ok, IfOk, OnOk, All};
 ghost use Rattle.pm_map.specs.Mirrors.{fronted, enclosed};
 ghost use Rattle.pm_map.specs.Through.{SameShape};
+ghost use Rattle.pm_history.specs.Undos.{own_item};
 ghost use Rattle.pm_client.specs.Rebases.{maps_of, start, rebased_one, rebased};
-ghost use Rattle.pm_client.specs.Rebasables.{HasMap, NamedHasMap, CanRebase, CanRebaseOver, MayRebase};
+ghost use Rattle.pm_client.specs.Rebasables.{NamedHasMap, CanRebase, CanRebaseOver, MayRebase};
 
+use crate::making::item_of;
 use pm_authority::{Name, Named};
 use pm_change::{Change, Failed};
+use pm_history::Item;
 use pm_list::Listed;
 use pm_map::{Mapping, StepMap};
 use std::alloc::{AllocError, Global};
 
 /// How far pending steps were carried. `maps` leads from the document before those that were gone through to `doc`: over
 /// the maps back of them all, from the latest to the first, over others' maps, and over the maps of the steps kept, each
-/// of which is the mirror of the map back of the step that it comes from.
+/// of which is the mirror of the map back of the step that it comes from. `items`: the items of the steps kept, none of
+/// which says yet what its step undoes.
 #[derive(Drop)]
 pub struct Rebasing<C: Change> {
     pub doc: C::Doc,
     pub maps: Mapping,
     pub kept: Listed<Named<C>>,
+    pub items: Listed<Item<C>>,
     /// The serials of the steps that were lost, in the order in which these were pending.
     pub dropped: Listed<u64>,
 }
@@ -36,7 +41,7 @@ impl<C: Change> Rebasing<C> {
             None => return self.lose(back, step.name.serial),
         };
         match change.apply(alloc, rules, &self.doc) {
-            Ok(doc) => self.hold(back, step.name, change, doc),
+            Ok(doc) => self.hold(alloc, rules, back, step.name, change, doc),
             Err(Failed::Reason(_)) => self.lose(back, step.name.serial),
             Err(Failed::NoMemory) => Err(AllocError),
         }
@@ -52,13 +57,23 @@ impl<C: Change> Rebasing<C> {
     }
 
     /// Keeps a step in its carried form, which makes this document. Its map stands behind, as the mirror of the map back.
-    fn hold(&mut self, back: StepMap, name: Name, change: C, doc: C::Doc) -> Result<(), AllocError>
-        requires map { HasMap C.means change }
+    fn hold(
+        &mut self,
+        alloc: Global,
+        rules: &C::Rules,
+        back: StepMap,
+        name: Name,
+        change: C,
+        doc: C::Doc,
+    ) -> Result<(), AllocError>
+        requires good { C.means.is_good rules.now self.old.doc }
+        requires applies { C.means.outcome rules.now change self.old.doc ≡ Ok doc }
         requires mirrors { SameShape back (C.means.step_map change) }
-        ensures { OnOk result (self.new ≡ record self.old { doc = doc; maps = enclosed self.old.maps back (C.means.step_map change); kept = self.old.kept ++ record { name = name; change = change } ∷ [] }) }
+        ensures { OnOk result (self.new ≡ record self.old { doc = doc; maps = enclosed self.old.maps back (C.means.step_map change); kept = self.old.kept ++ record { name = name; change = change } ∷ []; items = self.old.items ++ own_item C.means rules.now name.client self.old.doc change name.serial None ∷ [] }) }
     {
-        let map = change.step_map();
-        self.maps.enclose(back, map)?;
+        let item = item_of(alloc, rules, &self.doc, name, &change)?;
+        self.maps.enclose(back, change.step_map())?;
+        self.items.push(item)?;
         self.kept.push(Named { name, change })?;
         self.doc = doc;
         Ok(())
@@ -80,6 +95,7 @@ fn rebase<C: Change>(
         doc,
         maps,
         kept: Listed::new(alloc),
+        items: Listed::new(alloc),
         dropped: Listed::new(alloc),
     };
     for step in steps {

@@ -122,12 +122,13 @@ fn steps_are_made_under_their_names_or_none_is(rt: HostRuntime) -> Result<(), Al
         alloc,
         &limit,
         steps(alloc, &[50, 101, 1])?,
+        None,
     ) else {
         return Err(AllocError);
     };
     assert_eq!(rt; (index, reason), (1, Reason::Over));
     assert_eq!(rt; (*client.doc(), client.pending().len()), (40, 0));
-    let made = client.edit(alloc, &limit, steps(alloc, &[50, 5, 4])?);
+    let made = client.edit(alloc, &limit, steps(alloc, &[50, 5, 4])?, None);
     assert!(rt; matches!(made, Ok(3)));
     assert_eq!(rt;
         (
@@ -153,7 +154,7 @@ fn steps_are_made_under_their_names_or_none_is(rt: HostRuntime) -> Result<(), Al
 fn messages_and_answers_are_numbered(rt: HostRuntime) -> Result<(), AllocError> {
     let alloc = rt.alloc();
     let mut client: Client<Set> = Client::new(alloc, 7, 40)?;
-    let made = client.edit(alloc, &100, steps(alloc, &[50])?);
+    let made = client.edit(alloc, &100, steps(alloc, &[50])?, None);
     assert!(rt; made.is_ok());
 
     assert_eq!(rt; client.compose(alloc, Kind::Submit)?, 1);

@@ -7,11 +7,14 @@ use Rattle.pm_authority.specs.declared.running.Refusal.{Refusal}
 use Rattle.pm_authority.specs.declared.message.Answer.{Answer}
 use Rattle.pm_authority.specs.declared.message.Answer.TheVariants.{Accepted, WrongVersion, StepRefused, Entries}
 use Rattle.pm_authority.specs.Runs.{run}
+use Rattle.pm_history.specs.declared.branches.Branches.{Branches}
+use Rattle.pm_history.specs.declared.branches.Side.TheVariants.{Edit}
+use Rattle.pm_history.specs.Histories.{noted_all}
+use Rattle.pm_history.specs.Timelines.{items_from}
 use Rattle.pm_client.specs.declared.client.Client.{Client}
 use Rattle.pm_client.specs.declared.taken.Taken.{Taken}
-use Rattle.pm_client.specs.Clients.{named, own_run, edited, tried, given, kept, answer_at, confirmed, brought, carried, confirmed_first, rest_taken, taken, taken_if, taken_at}
-use Rattle.pm_client.specs.Rebases.{maps_of}
-use Rattle.pm_client.specs.Cursors.{moved_over}
+use Rattle.pm_client.specs.Clients.{named, own_run, gone_on, edited, tried, given, kept, answer_at, confirmed, brought, carried, confirmed_first, rest_taken, taken, taken_if, taken_at}
+use Rattle.pm_client.specs.Timelines.{edit_steps}
 
 -- the same name, and the same messages and answers
 pub record KeepsBox {Rules Doc Reason C : Type 0} (c new : Client C Rules Doc Reason) : Type 0 where
@@ -23,24 +26,30 @@ module _ {Rules Doc Reason C : Type 0} (m : Meaning Rules Doc Reason C) (rules :
   all-kept : KeepsBox c c
   all-kept = record { name = refl; messages = refl; answers = refl }
 
-  -- steps that were made
-  pub edited-keeps : (cs : List C) (next : Client C Rules Doc Reason) → edited m rules c cs ≡ Ok next → KeepsBox c next
-  edited-keeps cs next h = from (run m rules c.doc 0 (named c.name (c.serials + 1) cs)) h
+  -- steps that were made: the client went on by them
+  pub edited-on : (cs : List C) (event : Option ℕ) (next : Client C Rules Doc Reason) → edited m rules c cs event ≡ Ok next → (doc : Doc) × (h : Branches C) × (gone_on m c cs doc h ≡ next)
+  edited-on cs event next h = from (run m rules c.doc 0 (named c.name (c.serials + 1) cs)) h
     where
-      from : (r : Result Doc (Refusal Reason)) → tried m rules c cs r ≡ Ok next → KeepsBox c next
+      from : (r : Result Doc (Refusal Reason)) → tried m rules c cs event r ≡ Ok next → (doc : Doc) × (h : Branches C) × (gone_on m c cs doc h ≡ next)
       from (Err e) h = absurd (cc)
       from (Ok doc) h =
-          let same : record c { doc = doc; pending = c.pending ++ named c.name (c.serials + 1) cs; serials = c.serials + length cs; cursors = moved_over (maps_of m (named c.name (c.serials + 1) cs)) c.cursors } ≡ next = cc in
-          record {
-            name = sym (ap (λ (x : Client C Rules Doc Reason). x.name) same);
-            messages = sym (ap (λ (x : Client C Rules Doc Reason). x.messages) same);
-            answers = sym (ap (λ (x : Client C Rules Doc Reason). x.answers) same);
-          }
+          let history : Branches C = noted_all c.history (items_from m rules c.doc (edit_steps (named c.name (c.serials + 1) cs))) (Edit event true) in
+          let same : gone_on m c cs doc history ≡ next = cc in
+          (doc, history, same)
+
+  pub edited-keeps : (cs : List C) (event : Option ℕ) (next : Client C Rules Doc Reason) → edited m rules c cs event ≡ Ok next → KeepsBox c next
+  edited-keeps cs event next h =
+      let same = (edited-on cs event next h).2 in
+      record {
+        name = sym (ap (λ (x : Client C Rules Doc Reason). x.name) same);
+        messages = sym (ap (λ (x : Client C Rules Doc Reason). x.messages) same);
+        answers = sym (ap (λ (x : Client C Rules Doc Reason). x.answers) same);
+      }
 
   -- What holds of the client, of the client with some pending steps confirmed, and of it with the later ones carried over
   -- others' steps holds of it once it took an answer.
   module _ (Q : Client C Rules Doc Reason → Type 0) (now : Q c) (confirms : (k : ℕ) (base : Doc) → Q (confirmed c k base))
-      (brings : (k own : ℕ) (foreign : List (Named C)) (base : Doc) → Q (brought c k base (carried m rules c own foreign base))) where
+      (brings : (own : ℕ) (foreign : List (Named C)) (base : Doc) → Q (brought m rules c own foreign base (carried m rules c own foreign base))) where
     given-one : (o : Option Doc) (next : Doc → Taken × Client C Rules Doc Reason) → ((d : Doc) → Q (next d).1) → Q (given c o next).1
     given-one None next h = now
     given-one (Some d) next h = h d
@@ -53,7 +62,7 @@ module _ {Rules Doc Reason C : Type 0} (m : Meaning Rules Doc Reason C) (rules :
     first-one k = given-one _ _ (λ d. confirms k d)
 
     rest-one : (rest : List (Named C)) (own : ℕ) → Q (rest_taken m rules c rest own).1
-    rest-one rest own = either-one (own == length rest) _ _ (first-one own) (given-one _ _ (λ d. brings (length rest) own (drop own rest) d))
+    rest-one rest own = either-one (own == length rest) _ _ (first-one own) (given-one _ _ (λ d. brings own (drop own rest) d))
 
     pub taken-one : (a : Answer C Rules Doc Reason) → Q (taken m rules c a).1
     taken-one (Accepted from count) = either-one (nat_le (from + count) c.version) _ _ now (first-one count)
@@ -67,7 +76,7 @@ module _ {Rules Doc Reason C : Type 0} (m : Meaning Rules Doc Reason C) (rules :
   pub taken-keeps : (a : Answer C Rules Doc Reason) → KeepsBox c (taken m rules c a).1
   taken-keeps a =
       taken-one (λ d. KeepsBox c d) all-kept (λ k base. record { name = refl; messages = refl; answers = refl })
-      (λ k own foreign base. record { name = refl; messages = refl; answers = refl }) a
+      (λ own foreign base. record { name = refl; messages = refl; answers = refl }) a
 
   pub taken_at-keeps : (i : ℕ) → KeepsBox c (taken_at m rules c i).1
   taken_at-keeps i = from (answer_at c i)

@@ -70,10 +70,10 @@ module _ {Rules Doc Reason C : Type 0} (m : Meaning Rules Doc Reason C) (rules :
   edits-moved (Err NotThere) = unmoved
   edits-moved (Err FitsNowhere) = unmoved
   edits-moved (Err NoMemory) = unmoved
-  edits-moved (Ok steps) = from (edited m rules c steps) refl
+  edits-moved (Ok steps) = from (edited m rules c steps None) refl
     where
-      from : (r : Result (Client C Rules Doc Reason) (Refusal Reason)) → edited m rules c steps ≡ r → Moved m rules a c false false a (made c steps r).1
-      from (Ok next) e = moved-box next (edited-keeps m rules c steps next e) (kin-edited m rules a.first a.log c kin laws steps next e)
+      from : (r : Result (Client C Rules Doc Reason) (Refusal Reason)) → edited m rules c steps None ≡ r → Moved m rules a c false false a (made c steps r).1
+      from (Ok next) e = moved-box next (edited-keeps m rules c steps None next e) (kin-edited m rules a.first a.log c kin laws steps None next e)
       from (Err r) e = unmoved
 
   pub sets-moved : (p : ℕ) (side : ℤ) → IsSide side → Moved m rules a c false false a (sets m c p side).1

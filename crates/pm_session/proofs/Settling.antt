@@ -1,6 +1,6 @@
 -- A room that settled: each client has the whole log and nothing pending.
-use Rattle.std.specs.Prelude.{◌≡◌, ◌⊎◌, ℕ, zero, suc, ◌+◌, ◌-◌, ◌<◌, ◌==◌, nat_le, if◌then◌else◌, Bool, true, false, List, [], ◌∷◌, ◌++◌, length, take, drop, slice_get, Option, Some, None, refl}
-use Rattle.std.proofs.Common.{sym, ap, ◌∙◌, arith, length-append, inl, inr}
+use Rattle.std.specs.Prelude.{◌≡◌, ◌⊎◌, ℕ, zero, suc, ◌+◌, ◌-◌, ◌<◌, ◌≤◌, ◌==◌, nat_le, if◌then◌else◌, Bool, true, false, List, [], ◌∷◌, ◌++◌, length, take, drop, slice_get, Option, Some, None, refl}
+use Rattle.std.proofs.Common.{sym, ap, ◌∙◌, arith, length-append, length-drop, inl, inr}
 use Rattle.std.proofs.Math.Seq.{drop-append_seam}
 use Rattle.std.proofs.lemmas.Bool.{eq-eqb, eqb-true, leb-true}
 use Rattle.pm_change.specs.Changes.{Meaning, Laws, fold}
@@ -48,6 +48,14 @@ take-append zero (x ∷ xs) = refl
 take-append (suc k) [] = refl
 take-append (suc k) (x ∷ xs) = ap (λ l. x ∷ l) (take-append k xs)
 
+own_run-within : {C : Type 0} (client : ℕ) (ns : List (Named C)) → own_run client ns ≤ length ns
+own_run-within client [] = omega arith
+own_run-within client (n ∷ ns) = by-test (n.name.client == client) (own_run-within client ns)
+  where
+    by-test : (b : Bool) → own_run client ns ≤ length ns → (if b then own_run client ns + 1 else 0) ≤ suc (length ns)
+    by-test true h = omega (arith, h)
+    by-test false h = omega arith
+
 -- a client that takes all entries past its version
 module _ {Rules Doc Reason C : Type 0} (m : Meaning Rules Doc Reason C) (rules : Rules) (first : Doc) (log : List (Named C))
     (c : Client C Rules Doc Reason) (kin : Kin m rules first log c) where
@@ -62,8 +70,8 @@ module _ {Rules Doc Reason C : Type 0} (m : Meaning Rules Doc Reason C) (rules :
       sym (fold-append m rules first c.base (changes_of kin.before) (changes_of kin.past) kin.base_is) ∙ ap (fold m rules first) (sym (changes-append kin.before kin.past))
       ∙ ap (λ l. fold m rules first (changes_of l)) (sym kin.log_is) ∙ kin.log_applies.1
 
-  rest-version : (own : ℕ) → (rest_taken m rules c kin.past own).1.version ≡ length log
-  rest-version own = whether (own == length kin.past) refl
+  rest-version : (own : ℕ) → own ≤ length kin.past → (rest_taken m rules c kin.past own).1.version ≡ length log
+  rest-version own within = whether (own == length kin.past) refl
     where
       whether : (b : Bool) → (own == length kin.past) ≡ b
           → (if b then confirmed_first m rules c own else others_taken m rules c kin.past own).1.version ≡ length log
@@ -72,7 +80,7 @@ module _ {Rules Doc Reason C : Type 0} (m : Meaning Rules Doc Reason C) (rules :
           ap (λ l. fold m rules c.base (changes_of l)) (take-append own c.pending) ∙ kin.doc_is in
           let f = front-applies m rules c.base c.doc (take own c.pending) (drop own c.pending) whole in
           rw f.1 (let same = eqb-true own (length kin.past) e in omega (arith, same, log-size))
-      whether false e = rw past-applies (omega (arith, log-size))
+      whether false e = rw past-applies (omega (arith, log-size, within, length-drop own kin.past))
 
   all-version : (taken m rules c (Entries c.version (drop c.version log))).1.version ≡ length log
   all-version = rw past-is (whether (nat_le (c.version + length kin.past) c.version) refl)
@@ -84,7 +92,7 @@ module _ {Rules Doc Reason C : Type 0} (m : Meaning Rules Doc Reason C) (rules :
           → (if b then (Stale, c) else rest_taken m rules c (drop (c.version - c.version) kin.past) (own_run c.name (drop (c.version - c.version) kin.past))).1.version
           ≡ length log
       whether true e = let past = leb-true (c.version + length kin.past) c.version e in omega (arith, past, log-size)
-      whether false e = rw here (rest-version (own_run c.name kin.past))
+      whether false e = rw here (rest-version (own_run c.name kin.past) (own_run-within c.name kin.past))
 
 module _ {Rules Doc Reason C : Type 0} (m : Meaning Rules Doc Reason C) (rules : Rules) (laws : Laws m) (a : Authority C Rules Doc Reason) (stood : IsKept m rules a)
     (c : Client C Rules Doc Reason) (kin : Kin m rules a.first a.log c) where
@@ -99,7 +107,7 @@ module _ {Rules Doc Reason C : Type 0} (m : Meaning Rules Doc Reason C) (rules :
   asks-pending none =
       let answer = Entries c.version (drop c.version a.log) in
       taken-one m rules (kept (composed c Asking) answer) (λ d. d.pending ≡ []) none (λ k base. drop-none k c.pending none)
-      (λ k own foreign base. rw (drop-none own c.pending none) refl) answer
+      (λ own foreign base. rw (drop-none own c.pending none) refl) answer
 
   -- a client that has the whole log has nothing pending once it submitted
   submits-pending : c.version ≡ length a.log → (exchanges m rules a c Submission false).2.pending ≡ []

@@ -18,9 +18,7 @@ use Rattle.pm_authority.specs.Presents.{tried, presented}
 use Rattle.pm_client.specs.declared.client.Client.{Client}
 use Rattle.pm_client.specs.declared.taken.Kind.{Kind}
 use Rattle.pm_client.specs.declared.taken.Kind.TheVariants.{Submit as Submission, Ask as Asking}
-use Rattle.pm_client.specs.Rebases.{maps_of}
-use Rattle.pm_client.specs.Cursors.{moved_over}
-use Rattle.pm_client.specs.Clients.{named, edited, tried as edit_tried, cursor_set, message_of, message_at, composed, kept, taken, taken_at, taken_if, answer_at}
+use Rattle.pm_client.specs.Clients.{edited, cursor_set, message_of, message_at, composed, kept, taken, taken_at, taken_if, answer_at}
 use Rattle.pm_client.specs.Kins.{Kin}
 use Rattle.pm_client.specs.Serials.{serials_of, own_serials}
 use Rattle.pm_client.specs.TokenNames.{Token, Has, first_names, names_after, AllDiffer, passed, MayName, KeepsTokens}
@@ -35,7 +33,7 @@ use Rattle.pm_session.specs.declared.outcome.Outcome.TheVariants.{NoRange, Curso
 use Rattle.pm_session.specs.Events.{edits, sets, made, presents, exchanges, acted}
 use Rattle.pm_session.specs.Left.{LeftAsWas, LeftPresenting, LeftExchanging, LeftBy}
 use Rattle.pm_session.specs.Standing.{tokens_of, AreNamed, NonePinched}
-use Rattle.pm_session.proofs.Keeping.{taken-one, taken-last}
+use Rattle.pm_session.proofs.Keeping.{edited-on, taken-one, taken-last}
 use Rattle.pm_session.proofs.Moves.{given-moved}
 use Rattle.pm_session.proofs.Namings.{length-first, once-first, none-first, Apart, apart-front, differ-append, differ-front, differ-back, differ-parts, none-after, rises-differ, rises-back, apart-own, Fresh, fresh-after}
 
@@ -185,18 +183,15 @@ module _ {Rules Doc Reason C : Type 0} (m : Meaning Rules Doc Reason C) (rules :
     edits-stayed (Err NotThere) = unmoved
     edits-stayed (Err FitsNowhere) = unmoved
     edits-stayed (Err NoMemory) = unmoved
-    edits-stayed (Ok steps) = from (edited m rules c steps) refl
+    edits-stayed (Ok steps) = from (edited m rules c steps None) refl
       where
-        version : (next : Client C Rules Doc Reason) (r : Result Doc (Refusal Reason)) → edit_tried m rules c steps r ≡ Ok next → c.version ≤ next.version
-        version next (Err e) h = absurd (cc)
-        version next (Ok doc) h =
-            let same : record c { doc = doc; pending = c.pending ++ named c.name (c.serials + 1) steps; serials = c.serials + length steps; cursors = moved_over (maps_of m (named c.name (c.serials + 1) steps)) c.cursors } ≡ next = cc in
-            let e : c.version ≡ next.version = ap (λ (x : Client C Rules Doc Reason). x.version) same in
+        version : (next : Client C Rules Doc Reason) → edited m rules c steps None ≡ Ok next → c.version ≤ next.version
+        version next h =
+            let e : c.version ≡ next.version = ap (λ (x : Client C Rules Doc Reason). x.version) (edited-on m rules c steps None next h).2 in
             omega (arith, e)
 
-        from : (r : Result (Client C Rules Doc Reason) (Refusal Reason)) → edited m rules c steps ≡ r → Stayed a (made c steps r).1
-        from (Ok next) e =
-            record { keeps = edited-keeps m rules laws a.first a.log c kin steps next e; rises = version next (run m rules c.doc 0 (named c.name (c.serials + 1) steps)) e; first = refl }
+        from : (r : Result (Client C Rules Doc Reason) (Refusal Reason)) → edited m rules c steps None ≡ r → Stayed a (made c steps r).1
+        from (Ok next) e = record { keeps = edited-keeps m rules laws a.first a.log c kin steps None next e; rises = version next e; first = refl }
         from (Err r) e = unmoved
 
     sets-stayed : (p : ℕ) (side : ℤ) → Stayed a (sets m c p side).1
@@ -234,7 +229,7 @@ module _ {Rules Doc Reason C : Type 0} (m : Meaning Rules Doc Reason C) (rules :
     -- an answer never takes the version back
     taken-rises : (d : Client C Rules Doc Reason) (x : Answer C Rules Doc Reason) → d.version ≤ (taken m rules d x).1.version
     taken-rises d x =
-        taken-one m rules d (λ e. d.version ≤ e.version) (omega arith) (λ k base. omega arith) (λ k own foreign base. omega arith) x
+        taken-one m rules d (λ e. d.version ≤ e.version) (omega arith) (λ k base. omega arith) (λ own foreign base. omega arith) x
 
     takes-stayed : (n : ℕ) → Stayed a (taken_at m rules c n).1
     takes-stayed n = record { keeps = taken-keeps m rules laws a.first a.log c kin n; rises = from (answer_at c n); first = refl }

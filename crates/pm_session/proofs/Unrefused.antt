@@ -46,7 +46,7 @@ module _ {Rules Doc Reason C : Type 0} where
 module _ {Rules Doc Reason C : Type 0} (m : Meaning Rules Doc Reason C) (rules : Rules) (laws : Laws m) (a : Authority C Rules Doc Reason) (stood : IsKept m rules a)
     (c : Client C Rules Doc Reason) (kin : Kin m rules a.first a.log c) where
   edits-none : (r : Result (List C) NoSteps) → GetsNoRefusal (edits m rules c r).0
-  edits-none (Ok steps) = made-none c steps (edited m rules c steps)
+  edits-none (Ok steps) = made-none c steps (edited m rules c steps None)
   edits-none (Err Range) = tt
   edits-none (Err NotThere) = tt
   edits-none (Err FitsNowhere) = tt

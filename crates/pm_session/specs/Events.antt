@@ -78,7 +78,7 @@ module _ {Rules Doc Reason C : Type 0} (m : Meaning Rules Doc Reason C) where
 module _ {Rules Doc Reason C : Type 0} (m : Meaning Rules Doc Reason C) (rules : Rules) where
   -- an op's steps are made, or the outcome says why there are none; want of memory is no meaning of an op
   abbrev pub edits : Client C Rules Doc Reason → Result (List C) NoSteps → Outcome C Rules Doc Reason × Client C Rules Doc Reason
-  edits c (Ok steps) = made c steps (edited m rules c steps)
+  edits c (Ok steps) = made c steps (edited m rules c steps None)
   edits c (Err Range) = (NoRange, c)
   edits c (Err NotThere) = (NoPlace, c)
   edits c (Err FitsNowhere) = (NoFit, c)

@@ -32,7 +32,7 @@ pub fn edit<C: Change, K: Maker<C>>(
         Err(NoSteps::NoFit) => return Ok(Outcome::NoFit),
         Err(NoSteps::NoMemory) => return Err(AllocError),
     };
-    match client.edit(alloc, rules, steps) {
+    match client.edit(alloc, rules, steps, None) {
         Ok(count) => Ok(Outcome::Made { count }),
         Err(EditError::Refused { index, reason }) => Ok(Outcome::Refused { index, reason }),
         Err(EditError::NoMemory) => Err(AllocError),

@@ -3,6 +3,9 @@ use Rattle.std.proofs.lemmas.List.{take_rest}
 use Rattle.pm_client.proofs.Plannings.{carried-is, plan-is}
 use Rattle.pm_client.proofs.client.Client.plan_rest.Goals as goal
 
+pub step_maps-requires : goal.step_maps-requires
+step_maps-requires g c = rw (take_rest c.args.rest.now c.own_steps-own.result, c.own_steps-own.ensures.own) c.requires.have_maps
+
 pub move_all-requires : goal.move_all-requires
 move_all-requires g c =
     let m = g.C.Change.means in
@@ -27,7 +30,8 @@ returns-clause-plan g c =
     let is =
     carried-is m c.args.rules.now client rest (take (length rest - own) (drop own rest)) (take (length pending - own) (drop own pending)) own base c.in_ok-rebasing.rebasing
     c.in_ok-rebasing.ensures (take_rest rest own) (take_rest pending own ∙ ap (drop own) c.as_slice.ensures) in
+    let foreign_are = rw (take_rest rest own) at c.in_ok-step_maps.ensures in
     let dropped_is = rw (c.as_slice-2.ensures, c.as_slice-3.ensures) at c.in_ok-merge.ensures in
     let cursors_are = rw c.as_slice-4.ensures at c.in_ok-move_all.ensures in
-    plan-is m c.args.rules.now client rest own base c.in_ok-rebasing.rebasing c.in_ok-merge.field-0 c.in_ok-move_all.field-0 c.own_steps-own.ensures.own c.own_steps-own.ensures.within
-    c.if-own-rest.false c.in_ok-base.ensures is dropped_is cursors_are
+    plan-is m c.args.rules.now client rest own c.in_ok-step_maps.field-0 base c.in_ok-rebasing.rebasing c.in_ok-merge.field-0 c.in_ok-move_all.field-0 c.own_steps-own.ensures.own c.own_steps-own.ensures.within
+    c.if-own-rest.false c.in_ok-base.ensures foreign_are is dropped_is cursors_are

@@ -1,0 +1,155 @@
+-- Undoing and redoing the last event.
+use Rattle.std.specs.Prelude.{Result, Ok, Err, IfOk, OnOk, OnErr, ◌≡◌, ℕ, ◌+◌, Bool, true, false, List, [], ◌∷◌, ◌++◌, length, Option, Some, None, refl, All}
+use Rattle.std.proofs.Common.{sym, ap, subst, ◌∙◌, arith, length-append}
+use Rattle.std.proofs.lemmas.List.Elements.{All-from_recursion}
+use Rattle.pm_change.specs.Changes.{Meaning, Laws, fold}
+use Rattle.pm_authority.specs.declared.named.Named.{Named}
+use Rattle.pm_authority.specs.Runs.{AllApply}
+use Rattle.pm_history.specs.declared.branch.Event.{Event}
+use Rattle.pm_history.specs.declared.branches.Branches.{Branches}
+use Rattle.pm_history.specs.declared.undoing.Undone.{Undone}
+use Rattle.pm_history.specs.Histories.{event_of, names_in, without_last, last_event, last_of, undone}
+use Rattle.pm_history.specs.Timelines.{Step, items_from}
+use Rattle.pm_history.specs.Made.{made_steps, IsMade}
+use Rattle.pm_history.specs.Undos.{undo_event}
+use Rattle.pm_history.specs.Shows.{ShowsTo}
+use Rattle.pm_history.specs.Tidy.{IsTidy}
+use Rattle.pm_history.specs.Unchanged.{NothingSince}
+use Rattle.pm_history.specs.Remembers.{live_names, Remembers}
+use Rattle.pm_history.specs.Standing.{IsHistoryOf}
+use Rattle.pm_history.specs.Grows.{undo-remembers, redo-remembers, history-shows}
+use Rattle.pm_history.specs.Turned.{IsLast, history-undone}
+use Rattle.pm_history.proofs.Mades.{made-event}
+use Rattle.pm_history.proofs.Agrees.{undo-restores}
+use Rattle.pm_client.specs.declared.client.Client.{Client}
+use Rattle.pm_client.specs.Clients.{named, event_turned, last_turned}
+use Rattle.pm_client.specs.Cursors.{HasRoomIn}
+use Rattle.pm_client.specs.Kins.{Kin}
+use Rattle.pm_client.specs.Keeps.{doc-good, timeline-applies, kin-gone_on}
+use Rattle.pm_client.specs.Rebases.{maps_of}
+use Rattle.pm_client.specs.Rebasables.{NamedHasMap}
+use Rattle.pm_client.specs.RebaseLaws.{maps-fit, plain-paired, cursors-room}
+use Rattle.pm_client.specs.TimelineLaws.{made-timeline, named-changes}
+use Rattle.pm_client.specs.TokenNames.{KeepsTokens}
+use Rattle.pm_client.specs.Undoings.{GivesBack}
+use Rattle.pm_client.proofs.TokenKeeps.{gone_on-keeps}
+
+-- events whose last one is this
+last-split : (es : List Event) (e : Event) → last_event es ≡ Some e → es ≡ without_last es ++ e ∷ []
+last-split [] e h = absurd (cc)
+last-split (f ∷ []) e h = let same : f ≡ e = cc in ap (λ x. x ∷ []) same
+last-split (f ∷ g ∷ es) e h = ap (λ l. f ∷ l) (last-split (g ∷ es) e h)
+
+abbrev others : {C : Type 0} → Bool → Branches C → List Event
+others false h = without_last h.undo
+others true h = without_last h.redo
+
+is-last : {C : Type 0} (redo : Bool) (h : Branches C) (e : Event) → last_of redo h ≡ Some e → IsLast redo h (others redo h) e
+is-last false h e last = last-split h.undo e last
+is-last true h e last = last-split h.redo e last
+
+module _ {Rules Doc Reason C : Type 0} (m : Meaning Rules Doc Reason C) (rules : Rules) (laws : Laws m) (first : Doc) (log : List (Named C))
+    (c : Client C Rules Doc Reason) (kin : Kin m rules first log c) where
+  -- the history's items stand for steps that lead to the document
+  pub kin-shows : ShowsTo m rules c.history.items c.doc
+  kin-shows =
+      history-shows m rules laws (live_names c.history) first c.doc kin.timeline c.history.items kin.first_good (timeline-applies m rules first log c kin) kin.history.remembers
+
+  -- the changes made, as steps of the client
+  new-applies : (w : Undone Doc C) → IsMade m rules c.name c.doc (c.serials + 1) w → AllApply m rules c.doc (named c.name (c.serials + 1) w.made) w.doc
+  new-applies w made = ap (fold m rules c.doc) (named-changes c.name (c.serials + 1) w.made) ∙ made.applies
+
+  -- have maps
+  pub made-maps : (w : Undone Doc C) → IsMade m rules c.name c.doc (c.serials + 1) w → All (NamedHasMap m) (named c.name (c.serials + 1) w.made)
+  made-maps w made =
+      All-from_recursion (NamedHasMap m) (named c.name (c.serials + 1) w.made)
+      (maps-fit m rules laws c.doc w.doc (named c.name (c.serials + 1) w.made) (doc-good m rules first log c kin laws) (new-applies w made)).1
+
+  -- over which the cursors may go
+  pub made-room : (w : Undone Doc C) → IsMade m rules c.name c.doc (c.serials + 1) w → All (HasRoomIn (maps_of m (named c.name (c.serials + 1) w.made))) c.cursors
+  made-room w made =
+      let new : List (Named C) = named c.name (c.serials + 1) w.made in
+      cursors-room (maps_of m new) (m.size c.doc) (m.size w.doc) (plain-paired m rules new)
+      (maps-fit m rules laws c.doc w.doc new (doc-good m rules first log c kin laws) (new-applies w made)).0 c.cursors kin.cursors
+
+  module _ (redo : Bool) (e : Event) (last : last_of redo c.history ≡ Some e) where
+    w : Undone Doc C
+    w = undo_event m rules c.name e.names c.history.items c.doc (c.serials + 1)
+
+    -- to what log the client stood, it stands
+    pub kin-turned : Kin m rules first log (event_turned m rules c redo e).1
+    unfolding w
+    kin-turned =
+        let made = made-event m rules c.name e.names c.history.items c.doc (c.serials + 1) in
+        let event : Event = event_of e.number (names_in w.items) in
+        let history : Branches C = undone redo c.history event w.items in
+        let more : List (Step C) = made_steps c.name (c.serials + 1) w.made w.items in
+        let stands : IsHistoryOf m rules c.name (c.serials + length w.made) first (kin.timeline ++ more) history =
+        history-undone m rules laws redo c.name c.serials (c.serials + length w.made) (c.serials + 1) first c.doc kin.timeline c.history (others redo c.history) e event w
+        kin.first_good kin.history (timeline-applies m rules first log c kin) (is-last redo c.history e last) (omega arith) refl made (omega (arith, made.serial_is)) refl in
+        kin-gone_on m rules first log c kin laws w.made w.doc more history (new-applies w made) (made-timeline c.name (c.serials + 1) w.made w.items made.as_many) stands
+        (length-append c.history.items w.items ∙ ap (λ k. length c.history.items + k) made.as_many)
+
+    -- cursors stand before their tokens
+    pub turned-keeps : KeepsTokens m log c (event_turned m rules c redo e).1 (m.size c.base)
+    unfolding w
+    turned-keeps =
+        let made = made-event m rules c.name e.names c.history.items c.doc (c.serials + 1) in
+        gone_on-keeps m rules laws first log c kin w.made w.doc (undone redo c.history (event_of e.number (names_in w.items)) w.items) (new-applies w made) kin-turned
+
+  remembers : (redo : Bool) (e : Event) → last_of redo c.history ≡ Some e → Remembers m rules e.names first kin.timeline c.history.items × IsTidy (items_from m rules first kin.timeline) e.names
+  remembers false e last = undo-remembers m rules c.name c.serials first kin.timeline c.history (without_last c.history.undo) e kin.history (last-split c.history.undo e last)
+  remembers true e last = redo-remembers m rules c.name c.serials first kin.timeline c.history (without_last c.history.redo) e kin.history (last-split c.history.redo e last)
+
+  -- where nothing has changed since the event, its earlier document is given back
+  pub turned-restores : (redo : Bool) (e : Event) → last_of redo c.history ≡ Some e → (before : Doc) → NothingSince m rules e.names first kin.timeline before c.doc
+      → (event_turned m rules c redo e).1.doc ≡ before
+  turned-restores redo e last before since =
+      let r = remembers redo e last in
+      undo-restores m rules c.name laws e.names first kin.timeline c.history.items before c.doc (c.serials + 1) kin.first_good r.0 r.1 since
+
+-- there is a last event exactly where there is one
+pub last-none : (es : List Event) → (last_event es ≡ None → es ≡ []) × (es ≡ [] → last_event es ≡ None)
+last-none [] = (λ _. refl, λ _. refl)
+last-none (e ∷ es) = (λ h. absurd (some e es h), λ h. absurd (cc))
+  where
+    some : (e : Event) (es : List Event) → last_event (e ∷ es) ≡ None → ⊥
+    some e [] h = cc
+    some e (f ∷ es) h = some f es h
+
+module _ {Rules Doc Reason C : Type 0} (m : Meaning Rules Doc Reason C) (rules : Rules) (c : Client C Rules Doc Reason) (redo : Bool) (next : Client C Rules Doc Reason)
+    (P : Client C Rules Doc Reason → Type 0) where
+  -- what holds of the client once its last event was undone holds of the next one
+  turned-to : (n : ℕ) (o : Option Event) → last_turned m rules c redo o ≡ Some (n, next) → ((e : Event) → o ≡ Some e → P (event_turned m rules c redo e).1) → P next
+  turned-to n None h f = absurd (cc)
+  turned-to n (Some e) h f = let is : (event_turned m rules c redo e) ≡ (n, next) = cc in subst P (ap (λ p. p.1) is) (f e refl)
+
+  -- and where it holds of the client too it holds of the next one whether or not the call failed
+  pub turned-both : {E : Type 0} (r : Result ℕ E) (o : Option Event) → IfOk r (λ n. last_turned m rules c redo o ≡ Some (n, next)) → OnErr r (next ≡ c) → P c
+      → ((e : Event) → o ≡ Some e → P (event_turned m rules c redo e).1) → P next
+  turned-both (Ok n) o h k now f = turned-to n o h f
+  turned-both (Err e) o h k now f = subst P (sym k) now
+
+  pub turned-on : {E : Type 0} (r : Result ℕ E) (o : Option Event) → IfOk r (λ n. last_turned m rules c redo o ≡ Some (n, next)) → ((e : Event) → o ≡ Some e → P (event_turned m rules c redo e).1)
+      → OnOk r (P next)
+  turned-on (Ok n) o h f = turned-to n o h f
+  turned-on (Err e) o h f = tt
+
+module _ {Rules Doc Reason C E : Type 0} (m : Meaning Rules Doc Reason C) (rules : Rules) (laws : Laws m) (c next : Client C Rules Doc Reason) (redo : Bool) (r : Result ℕ E)
+    (turns : IfOk r (λ n. last_turned m rules c redo (last_of redo c.history) ≡ Some (n, next))) where
+  -- the clauses of a call that undoes the last event
+  pub turn-kin : OnErr r (next ≡ c) → (first : Doc) (log : List (Named C)) → Kin m rules first log c → Kin m rules first log next
+  turn-kin err first log kin =
+      turned-both m rules c redo next (λ d. Kin m rules first log d) r (last_of redo c.history) turns err kin (λ e last. kin-turned m rules laws first log c kin redo e last)
+
+  pub turn-restores : OnOk r ((first : Doc) (log : List (Named C)) (kin : Kin m rules first log c) → GivesBack m rules redo c first kin.timeline next.doc)
+  turn-restores =
+      turned-on m rules c redo next (λ d. (first : Doc) (log : List (Named C)) (kin : Kin m rules first log c) → GivesBack m rules redo c first kin.timeline d.doc) r (last_of redo c.history) turns
+      (λ e0 was first log kin e before last since.
+      let same : e ≡ e0 = cc in
+      subst (λ (x : Event). (event_turned m rules c redo x).1.doc ≡ before) same (turned-restores m rules laws first log c kin redo e last before since))
+
+  pub turn-tokens : OnOk r ((first : Doc) (log : List (Named C)) → Kin m rules first log c → KeepsTokens m log c next (m.size c.base))
+  turn-tokens =
+      turned-on m rules c redo next (λ d. (first : Doc) (log : List (Named C)) → Kin m rules first log c → KeepsTokens m log c d (m.size c.base)) r (last_of redo c.history) turns
+      (λ e last first log kin. turned-keeps m rules laws first log c kin redo e last)

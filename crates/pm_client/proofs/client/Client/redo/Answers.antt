@@ -1,0 +1,17 @@
+use Rattle.std.proofs.Common.{true}
+use Rattle.pm_client.proofs.Turns.{last-none, turn-kin, turn-restores, turn-tokens}
+use Rattle.pm_client.proofs.client.Client.redo.Goals as goal
+
+pub returns-clause-nothing : goal.returns-clause-nothing
+returns-clause-nothing g c =
+    let none = last-none c.args.self.now.history.redo in
+    (λ e. none.0 (c.turn.ensures.nothing.0 e), λ e. c.turn.ensures.nothing.1 (none.1 e))
+
+pub returns-clause-kin : goal.returns-clause-kin
+returns-clause-kin g c = turn-kin g.C.Change.means c.args.rules.now g.met.C.Change.laws c.args.self.now c.turn.new.self true c.turn.result c.turn.ensures.turned c.turn.ensures.err
+
+pub returns-clause-restores : goal.returns-clause-restores
+returns-clause-restores g c = turn-restores g.C.Change.means c.args.rules.now g.met.C.Change.laws c.args.self.now c.turn.new.self true c.turn.result c.turn.ensures.turned
+
+pub returns-clause-tokens : goal.returns-clause-tokens
+returns-clause-tokens g c = turn-tokens g.C.Change.means c.args.rules.now g.met.C.Change.laws c.args.self.now c.turn.new.self true c.turn.result c.turn.ensures.turned

@@ -1,0 +1,253 @@
+//! Taking an answer.
+ghost use Rattle.std.specs.Prelude.{◌≡◌, ◌+◌, ◌-◌, ◌<◌, ◌≤◌, ◌^◌, List, length, Ok, IfOk, OnOk, OnErr};
+ghost use Rattle.pm_authority.specs.Runs.{AllApply};
+ghost use Rattle.pm_authority.specs.declared.named.Named.{Named};
+ghost use Rattle.pm_authority.specs.declared.message.Answer.TheVariants.{Accepted, Entries};
+ghost use Rattle.pm_client.specs.Clients.{taken, taken_at, rest_taken, confirmed_first, own_run, carried_history};
+ghost use Rattle.pm_client.specs.TokenNames.{KeepsTokens};
+ghost use Rattle.pm_client.specs.Kins.{Kin, Stands};
+ghost use Rattle.pm_client.specs.Plans.{carried_out, MayCarryOut, Meets, MayConfirm, Fits};
+
+use crate::client::Client;
+use crate::cursors::move_all;
+use crate::making::step_maps;
+use crate::naming::own_steps;
+use crate::plan::Plan;
+use crate::rebasing::{Rebasing, rebase_over};
+use crate::serials::merge;
+use crate::taken::Taken;
+use pm_authority::{Answer, Named, apply_all};
+use pm_change::{Change, Failed};
+use pm_history::{Branches, Item, tie};
+use pm_list::Listed;
+use pm_map::StepMap;
+use std::alloc::{AllocError, Global};
+
+impl<C: Change> Client<C> {
+    /// Takes the answer of this number, which was kept. `Refused` comes exactly for `WrongVersion` and `StepRefused`,
+    /// `Stale` exactly where an `Accepted` or `Entries` holds nothing past the version, and `Confirmed` exactly where what it
+    /// holds past the version is own steps alone. Else it is `Rebased`: the leading own steps are confirmed, others' steps
+    /// are applied to the base, and each later pending step is carried over the maps back of those before it, others' maps
+    /// and the maps of those kept so far. It is kept where something of it is left that applies; else its serial is among
+    /// `dropped` from now on. Each cursor goes through that whole mapping by its side. Only `Confirmed` and `Rebased` change
+    /// the client, and want of memory does not.
+    ///
+    /// Under the rules that are lent the client must stand to a log. Each call keeps this.
+    pub fn take(&mut self, alloc: Global, rules: &C::Rules, i: u64) -> Result<Taken, AllocError>
+        requires kept { (0 < i) × (i ≤ length self.old.answers) }
+        requires stands { Stands C.means rules.now self.old }
+        ensures takes { IfOk result (λ t. (t, self.new) ≡ taken_at C.means rules.now self.old i) }
+        ensures err { OnErr result (self.new ≡ self.old) }
+        // To what log the client stood, it stands.
+        ensures kin { (first : C.Doc) (log : List (Named C)) → Kin C.means rules.now first log self.old
+            → Kin C.means rules.now first log self.new }
+        // A cursor with side 1 that stood before a token stands before it, where that is still there.
+        ensures tokens { OnOk result ((first : C.Doc) (log : List (Named C)) → Kin C.means rules.now first log self.old
+            → KeepsTokens C.means log self.old self.new (C.means.size self.old.base)) }
+    {
+        let plan = self.plan(alloc, rules, i)?;
+        self.carry_out(alloc, plan)
+    }
+
+    /// What taking the answer of this number is to do.
+    fn plan(&self, alloc: Global, rules: &C::Rules, i: u64) -> Result<Plan<C>, AllocError>
+        requires kept { (0 < i) × (i ≤ length self.now.answers) }
+        requires stands { Stands C.means rules.now self.now }
+        ensures plan { IfOk result (λ p. carried_out self.now p ≡ taken_at C.means rules.now self.now i) }
+        ensures may { IfOk result (MayCarryOut self.now) }
+    {
+        let answer = &self.answers.as_slice()[i as usize - 1];
+        self.plan_for(alloc, rules, answer)
+    }
+
+    /// What taking this answer is to do.
+    fn plan_for(
+        &self,
+        alloc: Global,
+        rules: &C::Rules,
+        answer: &Answer<C>,
+    ) -> Result<Plan<C>, AllocError>
+        requires { Meets C.means rules.now self.now answer.now }
+        ensures plan { IfOk result (λ p. carried_out self.now p ≡ taken C.means rules.now self.now answer.now) }
+        ensures may { IfOk result (MayCarryOut self.now) }
+    {
+        match answer {
+            Answer::Accepted { from, count } => self.plan_accepted(alloc, rules, *from, *count),
+            Answer::Entries { since, entries } => {
+                self.plan_entries(alloc, rules, *since, entries.as_slice())
+            }
+            Answer::WrongVersion { length: _ } => Ok(Plan::TellRefused),
+            Answer::StepRefused {
+                index: _,
+                reason: _,
+            } => Ok(Plan::TellRefused),
+        }
+    }
+
+    /// What taking an `Accepted` is to do: past the version it holds the first pending steps, or nothing.
+    fn plan_accepted(
+        &self,
+        alloc: Global,
+        rules: &C::Rules,
+        from: u64,
+        count: u64,
+    ) -> Result<Plan<C>, AllocError>
+        requires { Meets C.means rules.now self.now (Accepted from count) }
+        ensures plan { IfOk result (λ p. carried_out self.now p ≡ taken C.means rules.now self.now (Accepted from count)) }
+        ensures may { IfOk result (MayCarryOut self.now) }
+    {
+        if count <= self.version - from {
+            return Ok(Plan::PassOver);
+        }
+        self.plan_confirm(alloc, rules, count as usize)
+    }
+
+    /// What taking entries is to do. Those before the version are passed over.
+    fn plan_entries(
+        &self,
+        alloc: Global,
+        rules: &C::Rules,
+        since: u64,
+        entries: &[Named<C>],
+    ) -> Result<Plan<C>, AllocError>
+        requires { Meets C.means rules.now self.now (Entries since entries.now) }
+        ensures plan { IfOk result (λ p. carried_out self.now p ≡ taken C.means rules.now self.now (Entries since entries.now)) }
+        ensures may { IfOk result (MayCarryOut self.now) }
+    {
+        let skipped = self.version - since;
+        if entries.len() as u64 <= skipped {
+            return Ok(Plan::PassOver);
+        }
+        self.plan_rest(alloc, rules, &entries[skipped as usize..])
+    }
+
+    /// What taking the entries past the version is to do.
+    fn plan_rest(
+        &self,
+        alloc: Global,
+        rules: &C::Rules,
+        rest: &[Named<C>],
+    ) -> Result<Plan<C>, AllocError>
+        requires { Fits C.means rules.now self.now rest.now }
+        ensures plan { IfOk result (λ p. carried_out self.now p ≡ rest_taken C.means rules.now self.now rest.now (own_run self.now.name rest.now)) }
+        ensures may { IfOk result (MayCarryOut self.now) }
+    {
+        let own = own_steps(self.name, rest);
+        if own == rest.len() {
+            return self.plan_confirm(alloc, rules, own);
+        }
+        let base = advance(alloc, rules, &self.base, rest)?;
+        let later = &self.pending.as_slice()[own..];
+        let rebasing = rebase_over(alloc, rules, &base, &rest[own..], later)?;
+        Ok(Plan::Rebase {
+            own: own as u64,
+            foreign: step_maps(alloc, &rest[own..])?,
+            base,
+            dropped: merge(alloc, self.dropped.as_slice(), rebasing.dropped.as_slice())?,
+            cursors: move_all(alloc, self.cursors.as_slice(), &rebasing.maps)?,
+            rebasing,
+        })
+    }
+
+    /// The plan that confirms the first pending steps.
+    fn plan_confirm(
+        &self,
+        alloc: Global,
+        rules: &C::Rules,
+        own: usize,
+    ) -> Result<Plan<C>, AllocError>
+        requires { MayConfirm C.means rules.now self.now own }
+        ensures plan { IfOk result (λ p. carried_out self.now p ≡ confirmed_first C.means rules.now self.now own) }
+        ensures may { IfOk result (MayCarryOut self.now) }
+    {
+        let base = advance(alloc, rules, &self.base, &self.pending.as_slice()[..own])?;
+        Ok(Plan::Confirm {
+            own: own as u64,
+            base,
+        })
+    }
+
+    /// Carries a plan out, and tells what it did. For want of memory the client is as it was.
+    fn carry_out(&mut self, alloc: Global, plan: Plan<C>) -> Result<Taken, AllocError>
+        requires { MayCarryOut self.old plan }
+        ensures does { IfOk result (λ t. (t, self.new) ≡ carried_out self.old plan) }
+        ensures err { OnErr result (self.new ≡ self.old) }
+    {
+        match plan {
+            Plan::PassOver => Ok(Taken::Stale),
+            Plan::TellRefused => Ok(Taken::Refused),
+            Plan::Confirm { own, base } => {
+                self.version += own;
+                self.base = base;
+                self.pending.drop_front(own as usize);
+                Ok(Taken::Confirmed { own })
+            }
+            Plan::Rebase {
+                own,
+                foreign,
+                base,
+                rebasing,
+                dropped,
+                cursors,
+            } => {
+                let Rebasing {
+                    doc,
+                    maps: _,
+                    kept,
+                    items,
+                    dropped: lost,
+                } = rebasing;
+                let others = foreign.len() as u64;
+                let gone = self.pending.len() - own as usize;
+                carry_history(alloc, &mut self.history, gone, foreign, items)?;
+                self.version += own + others;
+                self.base = base;
+                self.doc = doc;
+                self.pending = kept;
+                self.dropped = dropped;
+                self.cursors = cursors;
+                Ok(Taken::Rebased {
+                    own,
+                    foreign: others,
+                    dropped: lost.len() as u64,
+                })
+            }
+        }
+    }
+}
+
+/// Puts foreign steps with these maps, and the steps kept, in place of the last items of a history. Each step kept undoes
+/// what it did before. For want of memory the history is as it was.
+fn carry_history<C: Change>(
+    alloc: Global,
+    history: &mut Branches<C>,
+    gone: usize,
+    foreign: Vec<StepMap>,
+    kept: Listed<Item<C>>,
+) -> Result<(), AllocError>
+    requires { gone ≤ length history.old.items }
+    ensures carried { OnOk result (history.new ≡ carried_history history.old gone foreign.items kept) }
+    ensures err { OnErr result (history.new ≡ history.old) }
+{
+    let at = history.items().len() - gone;
+    let tied = tie(kept.into_vec(), &history.items()[at..]);
+    history.rebased(alloc, gone, foreign, tied)
+}
+
+/// The document after steps that are known to apply.
+fn advance<C: Change>(
+    alloc: Global,
+    rules: &C::Rules,
+    doc: &C::Doc,
+    steps: &[Named<C>],
+) -> Result<C::Doc, AllocError>
+    requires good { C.means.is_good rules.now doc.now }
+    requires applies { ((end : C.Doc) × AllApply C.means rules.now doc.now steps.now end) }
+    ensures { IfOk result (AllApply C.means rules.now doc.now steps.now) }
+{
+    match apply_all(alloc, rules, doc, steps) {
+        Ok(end) => Ok(end),
+        Err(Failed::NoMemory) => Err(AllocError),
+        Err(Failed::Reason(_)) => unreachable!(),
+    }
+}
