@@ -11,11 +11,12 @@ help() {
 usage: ./pm WORDS < SESSION
 
 words
+  check       write how many op lines the session has and how large its first document is
   replay      play the session with its lines in file order, and write its report
 
 statuses
   0  done: the whole output was written
-  1  the input is no session; the output is the line `refused LINE CODE`
+  1  the input is no session of the word; the output is the line `refused LINE CODE`
   2  the words are none of the forms above
   3  a read failed; nothing was written
   4  a write failed; a front of the output was written

@@ -1,9 +1,11 @@
 pub mod Counts
-pub mod Split
 pub mod Floats
 pub mod Filled
 pub mod Reports
 pub mod TooLong
+pub mod Answered
+pub mod EditorNames
+pub mod CheckedLaws
 pub mod Names
 pub mod Tallies
 pub mod OpLists

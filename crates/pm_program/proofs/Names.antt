@@ -1,11 +1,12 @@
--- Places of names, and lists of names that are read one by one.
-use Rattle.std.proofs.Common.{◌≡◌, ◌<◌, ◌+◌, ◌-◌, ℕ, Bool, true, false, cond, List, [], ◌∷◌, ◌++◌, length, map, take, drop, refl, ap, ◌∙◌, sym, arith, append_assoc, suc, get_or, add-one, drop-cons, string_bytes}
-use Rattle.std.proofs.lemmas.List.{length-map, append-nil, take_rest}
+-- Places of names.
+use Rattle.std.proofs.Common.{◌≡◌, ◌<◌, ◌+◌, ◌-◌, ℕ, Bool, true, false, cond, List, [], ◌∷◌, length, map, take, drop, refl, ap, ◌∙◌, sym, arith, suc, get_or, add-one, drop-cons, string_bytes}
+use Rattle.std.proofs.lemmas.List.{length-map, take_rest}
 use Rattle.std.proofs.lemmas.Bool.Decides.{nat_tests}
-use Rattle.std.specs.Prelude.{position, nat_lt, nat_eq, not, ◌&&◌, ◌||◌, String, Option, Some, None, IfSome, option_map}
+use Rattle.std.specs.Prelude.{position, nat_lt, nat_eq, not, ◌&&◌, ◌||◌, String, Some, None, IfSome}
 use Rattle.std.specs.List.{prefix_len, list_any}
 use Rattle.std.specs.declared.alloc.Global.{Global}
 use Rattle.std.specs.Cmp.Lexicographic.{pointwise}
+use Rattle.pm_head.proofs.NameLists.{with_some-nil, with_some-more, with_some-all}
 use Rattle.pm_program.specs.Forms.{all_differ}
 
 prefix-map : {A B : Type 0} → (p : B → Bool) (f : A → B) (xs : List A) → prefix_len p (map f xs) ≡ prefix_len (λ x. p (f x)) xs
@@ -42,21 +43,5 @@ module _ (names : List (String Global)) (i : ℕ) (name : String Global) (text :
 
   pub go_on : found ≡ false → all_differ (map string_bytes (drop (i + 1) names)) ≡ all_differ (map string_bytes names)
   go_on h = sym (rw h at opened) ∙ so_far
-
--- these items, and then those that are read
-abbrev pub with_some : {A : Type 0} → List A → Option (List A) → Option (List A)
-with_some front None = None
-with_some front (Some rest) = Some (front ++ rest)
-
-pub with_some-nil : {A : Type 0} → (o : Option (List A)) → with_some [] o ≡ o
-with_some-nil None = refl
-with_some-nil (Some rest) = refl
-
-pub with_some-more : {A : Type 0} → (front : List A) (x : A) (o : Option (List A)) → with_some (front ++ x ∷ []) o ≡ with_some front (option_map (λ rest. x ∷ rest) o)
-with_some-more front x None = refl
-with_some-more front x (Some rest) = ap Some (append_assoc front (x ∷ []) rest)
-
-pub with_some-all : {A : Type 0} → (front : List A) → with_some front (Some []) ≡ Some front
-with_some-all front = ap Some (append-nil front)
 
 pub ruleset names = (position-map, position-within, with_some-nil, with_some-more, with_some-all)

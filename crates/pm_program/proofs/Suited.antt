@@ -11,7 +11,8 @@ use Rattle.pm_session.specs.declared.line.Act.TheVariants.{Edit, Cursor, Submit,
 use Rattle.pm_session.specs.Suits.{NamesOneOf, composed_by, answered_by, Suits, AllSuit}
 use Rattle.pm_flat.specs.declared.flat.Replace.{Replace}
 use Rattle.pm_program.specs.Forms.{doc_in, text_at}
-use Rattle.pm_program.specs.Lines.{lines_of, value_of}
+use Rattle.pm_head.specs.Lines.{lines_of}
+use Rattle.pm_program.specs.Lines.{value_of}
 use Rattle.pm_program.specs.Reading.{SessionOf, schema_line, within, doc_line, clients_line, letters_of, act_in, client_at, names_one_of, has_cursor, cursors_by, suited, op_in, line_within, op_line, refused, head, ops_of, session_in, session_of, max_input, last_line}
 use Rattle.pm_program.specs.Sounds.{IsSuited}
 use Rattle.pm_program.proofs.Names.{position-within}

@@ -1,9 +1,10 @@
 -- The JSON values of a session's lines, and what each holds.
-use Rattle.std.specs.Prelude.{ℕ, ℤ, pos, negsuc, suc, ◌^◌, ◌==◌, ◌&&◌, ◌||◌, Bool, true, false, not, is_some, nat_lt, nat_le, nat_eq, if◌then◌else◌, List, [], ◌∷◌, length, codes, Option, Some, None, option_and_then, option_map, unwrap_or}
+use Rattle.std.specs.Prelude.{ℕ, ℤ, pos, negsuc, suc, ◌^◌, ◌==◌, ◌&&◌, Bool, true, false, not, is_some, nat_lt, nat_le, nat_eq, if◌then◌else◌, List, [], ◌∷◌, length, codes, Option, Some, None, option_and_then, option_map, unwrap_or}
 use Rattle.std.specs.Cmp.Lexicographic.{pointwise}
-use Rattle.std.specs.List.{list_all, list_any}
+use Rattle.std.specs.List.{list_any}
 use Rattle.serde_json.specs.Data.{Data, number, unsigned, string, array, object, Items, no_items, item, Members, no_members, member}
 use Rattle.serde_json.specs.Find.{get, as_null, as_bool, as_str, as_array, as_object, as_number, as_u64, as_i64}
+use Rattle.pm_head.specs.Names.{is_name}
 use Rattle.pm_flat.specs.Letters.{all_printable}
 use Rattle.pm_flat.specs.declared.flat.Replace.{Replace}
 
@@ -94,13 +95,9 @@ inserted d = if has_members 3 d then Some [] else (if has_members 4 d then optio
 abbrev pub step_in : Data → Option Replace
 step_in d = if has_text (codes "stepType") (codes "replace") d then option_and_then (λ from. option_and_then (λ to. option_map (λ text. record { from = from; to = to; text = text }) (inserted d)) (position_at (codes "to") d)) (position_at (codes "from") d) else None
 
--- a character of a client's name, from a to z and from 0 to 9
-abbrev pub is_name_letter : ℕ → Bool
-is_name_letter b = (nat_le 97 b && nat_le b 122) || (nat_le 48 b && nat_le b 57)
-
--- a client's name has from 1 to 16 characters
+-- a client's name
 abbrev pub as_name : List ℕ → Option (List ℕ)
-as_name text = if nat_lt 0 (length text) && nat_le (length text) 16 && list_all is_name_letter text then Some text else None
+as_name text = if is_name text then Some text else None
 
 -- the names in a list of clients
 abbrev pub names_in : Items → Option (List (List ℕ))

@@ -9,6 +9,7 @@ pub mod Making
 pub mod MakingLaws
 pub mod Report
 pub mod Sounds
+pub mod Checked
 pub mod Words
 pub mod Output
 pub mod Headline

@@ -11,7 +11,8 @@ use Rattle.pm_session.specs.Suits.{done_by, composed_by, answered_by}
 use Rattle.pm_flat.specs.declared.flat.Replace.{Replace}
 use Rattle.pm_program.specs.declared.schema_line.TheConstants.{SCHEMA_LINE}
 use Rattle.pm_program.specs.Forms.{has_members, has_text, text_at, position_at, doc_in, clients_in, step_in, lost_at, is_side, side_at}
-use Rattle.pm_program.specs.Lines.{lines_of, value_of}
+use Rattle.pm_head.specs.Lines.{lines_of}
+use Rattle.pm_program.specs.Lines.{value_of}
 
 -- what a session holds: the text of its first document, its clients' names, and its op lines
 pub record SessionOf : Type 0 where

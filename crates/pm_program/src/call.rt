@@ -3,12 +3,12 @@ ghost use Rattle.std.specs.Prelude.{◌≡◌, ◌⊎◌, ◌↔◌, ℕ, List, 
 ghost use Rattle.pm_io.specs.Faults.{Rose};
 ghost use Rattle.pm_program.specs.Words.{command_of};
 ghost use Rattle.pm_program.specs.declared.words.Command.{Command};
-ghost use Rattle.pm_program.specs.Output.{output_of, status_of, IsAnswer};
+ghost use Rattle.pm_program.specs.Output.{IsAnswer, Answered};
 ghost use Rattle.pm_program.specs.Reading.{session_of};
 ghost use Rattle.pm_program.specs.Sounds.{AllSound};
 ghost use Rattle.pm_program.specs.Headline.{Writes, Agrees, Silent};
 
-use crate::answer::{Answer, replay_answer};
+use crate::answer::{Answer, answer_of};
 use crate::words::{Command, command_of};
 use pm_io::{Gate, ReadError, Sink, Source, write_all};
 use std::alloc::Global;
@@ -45,9 +45,7 @@ pub fn run<R: Source, W: Sink, G: Gate + Sync>(
     ensures silent { Silent result (W.written sink.old) (W.written sink.new) }
     ensures output { (asked : Command) (input : List ℕ) → command_of (map string_bytes words.now) ≡ Some asked
         → R.left source.old ≡ Some input
-        → Writes result (W.written sink.old) (W.written sink.new) (output_of asked input) }
-    ensures status { (asked : Command) (input : List ℕ) → command_of (map string_bytes words.now) ≡ Some asked
-        → R.left source.old ≡ Some input → Agrees result (status_of asked input) }
+        → Answered asked input result (W.written sink.old) (W.written sink.new) }
     ensures sound { (input : List ℕ) → R.left source.old ≡ Some input → AllSound (session_of input) }
     ensures read_fault { result ≡ Status.ReadFault → Rose (R.faults source.old) (R.faults source.new) }
     ensures write_fault { result ≡ Status.WriteFault → Rose (W.faults sink.old) (W.faults sink.new) }
@@ -55,7 +53,7 @@ pub fn run<R: Source, W: Sink, G: Gate + Sync>(
         → R.left source.old ≡ Some input
         → ¬ Rose (R.faults source.old) (R.faults source.new)
         → ¬ Rose (W.faults sink.old) (W.faults sink.new)
-        → (result ≡ status_of asked input) ⊎ (result ≡ Status.NoMemory) }
+        → IsAnswer result ⊎ (result ≡ Status.NoMemory) }
 {
     let _gate = gate;
     plain(alloc, words, source, sink)
@@ -75,32 +73,29 @@ pub fn plain<R: Source, W: Sink>(
     ensures unread { result ≡ Status.Usage → (R.left source.new ≡ R.left source.old)
         × (R.faults source.new ≡ R.faults source.old) × (W.faults sink.new ≡ W.faults sink.old) }
     ensures silent { Silent result (W.written sink.old) (W.written sink.new) }
-    // The output of the words and the input, and nothing else.
+    // The output of the words and the input, and nothing else. The status says whether the input is a session.
     ensures output { (asked : Command) (input : List ℕ) → command_of (map string_bytes words.now) ≡ Some asked
         → R.left source.old ≡ Some input
-        → Writes result (W.written sink.old) (W.written sink.new) (output_of asked input) }
-    // The status says whether the input is a session.
-    ensures status { (asked : Command) (input : List ℕ) → command_of (map string_bytes words.now) ≡ Some asked
-        → R.left source.old ≡ Some input → Agrees result (status_of asked input) }
+        → Answered asked input result (W.written sink.old) (W.written sink.new) }
     // Every room of the session is sound, whatever becomes of the call.
     ensures sound { (input : List ℕ) → R.left source.old ≡ Some input → AllSound (session_of input) }
     // Faults only where they rose.
     ensures read_fault { result ≡ Status.ReadFault → Rose (R.faults source.old) (R.faults source.new) }
     ensures write_fault { result ≡ Status.WriteFault → Rose (W.faults sink.old) (W.faults sink.new) }
-    // Where no fault rose, the right answer or want of memory.
+    // Where no fault rose, the output and its status, or want of memory.
     ensures complete { (asked : Command) (input : List ℕ) → command_of (map string_bytes words.now) ≡ Some asked
         → R.left source.old ≡ Some input
         → ¬ Rose (R.faults source.old) (R.faults source.new)
         → ¬ Rose (W.faults sink.old) (W.faults sink.new)
-        → (result ≡ status_of asked input) ⊎ (result ≡ Status.NoMemory) }
+        → IsAnswer result ⊎ (result ≡ Status.NoMemory) }
 {
-    let answer = match command_of(words) {
-        None => return Status::Usage,
-        Some(Command::Replay) => match replay_answer(alloc, source) {
-            Ok(answer) => answer,
-            Err(ReadError::ReadFault) => return Status::ReadFault,
-            Err(_) => return Status::NoMemory,
-        },
+    let Some(command) = command_of(words) else {
+        return Status::Usage;
+    };
+    let answer = match answer_of(alloc, command, source) {
+        Ok(answer) => answer,
+        Err(ReadError::ReadFault) => return Status::ReadFault,
+        Err(_) => return Status::NoMemory,
     };
     deliver(sink, &answer)
 }

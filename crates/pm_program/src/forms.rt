@@ -5,9 +5,10 @@ ghost use Rattle.serde_json.specs.Find.{as_str};
 ghost use Rattle.serde_json.specs.View.{view, items_view};
 ghost use Rattle.pm_program.specs.NameViews.{names_view};
 ghost use Rattle.pm_flat.specs.Letters.{all_printable};
-ghost use Rattle.pm_program.specs.Forms.{has_members, has_text, text_at, single, only_item, only_child, some_letters, text_in, paragraph_in, doc_in, position_at, slice_in, inserted, step_in, as_name, is_name_letter, names_in, all_differ, clients_in, lost_at, is_side, side_at};
+ghost use Rattle.pm_program.specs.Forms.{has_members, has_text, text_at, single, only_item, only_child, some_letters, text_in, paragraph_in, doc_in, position_at, slice_in, inserted, step_in, as_name, names_in, all_differ, clients_in, lost_at, is_side, side_at};
 
 use pm_flat::all_printable;
+use pm_head::is_name;
 use serde_json::Value;
 use std::alloc::{AllocError, Global};
 
@@ -212,30 +213,14 @@ pub fn step_in(json: &Value) -> Option<StepForm<'_>>
 
 ghost use Rattle.pm_program.specs.StepForms.{step_form};
 
-/// A client's name: 1 to 16 characters from a to z and from 0 to 9.
+/// A client's name.
 fn as_name(text: &str) -> Option<&str>
     ensures { option_map (λ s. s.now) result ≡ as_name text.now }
 {
-    if !text.is_empty() && text.len() <= 16 && all_name_letters(text) {
-        Some(text)
-    } else {
-        None
-    }
+    if is_name(text) { Some(text) } else { None }
 }
 
-fn all_name_letters(text: &str) -> bool
-    ensures { result ≡ list_all is_name_letter text.now }
-{
-    text.as_bytes().iter().all(|b| is_name_letter(*b))
-}
-
-ghost use Rattle.std.specs.List.{list_all, list_any};
-
-fn is_name_letter(byte: u8) -> bool
-    ensures { result ≡ is_name_letter byte }
-{
-    (97 <= byte && byte <= 122) || (48 <= byte && byte <= 57)
-}
+ghost use Rattle.std.specs.List.{list_any};
 
 /// The names in a list of clients.
 #[tactic(auto, using(crate::proofs::Names::names))]

@@ -1,36 +1,14 @@
-//! The lines of an input, and the JSON value of a line.
-ghost use Rattle.std.specs.Prelude.{◌≡◌, ◌<◌, [], ◌∷◌, ◌==◌, length, position, option_map, MatchOption, IfOk};
+//! The JSON value of a line.
+ghost use Rattle.std.specs.Prelude.{◌≡◌, option_map, IfOk};
 ghost use Rattle.serde_json.specs.View.{view};
-ghost use Rattle.pm_program.specs.Lines.{lines_of, json_of, value_of};
+ghost use Rattle.pm_program.specs.Lines.{value_of};
 
+use pm_head::json_of;
 use serde_json::Value;
 use std::alloc::{AllocError, Global};
 
 /// The greatest number of bytes of a line, its LF not counted.
 const MAX_LINE: usize = 1_048_576;
-
-const LF: u8 = b'\n';
-
-/// The first line, and what follows its LF. There is none in an empty input.
-pub fn first_line(bytes: &[u8]) -> Option<(&[u8], &[u8])>
-    ensures lines { MatchOption result (bytes.now ≡ []) (λ p. lines_of bytes.now ≡ p.0.now ∷ lines_of p.1.now) }
-    ensures shorter { MatchOption result (bytes.now ≡ []) (λ p. length p.1.now < length bytes.now) }
-{
-    if bytes.is_empty() {
-        return None;
-    }
-    match end_of_line(bytes) {
-        Some(i) => Some((&bytes[..i], &bytes[i + 1..])),
-        None => Some((bytes, &[])),
-    }
-}
-
-/// The place of the first LF.
-fn end_of_line(bytes: &[u8]) -> Option<usize>
-    ensures { result ≡ position (λ b. b == 10) bytes.now }
-{
-    bytes.iter().position(|b| *b == LF)
-}
 
 /// The JSON value of a line, where it isn't too long, is UTF-8 and is JSON.
 #[tactic(auto, unfolding(crate::specs::Lines::value_of))]
@@ -41,18 +19,4 @@ pub fn value_of(alloc: Global, line: &[u8]) -> Result<Option<Value>, AllocError>
         return Ok(None);
     }
     json_of(alloc, line)
-}
-
-/// The JSON value of a text.
-fn json_of(alloc: Global, line: &[u8]) -> Result<Option<Value>, AllocError>
-    ensures { IfOk result (λ o. option_map view o ≡ json_of line.now) }
-{
-    match Value::from_slice(alloc, line) {
-        Ok(value) => Ok(Some(value)),
-        Err(e) => if e.is_memory() {
-            Err(AllocError)
-        } else {
-            Ok(None)
-        },
-    }
 }

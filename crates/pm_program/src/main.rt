@@ -3,6 +3,9 @@
 
 mod answer;
 mod call;
+#[cfg(test)]
+mod check_tests;
+mod checking;
 mod earlier;
 mod fault;
 mod forms;
@@ -42,7 +45,7 @@ fn main(rt: HostRuntime) -> io::Result<ExitCode> {
     };
     match status {
         Status::Done | Status::SessionRefused => {}
-        Status::Usage => eprintln!(rt; "usage: replay")?,
+        Status::Usage => eprintln!(rt; "usage: check | replay")?,
         Status::ReadFault => eprintln!(rt; "read fault")?,
         Status::WriteFault => eprintln!(rt; "write fault")?,
         Status::NoMemory => eprintln!(rt; "no memory")?,

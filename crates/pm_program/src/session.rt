@@ -2,7 +2,7 @@
 ghost use Rattle.std.specs.Prelude.{◌≡◌, ◌≤◌, [], IfOk, length, map, vec_len, string_bytes};
 ghost use Rattle.pm_list.specs.Readings.{or_fault};
 ghost use Rattle.pm_program.specs.Answer.{Gives};
-ghost use Rattle.pm_program.specs.Lines.{lines_of};
+ghost use Rattle.pm_head.specs.Lines.{lines_of};
 ghost use Rattle.pm_program.specs.Reading.{doc_line, clients_line, ops_of, head, refused, session_in, session_of};
 ghost use Rattle.pm_program.specs.NameViews.{names_view};
 ghost use Rattle.pm_program.specs.SessionViews.{session_view};
@@ -10,10 +10,11 @@ ghost use Rattle.pm_program.specs.SessionViews.{session_view};
 use crate::earlier::Earlier;
 use crate::fault::{SessionError, not_built};
 use crate::forms::{clients_in, doc_in};
-use crate::lines::{first_line, value_of};
+use crate::lines::value_of;
 use crate::ops::{letters_of, op_line};
 use crate::schema_line::SCHEMA_LINE;
 use pm_flat::{Letters, Replace};
+use pm_head::first_line;
 use pm_session::Line;
 use std::alloc::Global;
 
@@ -71,7 +72,7 @@ fn session_in(alloc: Global, input: &[u8]) -> Result<Session, SessionError>
 }
 
 /// Line n, which must be there, and what follows it.
-#[tactic(auto, unfolding(crate::specs::Lines::lines_of))]
+#[tactic(auto, unfolding(pm_head::specs::Lines::lines_of))]
 fn head(n: u32, bytes: &[u8]) -> Result<(&[u8], &[u8]), SessionError>
     ensures { Gives (λ p. (p.0.now, lines_of p.1.now)) result (head n (lines_of bytes.now)) }
 {
@@ -112,8 +113,8 @@ fn clients_line(alloc: Global, line: &[u8]) -> Result<Vec<String>, SessionError>
 }
 
 /// The op lines, after so many characters.
-#[tactic(auto, using(pm_list::specs::Readings::fronts), unfolding(crate::specs::Reading::ops_of, crate::specs::Lines::lines_of))]
-fn ops_from(
+#[tactic(auto, using(pm_list::specs::Readings::fronts), unfolding(crate::specs::Reading::ops_of, pm_head::specs::Lines::lines_of))]
+pub fn ops_from(
     alloc: Global,
     names: &[String],
     used: usize,

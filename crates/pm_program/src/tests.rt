@@ -64,8 +64,13 @@ fn words(rt: &impl AllocGlobal, text: &str) -> Result<Vec<String>, Fail> {
 
 // Plays an input in ample memory, and gives the status and what was written.
 pub fn replay(rt: &impl AllocGlobal, input: Vec<u8>) -> Result<(Status, String), Fail> {
+    asked(rt, "replay", input)
+}
+
+// What these words do with an input in ample memory: the status, and what was written.
+pub fn asked(rt: &impl AllocGlobal, given: &str, input: Vec<u8>) -> Result<(Status, String), Fail> {
     let alloc = rt.alloc();
-    let words = words(rt, "replay")?;
+    let words = words(rt, given)?;
     let mut source = SureSource::new(input);
     let mut sink = SureSink::new(alloc, 100_000)?;
     let status = plain(alloc, &words, &mut source, &mut sink);
@@ -221,7 +226,7 @@ fn a_line_past_the_last_is_refused(rt: HostRuntime) -> Result<(), Fail> {
 #[test]
 fn other_words_are_usage(rt: HostRuntime) -> Result<(), Fail> {
     let alloc = rt.alloc();
-    for given in ["", "replay x", "gen 0 1 1", "check", "run", "--help"] {
+    for given in ["", "replay x", "gen 0 1 1", "check x", "run", "--help"] {
         let words = words(&rt, given)?;
         let mut source = SureSource::new(input(&rt, SCHEMA_LINE, &[AB])?);
         let mut sink = MemSink::new(alloc, 1000, Vec::new(alloc))?;

@@ -2,7 +2,7 @@ use Rattle.std.proofs.Common.{◌≡◌, drop}
 use Rattle.serde_json.specs.View.{items_view}
 use Rattle.pm_program.specs.Forms.{names_in}
 use Rattle.pm_program.specs.NameViews.{names_view}
-use Rattle.pm_program.proofs.Names.{with_some}
+use Rattle.pm_head.proofs.NameLists.{with_some}
 use Rattle.pm_program.proofs.forms.names_in.Given as goal
 
 abbrev pub invariant-loop-item : goal.invariant-loop-item

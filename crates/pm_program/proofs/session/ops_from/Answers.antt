@@ -1,6 +1,6 @@
 use Rattle.std.proofs.Common.{◌≡◌, [], map, string_bytes, arith, rules}
 use Rattle.std.specs.Prelude.{Some}
-use Rattle.pm_program.specs.Lines.{lines_of}
+use Rattle.pm_head.specs.Lines.{lines_of}
 use Rattle.pm_program.specs.Reading.{op_line, ops_of, refused}
 use Rattle.pm_program.proofs.OpLists.{or_fault-ok, ops-step}
 use Rattle.pm_program.proofs.session.ops_from.Goals as goal

@@ -1,6 +1,6 @@
 use Rattle.std.proofs.Common.{◌≡◌, ◌≤◌, ◌+◌, [], length, vec_len, map, string_bytes}
 use Rattle.pm_list.specs.Readings.{with_front}
-use Rattle.pm_program.specs.Lines.{lines_of}
+use Rattle.pm_head.specs.Lines.{lines_of}
 use Rattle.pm_program.specs.Reading.{ops_of}
 use Rattle.pm_program.proofs.session.ops_from.Given as goal
 
