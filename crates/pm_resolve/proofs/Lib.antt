@@ -1,0 +1,5 @@
+pub mod OpenLaws
+pub mod LevelLaws
+pub mod AmongLaws
+pub mod EnterLaws
+pub mod MarkLaws

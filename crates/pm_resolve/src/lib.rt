@@ -1,0 +1,16 @@
+//! Places of a document: the nodes around a position, and the marks there.
+#![tactic(auto)]
+
+mod children;
+mod fault;
+mod level;
+mod marks;
+mod place;
+mod walk;
+
+pub use fault::PlaceError;
+pub use place::Place;
+pub use walk::resolve;
+
+#[cfg(test)]
+mod tests;

@@ -1,0 +1,96 @@
+//! The marks at a place.
+ghost use Rattle.std.specs.Prelude.{◌≡◌, ◌≤◌, ◌||◌, None, length, IfOk};
+ghost use Rattle.pm_marks.specs.Sets.{has};
+ghost use Rattle.pm_attrs.specs.Attrs.{same_attrs};
+ghost use Rattle.pm_tokens.specs.Kids.{children};
+ghost use Rattle.pm_node.specs.Documents.{doc_of};
+ghost use Rattle.pm_node.specs.Trees.{list_tokens, IsNormal, EachWhole};
+ghost use Rattle.pm_resolve.specs.Places.{beside, marks_beside, going_on, inclusive_in};
+
+use crate::children::place_among;
+use pm_attrs::Attrs;
+use pm_marks::{Mark, MarkSet};
+use pm_node::{Body, Node};
+use pm_schema::Schema;
+use std::alloc::{AllocError, Global};
+use std::sync::Arc;
+
+/// The marks at a position of the node's content.
+pub fn marks_in(
+    alloc: Global,
+    schema: &Schema,
+    node: &Node,
+    pos: usize,
+) -> Result<MarkSet<Attrs>, AllocError>
+    requires { pos ≤ length (doc_of node.now).tokens }
+    ensures { IfOk result (λ m. m ≡ marks_beside (inclusive_in schema.now.spec) (beside None pos (children (doc_of node.now).tokens))) }
+{
+    match &node.body {
+        Body::Text(units) => {
+            if units.len() == 0 {
+                Ok(MarkSet::empty(alloc))
+            } else if 0 < pos && pos < units.len() {
+                node.marks.copy(alloc)
+            } else {
+                going_on(alloc, schema, &node.marks, &MarkSet::empty(alloc))
+            }
+        }
+        Body::Leaf => Ok(MarkSet::empty(alloc)),
+        Body::Children(content) => marks_among(alloc, schema, content.children(), pos),
+    }
+}
+
+/// The marks at a position among children.
+fn marks_among(
+    alloc: Global,
+    schema: &Schema,
+    nodes: &[Arc<Node, Global>],
+    pos: usize,
+) -> Result<MarkSet<Attrs>, AllocError>
+    requires within { pos ≤ length (list_tokens nodes.now) }
+    requires normal { IsNormal nodes.now }
+    requires whole { EachWhole nodes.now }
+    ensures { IfOk result (λ m. m ≡ marks_beside (inclusive_in schema.now.spec) (beside None pos (children (list_tokens nodes.now)))) }
+{
+    let none = MarkSet::empty(alloc);
+    let (index, rest) = place_among(nodes, pos);
+    if rest > 0 {
+        return nodes[index].marks.copy(alloc);
+    }
+    if index == 0 {
+        if nodes.is_empty() {
+            return Ok(none);
+        }
+        return going_on(alloc, schema, &nodes[0].marks, &none);
+    }
+    let before = &nodes[index - 1].marks;
+    if index == nodes.len() {
+        return going_on(alloc, schema, before, &none);
+    }
+    going_on(alloc, schema, before, &nodes[index].marks)
+}
+
+/// The marks without those whose type is not inclusive and which are not among the other ones.
+fn going_on(
+    alloc: Global,
+    schema: &Schema,
+    marks: &MarkSet<Attrs>,
+    other: &MarkSet<Attrs>,
+) -> Result<MarkSet<Attrs>, AllocError>
+    ensures { IfOk result (λ m. m ≡ going_on (inclusive_in schema.now.spec) other.now marks.now) }
+{
+    let mut left = marks.copy(alloc)?;
+    for mark in marks.marks() {
+        if !goes_on(schema, mark, other) {
+            left = left.remove(alloc, mark)?;
+        }
+    }
+    Ok(left)
+}
+
+/// Whether the mark's type is inclusive, or the mark is among the other ones.
+fn goes_on(schema: &Schema, mark: &Mark<Attrs>, other: &MarkSet<Attrs>) -> bool
+    ensures { result ≡ (inclusive_in schema.now.spec mark.now.kind || has same_attrs other.now mark.now) }
+{
+    (mark.kind < schema.mark_count() && schema.inclusive(mark.kind)) || other.has(mark)
+}

@@ -1,0 +1,76 @@
+//! The place of a position.
+ghost use Rattle.std.specs.Prelude.{◌≡◌, ◌<◌, ◌≤◌, ◌-◌, ◌↔◌, ◌&&◌, if◌then◌else◌, nat_lt, nat_le, Err, length, IfOk, OnOk};
+ghost use Rattle.pm_node.specs.Documents.{doc_of};
+ghost use Rattle.pm_resolve.specs.Levels.{Entered};
+
+use crate::children::place_among;
+use crate::fault::PlaceError;
+use crate::level::Level;
+use crate::place::Place;
+use pm_node::{Body, Document, Node};
+use std::alloc::{AllocError, Global};
+
+/// The place of a position of a document's content, counted in tokens. `OutOfRange` comes exactly where the position passes the size of the
+/// content.
+pub fn resolve<'a>(alloc: Global, doc: &'a Document, pos: usize) -> Result<Place<'a>, PlaceError>
+    ensures document { IfOk result (λ p. p.doc ≡ doc.now) }
+    ensures position { IfOk result (λ p. p.pos ≡ pos) }
+    ensures within { OnOk result (pos ≤ length doc.now.tokens) }
+    ensures out_of_range { (result ≡ Err PlaceError.OutOfRange) ↔ (length doc.now.tokens < pos) }
+{
+    if pos > doc.size() {
+        return Err(PlaceError::OutOfRange);
+    }
+    let mut levels = Vec::new(alloc);
+    enter(&mut levels, doc.top(), 0, pos)?;
+    Ok(Place::new(doc, pos, levels))
+}
+
+/// Puts a level for the node, whose content starts at `start`, and then one for each node in it around the position.
+fn enter<'a>(
+    levels: &mut Vec<Level<'a>>,
+    node: &'a Node,
+    start: usize,
+    pos: usize,
+) -> Result<(), AllocError>
+    requires started { start ≤ pos }
+    requires within { pos - start ≤ length (doc_of node.now).tokens }
+    ensures { OnOk result (Entered pos start node.now levels.old.items levels.new.items) }
+{
+    match &node.body {
+        Body::Text(units) => {
+            let index = ended_texts(units.len(), pos - start);
+            levels.push(Level { node, start, index })?;
+            Ok(())
+        }
+        Body::Leaf => {
+            levels.push(Level {
+                node,
+                start,
+                index: 0,
+            })?;
+            Ok(())
+        }
+        Body::Children(content) => {
+            let _ = content.size();
+            let children = content.children();
+            let (index, rest) = place_among(children, pos - start);
+            levels.push(Level { node, start, index })?;
+            if rest > 0 {
+                let child: &'a Node = &children[index];
+                if let Body::Children(inner) = &child.body {
+                    let _ = inner.size();
+                    return enter(levels, child, pos - rest + 1, pos);
+                }
+            }
+            Ok(())
+        }
+    }
+}
+
+/// How many texts end at or before a position of a content that is one text of so many units, or none.
+fn ended_texts(units: usize, pos: usize) -> usize
+    ensures { result ≡ (if nat_lt 0 units && nat_le units pos then 1 else 0) }
+{
+    if units > 0 && units <= pos { 1 } else { 0 }
+}
