@@ -71,4 +71,3 @@ module _ {Z : Type 0} (c : ℕ → ℕ → Bool) (b : List Token) (xs : List (Ar
   walked-room i s e m w =
       let p = part f t (owned [] (front xs i)) in
       omega (arith, w.starts, w.ends, ap length w.fed.tokens, length-append b (plain p), length-plain p, length-part f t (owned [] (front xs i)), length-owned [] (front xs i))
-

@@ -33,7 +33,6 @@ pub struct Builder {
 impl Model for Builder {
     ghost use Rattle.std.specs.Prelude.{List, ◌++◌};
     ghost use Rattle.pm_tokens.specs.Tokens.{Token};
-
     ghost use Rattle.pm_node.specs.Codes.{tokens_code};
 
     ghost Value = { List Token };

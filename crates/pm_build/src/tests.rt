@@ -112,7 +112,12 @@ fn nodes_are_built_from_left_to_right(rt: HostRuntime) -> Result<(), Fail> {
     let alloc = rt.alloc();
     let mut builder = Builder::new(alloc);
     assert_eq!(rt; builder.top(), None);
-    builder.open(alloc, QUOTE, Attrs::new(Vec::new(alloc)), MarkSet::empty(alloc))?;
+    builder.open(
+        alloc,
+        QUOTE,
+        Attrs::new(Vec::new(alloc)),
+        MarkSet::empty(alloc),
+    )?;
     builder.open_copy(alloc, &node(alloc, LINE, Body::Leaf))?;
     assert_eq!(rt; builder.top(), Some(LINE));
     builder.close(alloc)?;
@@ -131,9 +136,15 @@ fn a_close_meets_a_node_of_a_compatible_type(rt: HostRuntime) -> Result<(), Fail
     for (kind, refused) in &[(LINE, None), (QUOTE, Some(Refused::Join))] {
         let mut builder = Builder::new(alloc);
         builder.open_copy(alloc, &node(alloc, *kind, Body::Leaf))?;
-        assert_eq!(rt; builder.feed(alloc, &schema, &content, 2, 4).err(), *refused);
+        assert_eq!(rt;
+            builder.feed(alloc, &schema, &content, 2, 4).err(),
+            *refused
+        );
         let mut types = OpenTypes::new(alloc);
-        let opened = alone(alloc, node(alloc, *kind, Body::Children(Fragment::new(alloc))))?;
+        let opened = alone(
+            alloc,
+            node(alloc, *kind, Body::Children(Fragment::new(alloc))),
+        )?;
         types.cross(&schema, &opened, 0, 1)?;
         assert_eq!(rt; types.cross(&schema, &content, 2, 4).err(), *refused);
     }

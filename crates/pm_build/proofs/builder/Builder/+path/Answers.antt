@@ -44,9 +44,9 @@ open_path-returns-then-rest-size t c =
     let n = arc_value c.child-item.result in
     let lt : c.loop-child.rest < length (node_tokens n) = omega (arith, c.if-rest-size.true, c.size-size.ensures.size, ap (λ m. length (node_tokens m)) c.deref.ensures) in
     let is : path (node_tokens c.deref-then-rest-size.result.now) c.loop-child.rest ≡ path c.args.source.now c.args.pos =
-        ap (λ m. path (node_tokens m) c.loop-child.rest) c.deref-then-rest-size.ensures
-        ∙ (sym (path-first (node_tokens n) (rest xs (i + 1)) c.loop-child.rest lt) ∙ (ap (λ z. path z c.loop-child.rest) (sym k.tokens)
-        ∙ (sym c.loop-child.invariant.same ∙ ap (λ z. path z c.args.pos) e.tokens))) in
+    ap (λ m. path (node_tokens m) c.loop-child.rest) c.deref-then-rest-size.ensures
+    ∙ (sym (path-first (node_tokens n) (rest xs (i + 1)) c.loop-child.rest lt) ∙ (ap (λ z. path z c.loop-child.rest) (sym k.tokens)
+    ∙ (sym c.loop-child.invariant.same ∙ ap (λ z. path z c.args.pos) e.tokens))) in
     IfOk-equal c.open_path_in.result _ _ _ c.open_path_in.ensures (ap (λ z. z ++ path (node_tokens c.deref-then-rest-size.result.now) c.loop-child.rest) c.loop-child.invariant.kept ∙ ap (λ z. c.args.self.now ++ z) is)
 
 pub open_path-returns : goal.open_path-returns
