@@ -1,5 +1,5 @@
 //! Tables with ample memory: the sizes of filled nodes, and why there are none.
-use crate::{Body, FillError, make_filled};
+use crate::{Body, FillError, Node, make_filled};
 use pm_auto::{Expr, TypeId};
 use pm_list::Listed;
 use pm_schema::{AttrSpec, AttrSpecs, NodeSpec, Schema, SchemaSpec};
@@ -77,6 +77,17 @@ fn schema(alloc: Global) -> Result<Schema, Fail> {
     Ok(Schema::build(alloc, spec)?)
 }
 
+/// Whether the node has one child, which is a paragraph.
+fn has_one_paragraph(node: &Node) -> bool {
+    match &node.body {
+        Body::Children(content) => match content.children() {
+            [child] => child.kind == PARAGRAPH,
+            _ => false,
+        },
+        _ => false,
+    }
+}
+
 #[test]
 fn nodes_are_filled(rt: HostRuntime) -> Result<(), Fail> {
     let alloc = rt.alloc();
@@ -101,9 +112,7 @@ fn nodes_are_filled(rt: HostRuntime) -> Result<(), Fail> {
     if QUOTE < schema.node_count() {
         let quote = make_filled(alloc, &schema, QUOTE)?;
         assert!(rt; quote.kind == QUOTE);
-        assert!(rt;
-            matches!(&quote.body, Body::Children(content) if content.children().len() == 1 && content.children()[0].kind == PARAGRAPH)
-        );
+        assert!(rt; has_one_paragraph(&quote));
     }
     Ok(())
 }
