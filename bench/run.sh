@@ -100,3 +100,8 @@ both "automata of 60 types, 64 nested choices" "  60,000 steps over them" bracke
 
 title "maps, milliseconds" "ours" "ProseMirror"
 both "200 pending maps carried over 2,000 foreign ones" "  1,000 positions over all of them" maps 200 2000 20
+
+# ./pm builds the program where it is missing or older than a source.
+title "the word check, milliseconds" "ours" "ProseMirror"
+"$here/../pm" check </dev/null >"$work/empty" || true
+node "$here/check.js" "$here/../crates/pm_program/out/pm_program" $((10 * tries))
