@@ -12,8 +12,3 @@ pub use pm_meaning::Reason;
 pub use refusing::failed;
 pub use replacing::{replace, splice_document};
 pub use splicing::{join, splice};
-
-#[cfg(test)]
-mod sample;
-#[cfg(test)]
-mod tests;
