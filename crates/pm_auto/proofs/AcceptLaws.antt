@@ -10,6 +10,8 @@ use Rattle.pm_auto.specs.Core.{Core, when, nullable}
 use Rattle.pm_auto.proofs.Orders.{le_or_lt}
 use Rattle.pm_auto.specs.Lang.{In}
 use Rattle.pm_auto.specs.Expand.{expand}
+use Rattle.pm_auto.specs.Trim.{trimmed}
+use Rattle.pm_auto.proofs.TrimLaws.{lang-trim, trim-lang}
 use Rattle.pm_auto.specs.Table.{rows, firsts}
 use Rattle.pm_auto.specs.Runs.{look, next_rows, end_rows, runs_rows, accepts_rows, fits}
 use Rattle.pm_auto.specs.Automata.{Is_automaton}
@@ -222,19 +224,19 @@ walk-run rs ss ess n h (k ∷ w) i l = at (has k (kinds rs (set_at ss i).places)
     at true q go = let t = lead-target rs ss (set_at ss i) k (edges_at ess i) es.lead (same ∙ q) in rw t.is (go t.to t.inside ∙ rw t.at refl)
     at false q go = rw (no-target k (edges_at ess i) (same ∙ q)) (sym (run-dead rs k (set_at ss i) w q))
 
-pub accepted-fits : (x : Expr) (a : Auto) → Is_automaton (rows 0 (expand x)) (start_of (expand x)) a → (w : List ℕ) → accepted a.sets a.edges 0 w ≡ fits x w
-accepted-fits x a h w = walk-run (rows 0 (expand x)) a.sets a.edges h.full h.edges w 0 h.some ∙ rw h.begins (start-runs (expand x) w)
+pub accepted-fits : (x : Expr) (a : Auto) → Is_automaton (rows 0 (trimmed x)) (start_of (trimmed x)) a → (w : List ℕ) → accepted a.sets a.edges 0 w ≡ fits x w
+accepted-fits x a h w = walk-run (rows 0 (trimmed x)) a.sets a.edges h.full h.edges w 0 h.some ∙ rw h.begins (start-runs (trimmed x) w)
 
 -- the Bool that decides the language
 pub fits-in : (x : Expr) (w : List ℕ) → fits x w ≡ true → In x w
-fits-in x w h = lang-in x w (accepts-lang (expand x) w (sym (accepts-same (expand x) w) ∙ h))
+fits-in x w h = lang-in x w (trim-lang (expand x) w (accepts-lang (trimmed x) w (sym (accepts-same (trimmed x) w) ∙ h)))
 
 pub in-fits : (x : Expr) (w : List ℕ) → In x w → fits x w ≡ true
-in-fits x w h = accepts-same (expand x) w ∙ lang-accepts (expand x) w (in-lang x w h)
+in-fits x w h = accepts-same (trimmed x) w ∙ lang-accepts (trimmed x) w (lang-trim (expand x) w (in-lang x w h))
 
 pub fits-is : (x : Expr) (w : List ℕ) → (fits x w ≡ true) ↔ In x w
 fits-is x w = (fits-in x w, in-fits x w)
 
 -- an automaton accepts exactly the language of its expression
-pub accepted-in : (x : Expr) (a : Auto) → Is_automaton (rows 0 (expand x)) (start_of (expand x)) a → (w : List ℕ) → (accepted a.sets a.edges 0 w ≡ true) ↔ In x w
+pub accepted-in : (x : Expr) (a : Auto) → Is_automaton (rows 0 (trimmed x)) (start_of (trimmed x)) a → (w : List ℕ) → (accepted a.sets a.edges 0 w ≡ true) ↔ In x w
 accepted-in x a h w = (λ e. fits-in x w (sym (accepted-fits x a h w) ∙ e), λ i. accepted-fits x a h w ∙ in-fits x w i)

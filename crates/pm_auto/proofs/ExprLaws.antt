@@ -7,10 +7,10 @@ use Rattle.pm_auto.specs.Lang.{Within, Many, In, In_some, In_turn}
 use Rattle.pm_auto.specs.Expand.{in_turn, one_of, and_copies, optional, range, expand, expand_all}
 use Rattle.pm_auto.specs.declared.expr.Expr.{Expr, Empty, One, Choice', Seq', Plus', Star', Opt', Range', Row_of-Expr, end_of-Expr, more_of-Expr}
 
-joined : (P : List ℕ → Type 0) (Q : List ℕ → Type 0) (R : List ℕ → Type 0) (S : List ℕ → Type 0) → ((v : List ℕ) → P v → R v) → ((v : List ℕ) → Q v → S v) → (w : List ℕ) → Joined P Q w → Joined R S w
+pub joined : (P : List ℕ → Type 0) (Q : List ℕ → Type 0) (R : List ℕ → Type 0) (S : List ℕ → Type 0) → ((v : List ℕ) → P v → R v) → ((v : List ℕ) → Q v → S v) → (w : List ℕ) → Joined P Q w → Joined R S w
 joined P Q R S f g w j = record { left = j.left; right = j.right; is = j.is; in_left = f j.left j.in_left; in_right = g j.right j.in_right }
 
-times : (P : List ℕ → Type 0) (Q : List ℕ → Type 0) → ((v : List ℕ) → P v → Q v) → (n : ℕ) (w : List ℕ) → Times P n w → Times Q n w
+pub times : (P : List ℕ → Type 0) (Q : List ℕ → Type 0) → ((v : List ℕ) → P v → Q v) → (n : ℕ) (w : List ℕ) → Times P n w → Times Q n w
 times P Q f zero w h = h
 times P Q f (suc n) w h = joined P (Times P n) Q (Times Q n) f (times P Q f n) w h
 

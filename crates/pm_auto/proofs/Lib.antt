@@ -9,6 +9,7 @@ pub mod LookLaws
 mod RowLaws
 mod WidthLaws
 mod ExprLaws
+pub mod TrimLaws
 mod PartLaws
 mod SetLaws
 mod OnceLaws

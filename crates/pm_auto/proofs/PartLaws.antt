@@ -1,5 +1,5 @@
 -- The parts of an expansion.
-use Rattle.std.proofs.Common.{◌≡◌, ℕ, zero, suc, ◌+◌, ◌-◌, ◌*◌, ◌≤◌, ◌<◌, List, [], ◌∷◌, ◌++◌, length, map, take, get_or, Bool, true, false, ◌||◌, ◌&&◌, nat_eq, Option, Some, None, Result, Ok, Err, IfOk, ◌≢◌, refl, ap, sym, ◌∙◌, arith, add-zero, rules}
+use Rattle.std.proofs.Common.{◌≡◌, ℕ, zero, suc, ◌+◌, ◌-◌, ◌*◌, ◌≤◌, ◌<◌, List, [], ◌∷◌, ◌++◌, length, map, take, get_or, Bool, true, false, ◌||◌, ◌&&◌, cond, nat_eq, Option, Some, None, Result, Ok, Err, IfOk, ◌≢◌, refl, ap, sym, ◌∙◌, arith, add-zero, rules}
 use Rattle.std.proofs.lemmas.List.{take_more, map-append, length-map, length-append}
 use Rattle.std.proofs.Math.Nat.{mul-le-mul_right}
 use Rattle.pm_auto.specs.declared.places.Row.{Row}
@@ -7,7 +7,9 @@ use Rattle.pm_auto.specs.declared.places.Part.{Part}
 use Rattle.pm_auto.specs.declared.expr.Expr.{Expr}
 use Rattle.pm_auto.specs.Core.{Core, Never, Empty, One, Alt, Cat, Loop, when, nullable}
 use Rattle.pm_auto.specs.Expand.{expand, and_copies, range, optional, one_of, in_turn}
-use Rattle.pm_auto.specs.Table.{onward, again, rows, firsts, width, widths, part, one_or, one_then, repeated}
+use Rattle.pm_auto.specs.Table.{onward, again, rows, firsts, width, widths, part, one_or, one_then, both_parts, no_part, passes, repeated}
+use Rattle.pm_auto.specs.Trim.{has_list, trim}
+use Rattle.pm_auto.proofs.TrimLaws.{width-trim, nullable-trim, passes-trim}
 use Rattle.pm_auto.proofs.WidthLaws.{width-in_turn, width-one_of, width-and_copies, width-range}
 
 again-one : (fs : List ℕ) (kind : ℕ) (follow : List ℕ) (ends : Bool) → onward fs true record { kind = kind; follow = follow; ends = ends } ≡ again fs record { kind = kind; follow = follow; ends = ends }
@@ -36,11 +38,18 @@ part-or n m e d a b ea em eb =
     let s : m ≡ n + width e = em ∙ ap (λ z. n + z) w in
     rw (ea, eb, s) refl
 
-pub part-then : (n m : ℕ) (e d : Core) (a b : Part) → a ≡ part n e → m ≡ n + length a.rows → b ≡ part m d → one_then a b ≡ part n (Cat e d)
+pub part-then : (n m : ℕ) (e d : Core) (a b : Part) → a ≡ part n (trim e) → m ≡ n + length a.rows → b ≡ part m (trim d) → one_then a b ≡ part n (trim (Cat e d))
 part-then n m e d a b ea em eb =
-    let w : length a.rows ≡ width e = ap (λ z. length z.rows) ea ∙ length-rows n e in
-    let s : m ≡ n + width e = em ∙ ap (λ z. n + z) w in
-    rw (ea, eb, s) refl
+    let w : length a.rows ≡ width (trim e) = ap (λ z. length z.rows) ea ∙ length-rows n (trim e) in
+    let s : m ≡ n + width (trim e) = em ∙ ap (λ z. n + z) w in
+    let c : Part = part n (trim e) in
+    let f : Part = part (n + width (trim e)) (trim d) in
+    let g : passes c && passes f ≡ has_list e && has_list d = ap (λ z. z && passes f) (passes-trim n e) ∙ ap (λ z. has_list e && z) (passes-trim (n + width (trim e)) d) in
+    ap (λ (z : Part). one_then z b) ea ∙ ap (one_then c) (eb ∙ ap (λ (z : ℕ). part z (trim d)) s) ∙ ap (λ z. cond z (both_parts c f) no_part) g ∙ at (has_list e && has_list d)
+  where
+    at : (z : Bool) → cond z (both_parts (part n (trim e)) (part (n + width (trim e)) (trim d))) no_part ≡ part n (cond z (Cat (trim e) (trim d)) Never)
+    at true = refl
+    at false = refl
 
 pub part-optional : (n : ℕ) (d : Core) (b : Part) → b ≡ part n d → one_or record { rows = []; first = []; may_be_empty = true } b ≡ part n (optional d)
 part-optional n d b eb = rw (eb, add-zero) refl
@@ -119,10 +128,11 @@ nullable-copies (suc n) e d = nullable-copies n (Cat e d) d ∙ twice (nullable 
     not-zero n = search (rules, arith)
 
 -- a repetition without places
-pub part-none : (n low : ℕ) (high : Option ℕ) (d : Core) → width d ≡ 0 → record { rows = []; first = []; may_be_empty = nat_eq low 0 || nullable d } ≡ part n (range d low high)
+pub part-none : (n low : ℕ) (high : Option ℕ) (d : Core) → width d ≡ 0 → record { rows = []; first = []; may_be_empty = nat_eq low 0 || nullable d } ≡ part n (trim (range d low high))
 part-none n low high d h =
-    let w : width (range d low high) ≡ 0 = width-range d low high ∙ rw h (omega arith) in
-    rw (rows-none n (range d low high) w, firsts-none n (range d low high) w) (ap (λ z. record { rows = []; first = []; may_be_empty = z }) (sym (may-end high)))
+    let v : width (range d low high) ≡ 0 = width-range d low high ∙ rw h (omega arith) in
+    let w : width (trim (range d low high)) ≡ 0 = omega (arith, v, width-trim (range d low high)) in
+    rw (rows-none n (trim (range d low high)) w, firsts-none n (trim (range d low high)) w) (ap (λ z. record { rows = []; first = []; may_be_empty = z }) (sym (nullable-trim (range d low high) ∙ may-end high)))
   where
     may-end : (high : Option ℕ) → nullable (range d low high) ≡ nat_eq low 0 || nullable d
     may-end None = rw (nullable-copies low Empty d) (last (nat_eq low 0 || nullable d) (nullable d))
@@ -137,36 +147,36 @@ part-none n low high d h =
         last true false = refl
         last false b = refl
 
-length-part : (n : ℕ) (e : Core) (p : Part) → p ≡ part n e → length p.rows ≡ width e
-length-part n e p is = ap (λ z. length z.rows) is ∙ length-rows n e
+length-part : (n : ℕ) (e : Core) (p : Part) → p ≡ part n (trim e) → length p.rows ≤ width e
+length-part n e p is = let l : length p.rows ≡ width (trim e) = ap (λ z. length z.rows) is ∙ length-rows n (trim e) in omega (arith, l, width-trim e)
 
 module _ (n : ℕ) (xs : List Expr) (i : ℕ) (x : Expr) (p : Part) (k : ℕ) (l : i < length xs) (is : x ≡ get_or xs i x) (ek : k ≡ length p.rows) where
-  pub room-choice : n + widths (map expand xs) ≤ 4096 → p ≡ part n (one_of Never (map expand (take i xs))) → n + k + width (expand x) ≤ 4096
+  pub room-choice : n + widths (map expand xs) ≤ 4096 → p ≡ part n (trim (one_of Never (map expand (take i xs)))) → n + k + width (expand x) ≤ 4096
   room-choice r ep = omega (arith, r, ek, length-part n (one_of Never (map expand (take i xs))) p ep, width-one_of Never (map expand (take i xs)), widths-more xs i x l is)
 
-  pub room-turn : n + widths (map expand xs) ≤ 4096 → p ≡ part n (in_turn Empty (map expand (take i xs))) → n + k + width (expand x) ≤ 4096
+  pub room-turn : n + widths (map expand xs) ≤ 4096 → p ≡ part n (trim (in_turn Empty (map expand (take i xs)))) → n + k + width (expand x) ≤ 4096
   room-turn r ep = omega (arith, r, ek, length-part n (in_turn Empty (map expand (take i xs))) p ep, width-in_turn Empty (map expand (take i xs)), widths-more xs i x l is)
 
-  pub step-choice : (q r : Part) → p ≡ part n (one_of Never (map expand (take i xs))) → q ≡ part (n + k) (expand x) → r ≡ one_or p q → r ≡ part n (one_of Never (map expand (take (i + 1) xs)))
+  pub step-choice : (q r : Part) → p ≡ part n (trim (one_of Never (map expand (take i xs)))) → q ≡ part (n + k) (trim (expand x)) → r ≡ one_or p q → r ≡ part n (trim (one_of Never (map expand (take (i + 1) xs))))
   step-choice q r ep eq er =
-      er ∙ part-or n (n + k) (one_of Never (map expand (take i xs))) (expand x) p q ep (ap (λ z. n + z) ek) eq
-      ∙ ap (part n) (sym (ap (one_of Never) (items-more xs i x l is) ∙ one_of-more Never (map expand (take i xs)) (expand x)))
+      er ∙ part-or n (n + k) (trim (one_of Never (map expand (take i xs)))) (trim (expand x)) p q ep (ap (λ z. n + z) ek) eq
+      ∙ ap (λ (z : Core). part n (trim z)) (sym (ap (one_of Never) (items-more xs i x l is) ∙ one_of-more Never (map expand (take i xs)) (expand x)))
 
-  pub step-turn : (q r : Part) → p ≡ part n (in_turn Empty (map expand (take i xs))) → q ≡ part (n + k) (expand x) → r ≡ one_then p q → r ≡ part n (in_turn Empty (map expand (take (i + 1) xs)))
+  pub step-turn : (q r : Part) → p ≡ part n (trim (in_turn Empty (map expand (take i xs)))) → q ≡ part (n + k) (trim (expand x)) → r ≡ one_then p q → r ≡ part n (trim (in_turn Empty (map expand (take (i + 1) xs))))
   step-turn q r ep eq er =
       er ∙ part-then n (n + k) (in_turn Empty (map expand (take i xs))) (expand x) p q ep (ap (λ z. n + z) ek) eq
-      ∙ ap (part n) (sym (ap (in_turn Empty) (items-more xs i x l is) ∙ in_turn-more Empty (map expand (take i xs)) (expand x)))
+      ∙ ap (λ (z : Core). part n (trim z)) (sym (ap (in_turn Empty) (items-more xs i x l is) ∙ in_turn-more Empty (map expand (take i xs)) (expand x)))
 
 module _ (n i : ℕ) (e d : Core) (p : Part) (k : ℕ) (ek : k ≡ length p.rows) where
-  pub room-copies : (m : ℕ) → i < m → n + (width e + m * width d) ≤ 4096 → p ≡ part n (and_copies e i d) → n + k + width d ≤ 4096
+  pub room-copies : (m : ℕ) → i < m → n + (width e + m * width d) ≤ 4096 → p ≡ part n (trim (and_copies e i d)) → n + k + width d ≤ 4096
   room-copies m l r ep =
       let a : suc i * width d ≤ m * width d = mul-le-mul_right (width d) (omega arith) in
       omega (arith, r, ek, length-part n (and_copies e i d) p ep, width-and_copies i e d, a)
 
-  pub step-copies : (q r : Part) → p ≡ part n (and_copies e i d) → q ≡ part (n + k) d → r ≡ one_then p q → r ≡ part n (and_copies e (i + 1) d)
+  pub step-copies : (q r : Part) → p ≡ part n (trim (and_copies e i d)) → q ≡ part (n + k) (trim d) → r ≡ one_then p q → r ≡ part n (trim (and_copies e (i + 1) d))
   step-copies q r ep eq er =
       er ∙ part-then n (n + k) (and_copies e i d) d p q ep (ap (λ z. n + z) ek) eq
-      ∙ (let g : i + 1 ≡ suc i = omega arith in ap (part n) (sym (ap (λ (z : ℕ). and_copies e z d) g ∙ copies-more i e d)))
+      ∙ (let g : i + 1 ≡ suc i = omega arith in ap (λ (z : Core). part n (trim z)) (sym (ap (λ (z : ℕ). and_copies e z d) g ∙ copies-more i e d)))
 
 -- the two forms of a repetition
 module _ (n low : ℕ) (d : Core) where
@@ -177,14 +187,14 @@ module _ (n low : ℕ) (d : Core) where
   pub room-more : (m : ℕ) → n + width (range d low (Some m)) ≤ 4096 → n + (low * width d + (m - low) * width d) ≤ 4096
   room-more m r = omega (arith, r, width-and_copies low Empty d, width-and_copies (m - low) (and_copies Empty low d) (optional d))
 
-  pub room-last : (p : Part) (k : ℕ) → n + width (range d low None) ≤ 4096 → p ≡ part n (and_copies Empty low d) → k ≡ length p.rows → n + k + width d ≤ 4096
+  pub room-last : (p : Part) (k : ℕ) → n + width (range d low None) ≤ 4096 → p ≡ part n (trim (and_copies Empty low d)) → k ≡ length p.rows → n + k + width d ≤ 4096
   room-last p k r ep ek = omega (arith, r, ek, length-part n (and_copies Empty low d) p ep, width-and_copies low Empty d)
 
-  pub step-last : (p : Part) (k : ℕ) (q a b r : Part) → p ≡ part n (and_copies Empty low d) → k ≡ length p.rows → q ≡ part (n + k) d → a ≡ repeated q
-      → b ≡ one_or record { rows = []; first = []; may_be_empty = true } a → r ≡ one_then p b → r ≡ part n (range d low None)
+  pub step-last : (p : Part) (k : ℕ) (q a b r : Part) → p ≡ part n (trim (and_copies Empty low d)) → k ≡ length p.rows → q ≡ part (n + k) (trim d) → a ≡ repeated q
+      → b ≡ one_or record { rows = []; first = []; may_be_empty = true } a → r ≡ one_then p b → r ≡ part n (trim (range d low None))
   step-last p k q a b r ep ek eq ea eb er =
       er ∙ part-then n (n + k) (and_copies Empty low d) (optional (Loop d)) p b ep (ap (λ z. n + z) ek)
-      (eb ∙ part-optional (n + k) (Loop d) a (ea ∙ part-repeated (n + k) d q eq))
+      (eb ∙ part-optional (n + k) (Loop (trim d)) a (ea ∙ part-repeated (n + k) (trim d) q eq))
 
 pub low-none : (low : ℕ) (b x : Bool) → low ≡ 0 → b ≡ true → b ≡ nat_eq low 0 || x
 low-none zero b x e h = h
@@ -197,7 +207,7 @@ low-some (suc low) b x e h = h ∙ ap (λ z. z || x) (sym (not-zero low))
     not-zero : (n : ℕ) → nat_eq (suc n) 0 ≡ false
     not-zero n = search (rules, arith)
 
-pub none-is : (n low : ℕ) (high : Option ℕ) (d : Core) (b : Bool) (p : Part) → width d ≡ 0 → b ≡ nat_eq low 0 || nullable d → p ≡ record { rows = []; first = []; may_be_empty = b } → p ≡ part n (range d low high)
+pub none-is : (n low : ℕ) (high : Option ℕ) (d : Core) (b : Bool) (p : Part) → width d ≡ 0 → b ≡ nat_eq low 0 || nullable d → p ≡ record { rows = []; first = []; may_be_empty = b } → p ≡ part n (trim (range d low high))
 none-is n low high d b p h eb ep = ep ∙ rw eb (part-none n low high d h)
 
 pub if_ok-map : {A E : Type 0} (P Q : A → Type 0) (r : Result A E) → ((x : A) → P x → Q x) → IfOk r P → IfOk r Q

@@ -2,6 +2,7 @@ pub mod Core
 pub mod Tree
 pub mod Lang
 pub mod Expand
+pub mod Trim
 pub mod Table
 pub mod Numbers
 pub mod Runs

@@ -3,7 +3,7 @@ use Rattle.std.specs.Prelude.{ℕ, zero, suc, List, [], ◌∷◌, ◌++◌, Boo
 use Rattle.pm_auto.specs.declared.places.Row.{Row}
 use Rattle.pm_auto.specs.declared.expr.Expr.{Expr}
 use Rattle.pm_auto.specs.Core.{Core, nullable, when}
-use Rattle.pm_auto.specs.Expand.{expand}
+use Rattle.pm_auto.specs.Trim.{trimmed}
 use Rattle.pm_auto.specs.Table.{rows, firsts}
 
 -- the k-th row
@@ -33,4 +33,4 @@ accepts_rows e w = runs_rows (rows 0 e) (firsts 0 e) (nullable e) w
 
 -- the list of types is in the language of the expression, decided
 abbrev pub fits : Expr → List ℕ → Bool
-fits e w = accepts_rows (expand e) w
+fits e w = accepts_rows (trimmed e) w

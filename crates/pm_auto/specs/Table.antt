@@ -1,5 +1,5 @@
 -- The places of an expression as rows of a table, numbered from the left.
-use Rattle.std.specs.Prelude.{ℕ, ◌+◌, List, [], ◌∷◌, ◌++◌, map, Bool, true, ◌&&◌, ◌||◌}
+use Rattle.std.specs.Prelude.{ℕ, ◌+◌, List, [], ◌∷◌, ◌++◌, map, Bool, true, false, ◌&&◌, ◌||◌, cond}
 use Rattle.pm_auto.specs.declared.places.Row.{Row}
 use Rattle.pm_auto.specs.declared.places.Part.{Part}
 use Rattle.pm_auto.specs.Core.{Core, Never, Empty, One, Alt, Cat, Loop, nullable, when}
@@ -52,9 +52,26 @@ part n e = record { rows = rows n e; first = firsts n e; may_be_empty = nullable
 abbrev pub one_or : Part → Part → Part
 one_or a b = record { rows = a.rows ++ b.rows; first = a.first ++ b.first; may_be_empty = a.may_be_empty || b.may_be_empty }
 
--- one part and then the other
+-- a part without places and without a list
+abbrev pub no_part : Part
+no_part = record { rows = []; first = []; may_be_empty = false }
+
+-- the list has an item
+abbrev pub some : List ℕ → Bool
+some [] = false
+some (n ∷ ns) = true
+
+-- a list leads through the part, where each place of it leads to its end
+abbrev pub passes : Part → Bool
+passes p = p.may_be_empty || some p.first
+
+-- one part and then the other, where lists lead through both
+abbrev pub both_parts : Part → Part → Part
+both_parts a b = record { rows = map (onward b.first b.may_be_empty) a.rows ++ b.rows; first = a.first ++ when a.may_be_empty b.first; may_be_empty = a.may_be_empty && b.may_be_empty }
+
+-- one part and then the other; nothing where no list leads through one of them
 abbrev pub one_then : Part → Part → Part
-one_then a b = record { rows = map (onward b.first b.may_be_empty) a.rows ++ b.rows; first = a.first ++ when a.may_be_empty b.first; may_be_empty = a.may_be_empty && b.may_be_empty }
+one_then a b = cond (passes a && passes b) (both_parts a b) no_part
 
 -- a part once or more often
 abbrev pub repeated : Part → Part

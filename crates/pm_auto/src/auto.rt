@@ -18,7 +18,7 @@ use crate::wraps::{hold_first, keep_wrappers, links_within};
 use pm_list::Listed;
 use std::alloc::{AllocError, Global};
 
-/// The most places that an expansion may have.
+/// The most occurrences of types that an expansion may have.
 const MAX_PLACES: usize = 4096;
 
 /// A state of an automaton: its number, below the number of its states. The start is 0.
@@ -45,6 +45,7 @@ pub struct Auto {
 impl Auto {
     ghost use Rattle.pm_auto.specs.Lang.{In};
     ghost use Rattle.pm_auto.specs.Expand.{expand};
+    ghost use Rattle.pm_auto.specs.Trim.{trimmed};
     ghost use Rattle.pm_auto.specs.Table.{width as places, rows};
     ghost use Rattle.pm_auto.specs.Runs.{fits};
     ghost use Rattle.pm_auto.specs.Automata.{Is_automaton};
@@ -61,13 +62,16 @@ impl Auto {
     /// a type without an entry counts as a block type. Its states are the sets of places
     /// that may come next after some list, its edges stand in the order of their first places, and a list leads from the
     /// start to a valid end exactly where it is in the expression's language. `Mixed` exactly where both an inline and a
-    /// block type occur; else `TooWide` exactly where the expansion has more than 4,096 places or more than 1,000 states can
-    /// be reached.
+    /// block type occur; else `TooWide` exactly where the expansion has more than 4,096 occurrences of types or more than
+    /// 1,000 states can be reached.
+    ///
+    /// The places are the occurrences of types in the expansion, without what stands before or behind a part that has no list,
+    /// as a choice of nothing: so each place of a state is one that some list passes.
     pub fn build(alloc: Global, expr: &Expr, inline: &[bool]) -> Result<Auto, AutoError>
-        ensures automaton { IfOk result (λ a. Is_automaton (rows 0 (expand expr.now)) (start_of (expand expr.now)) a) }
+        ensures automaton { IfOk result (λ a. Is_automaton (rows 0 (trimmed expr.now)) (start_of (trimmed expr.now)) a) }
         ensures language { IfOk result (λ a. (w : List ℕ) → (accepted a.sets a.edges 0 w ≡ true) ↔ In expr.now w) }
         ensures pure { IfOk result (λ _. (Is_mixed expr.now inline.now → ⊥) × (places (expand expr.now) < 4097)) }
-        ensures few { IfOk result (λ _. Too_many (rows 0 (expand expr.now)) (start_of (expand expr.now)) → ⊥) }
+        ensures few { IfOk result (λ _. Too_many (rows 0 (trimmed expr.now)) (start_of (trimmed expr.now)) → ⊥) }
         ensures fault { IfErr result (λ e. Is_fault expr.now inline.now e) }
 
         // The test that definitions use for the language agrees with it.

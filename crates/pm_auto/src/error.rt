@@ -11,7 +11,7 @@ pub enum AutoError {
     /// Both an inline and a block type occur in the expression.
     #[error("inline and block types are mixed")]
     Mixed,
-    /// The expansion has more than 4,096 places, or more than 1,000 states can be reached.
+    /// The expansion has more than 4,096 occurrences of types, or more than 1,000 states can be reached.
     #[error("the expression is too wide")]
     TooWide,
     /// There was no memory for the automaton.

@@ -1,6 +1,6 @@
 //! The places of an expression, and how they follow one another.
 ghost use Rattle.std.specs.Prelude.{◌≡◌, ◌++◌, ◌∷◌, [], map, true, false, IfOk, OnOk};
-ghost use Rattle.pm_auto.specs.Table.{onward, one_or, one_then, repeated};
+ghost use Rattle.pm_auto.specs.Table.{onward, one_or, one_then, both_parts, passes, repeated};
 
 use crate::expr::TypeId;
 use pm_list::Listed;
@@ -80,9 +80,27 @@ pub(crate) fn either(a: Part, b: Part) -> Result<Part, AllocError>
     })
 }
 
-/// One part and then the other.
+/// One part and then the other. Where no list leads through one of them, none leads through the whole, and it has no places.
 pub(crate) fn then(alloc: Global, a: Part, b: Part) -> Result<Part, AllocError>
     ensures { IfOk result (λ p. p ≡ one_then a b) }
+{
+    if has_list(&a) && has_list(&b) {
+        both(alloc, a, b)
+    } else {
+        Ok(no_places(alloc, false))
+    }
+}
+
+/// Whether a list leads through the part.
+fn has_list(part: &Part) -> bool
+    ensures { result ≡ passes part.now }
+{
+    part.may_be_empty || !part.first.is_empty()
+}
+
+/// One part and then the other, where lists lead through both.
+fn both(alloc: Global, a: Part, b: Part) -> Result<Part, AllocError>
+    ensures { IfOk result (λ p. p ≡ both_parts a b) }
 {
     let Part {
         rows,

@@ -107,6 +107,23 @@ fn a_repetition_without_places_is_built(rt: HostRuntime) -> Result<(), Fail> {
 }
 
 #[test]
+fn a_part_without_a_list_leaves_no_place(rt: HostRuntime) -> Result<(), Fail> {
+    let alloc = rt.alloc();
+    let behind = Expr::Seq(vec![in alloc; Expr::One(1), Expr::Choice(Vec::new(alloc))]?);
+    let auto = build(alloc, behind.copy(alloc)?)?;
+    assert!(rt; auto.edges(auto.start()).is_empty());
+    assert!(rt; !auto.valid_end(auto.start()));
+    let before = Expr::Seq(vec![in alloc; Expr::Choice(Vec::new(alloc)), Expr::One(1)]?);
+    let either = Expr::Choice(vec![in alloc; behind, before, Expr::One(2)]?);
+    let auto = build(alloc, plus(alloc, either)?)?;
+    let edges = auto.edges(auto.start());
+    assert!(rt; edges.len() == 1);
+    assert!(rt; edges[0].kind == 2);
+    assert!(rt; accepts(&auto, auto.start(), [2, 2].as_slice()));
+    Ok(())
+}
+
+#[test]
 fn the_small_schema_is_filled_and_wrapped(rt: HostRuntime) -> Result<(), Fail> {
     let alloc = rt.alloc();
     let autos = schema(alloc)?;

@@ -1,5 +1,5 @@
 -- Place words are lists of places that follow one another in the table.
-use Rattle.std.proofs.Common.{◌≡◌, ℕ, ◌+◌, ◌<◌, List, [], ◌∷◌, ◌++◌, map, length, ap, sym, ◌∙◌, subst, arith}
+use Rattle.std.proofs.Common.{◌≡◌, ℕ, ◌+◌, ◌<◌, List, [], ◌∷◌, ◌++◌, map, length, refl, ap, sym, ◌∙◌, subst, arith, inl, inr, ◌⊎◌}
 use Rattle.pm_auto.specs.declared.places.Row.{Row}
 use Rattle.pm_auto.specs.Core.{Core, Lang, Place, first, follow}
 use Rattle.pm_auto.specs.Table.{width, rows, firsts}
@@ -15,7 +15,7 @@ use Rattle.pm_auto.proofs.LookLaws.{look-row}
 use Rattle.pm_places.proofs.Members.{Is_in}
 use Rattle.pm_places.proofs.Links.{Linked}
 use Rattle.pm_places.proofs.Numbering.{width-numbered, kind-number, number-below, length-rows, firsts-numbered, follow-numbered}
-use Rattle.pm_places.proofs.Sound.{Goes_on, Is_sound, lives-list, after-list, lives-numbered, goes-numbered}
+use Rattle.pm_places.proofs.Sound.{Goes_on, after-list, goes-numbered}
 
 module _ (e : Core) where
   -- the expression with places for types, and the numbers of its places
@@ -72,9 +72,9 @@ module _ (e : Core) where
   word-linked [] v h = tt
   word-linked (k ∷ ps) v h = subst (λ (ns : List ℕ). Linked (rows 0 e) ns (k ∷ ps)) first-numbers (begin-linked k ps v (first c) (first-lang c k (ps ++ v) h))
 
-  -- places that follow one another from the first begin a place word
-  pub linked-word : Is_sound e → (ps : List ℕ) → Linked (rows 0 e) (firsts 0 e) ps → (v : List ℕ) × Lang c (ps ++ v)
-  linked-word s [] l = lives-list c (lives-numbered 0 e s.1)
+  -- places that follow one another from the first begin a place word, where there is one
+  pub linked-word : Goes_on e → (ps : List ℕ) → Linked (rows 0 e) (firsts 0 e) ps → (ps ≡ []) ⊎ ((v : List ℕ) × Lang c (ps ++ v))
+  linked-word s [] l = inl refl
   linked-word s (k ∷ ps) l =
-      let r = linked-begin s.0 k ps (first c) (subst (λ (ns : List ℕ). Linked (rows 0 e) ns (k ∷ ps)) (sym first-numbers) l) in
-      (r.0, lang-first c k (ps ++ r.0) r.1)
+      let r = linked-begin s k ps (first c) (subst (λ (ns : List ℕ). Linked (rows 0 e) ns (k ∷ ps)) (sym first-numbers) l) in
+      inr (r.0, lang-first c k (ps ++ r.0) r.1)

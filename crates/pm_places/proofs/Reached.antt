@@ -1,5 +1,5 @@
 -- The states of an automaton, and the places that may come next.
-use Rattle.std.proofs.Common.{◌≡◌, ℕ, zero, suc, ◌<◌, List, [], ◌∷◌, ◌++◌, map, length, get_or, Bool, Some, None, ◌↔◌, refl, ap, sym, ◌∙◌, subst, arith, inl, inr}
+use Rattle.std.proofs.Common.{◌≡◌, ℕ, zero, suc, ◌<◌, List, [], ◌∷◌, ◌++◌, map, length, get_or, Bool, Some, None, ◌↔◌, refl, ap, sym, ◌∙◌, subst, arith, inl, inr, ◌⊎◌, append-nil}
 use Rattle.std.specs.Prelude.{Option, IsSome, is_some, option_and_then}
 use Rattle.pm_auto.specs.declared.places.Row.{Row}
 use Rattle.pm_auto.specs.declared.sets.PlaceSet.{PlaceSet}
@@ -7,19 +7,21 @@ use Rattle.pm_auto.specs.declared.auto.Edge.{Edge}
 use Rattle.pm_auto.specs.declared.auto.Auto.{Auto}
 use Rattle.pm_auto.specs.declared.expr.Expr.{Expr}
 use Rattle.pm_auto.specs.Expand.{expand}
+use Rattle.pm_auto.specs.Trim.{trimmed}
 use Rattle.pm_auto.specs.Table.{rows, firsts}
 use Rattle.pm_auto.specs.Runs.{next_rows}
 use Rattle.pm_auto.specs.States.{has, kinds, step, start_of, set_at, edge_kinds, Edges_of, Leads_to, All_reached, Apart, Differ}
 use Rattle.pm_auto.specs.Walks.{target, edges_at, via, ends_at, accepted}
 use Rattle.pm_auto.proofs.AcceptLaws.{accepted-in, edges-of-at, both-ways}
-use Rattle.pm_places.specs.Words.{spelled, type_at}
+use Rattle.pm_auto.specs.Core.{Lang}
+use Rattle.pm_places.specs.Words.{numbered, spelled, type_at}
 use Rattle.pm_places.specs.Nexts.{BeginsWith, IsBegun, ComesNext, led_to, IsStateAfter, IsLeast, AreTypesNext, AreAlike}
 use Rattle.pm_places.specs.Laws.{IsAutomatonOf}
 use Rattle.pm_auto.proofs.HasLaws.{has-back}
 use Rattle.pm_places.proofs.Members.{Is_in, has-is, in-contains, contains-in, Rising, rising-next, rising-same, order-in, in-order, order-rising}
 use Rattle.pm_places.proofs.Links.{kind_at, Linked, Within, order-within, in-kinds, Spelled, leads-linked, linked-leads, leads-one}
 use Rattle.pm_places.proofs.Numbering.{kind-type}
-use Rattle.pm_places.proofs.Sound.{expand-sound}
+use Rattle.pm_places.proofs.Sound.{trim-goes}
 use Rattle.pm_places.proofs.Chains.{word-linked, linked-word}
 use Rattle.pm_places.proofs.Walked.{has-once, leads-led, led-leads}
 use Rattle.pm_places.proofs.Leasts.{leasts, leasts-types, leasts-rising, leasts-in, leasts-least}
@@ -67,52 +69,66 @@ item-in [] k d l = absurd (omega arith)
 item-in (x ∷ xs) zero d l = inl refl
 item-in (x ∷ xs) (suc k) d l = inr (item-in xs k d (omega arith))
 
+none-behind : (ps : List ℕ) (q : ℕ) → ps ++ q ∷ [] ≡ [] → ⊥
+none-behind [] q n = absurd (cc)
+none-behind (p ∷ ps) q n = absurd (cc)
+
 module _ (x : Expr) (a : Auto) (h : IsAutomatonOf x a) where
   abbrev rs : List Row
-  rs = rows 0 (expand x)
+  rs = rows 0 (trimmed x)
 
   abbrev start : PlaceSet
-  start = start_of (expand x)
+  start = start_of (trimmed x)
 
   spell-types : (ps : List ℕ) → map (kind_at rs) ps ≡ spelled x ps
   spell-types [] = refl
-  spell-types (p ∷ ps) = rw (kind-type (expand x) p, spell-types ps) refl
+  spell-types (p ∷ ps) = rw (kind-type (trimmed x) p, spell-types ps) refl
 
   start-order : In_order rs start
-  start-order = record { within = order-within rs (firsts 0 (expand x)); rising = order-rising (firsts 0 (expand x)) 0 rs }
+  start-order = record { within = order-within rs (firsts 0 (trimmed x)); rising = order-rising (firsts 0 (trimmed x)) 0 rs }
 
-  start-linked : (ps : List ℕ) → Linked rs (firsts 0 (expand x)) ps → Linked rs start.places ps
+  start-linked : (ps : List ℕ) → Linked rs (firsts 0 (trimmed x)) ps → Linked rs start.places ps
   start-linked [] l = tt
-  start-linked (p ∷ ps) l = let u : p < length rs = l.0.1 in ((in-order (firsts 0 (expand x)) 0 p rs l.0.0 (omega arith) (omega (arith, u)), l.0.1), l.1)
+  start-linked (p ∷ ps) l = let u : p < length rs = l.0.1 in ((in-order (firsts 0 (trimmed x)) 0 p rs l.0.0 (omega arith) (omega (arith, u)), l.0.1), l.1)
 
-  linked-start : (ps : List ℕ) → Linked rs start.places ps → Linked rs (firsts 0 (expand x)) ps
+  linked-start : (ps : List ℕ) → Linked rs start.places ps → Linked rs (firsts 0 (trimmed x)) ps
   linked-start [] l = tt
-  linked-start (p ∷ ps) l = (((order-in (firsts 0 (expand x)) 0 p rs l.0.0).0, l.0.1), l.1)
+  linked-start (p ∷ ps) l = (((order-in (firsts 0 (trimmed x)) 0 p rs l.0.0).0, l.0.1), l.1)
 
   begins-spelled : (w us : List ℕ) → BeginsWith x w us → Spelled rs start.places w us
-  begins-spelled w us b = record { places = b.places; spell = spell-types b.places ∙ b.spell; links = start-linked (b.places ++ us) (word-linked (expand x) (b.places ++ us) b.rest b.word) }
+  begins-spelled w us b = record { places = b.places; spell = spell-types b.places ∙ b.spell; links = start-linked (b.places ++ us) (word-linked (trimmed x) (b.places ++ us) b.rest b.word) }
 
-  spelled-begins : (w us : List ℕ) → Spelled rs start.places w us → BeginsWith x w us
-  spelled-begins w us s =
-      let r = linked-word (expand x) (expand-sound x h.0) (s.places ++ us) (linked-start (s.places ++ us) s.links) in
-      record { places = s.places; spell = sym (spell-types s.places) ∙ s.spell; rest = r.0; word = r.1 }
+  spelled-begins : (w us : List ℕ) → (s : Spelled rs start.places w us) → (s.places ++ us ≡ []) ⊎ BeginsWith x w us
+  spelled-begins w us s = at (linked-word (trimmed x) (trim-goes (expand x)) (s.places ++ us) (linked-start (s.places ++ us) s.links))
+    where
+      at : (s.places ++ us ≡ []) ⊎ ((v : List ℕ) × Lang (numbered 0 (trimmed x)) ((s.places ++ us) ++ v)) → (s.places ++ us ≡ []) ⊎ BeginsWith x w us
+      at (inl e) = inl e
+      at (inr r) = inr (record { places = s.places; spell = sym (spell-types s.places) ∙ s.spell; rest = r.0; word = r.1 })
 
   -- a list that leads to a state is a run to it from the start
   run-to : (w : List ℕ) (t : ℕ) → led_to a.edges 0 w ≡ Some t → Leads_to rs start w (set_at a.sets t)
-  run-to w t e = subst (λ (s : PlaceSet). Leads_to rs s w (set_at a.sets t)) h.1.begins (led-leads rs a.sets a.edges h.1.full h.1.edges w 0 t h.1.some e).leads
+  run-to w t e = subst (λ (s : PlaceSet). Leads_to rs s w (set_at a.sets t)) h.begins (led-leads rs a.sets a.edges h.full h.edges w 0 t h.some e).leads
 
   inside : (w : List ℕ) (t : ℕ) → led_to a.edges 0 w ≡ Some t → t < length a.sets
-  inside w t e = (led-leads rs a.sets a.edges h.1.full h.1.edges w 0 t h.1.some e).inside
+  inside w t e = (led-leads rs a.sets a.edges h.full h.edges w 0 t h.some e).inside
 
   begun : (w : List ℕ) (o : Option ℕ) → led_to a.edges 0 w ≡ o → IsSome o → IsBegun x w
   begun w None e i = absurd (cc)
-  begun w (Some t) e i = spelled-begins w [] (leads-linked rs w start (set_at a.sets t) [] start-order.within (run-to w t e) tt)
+  begun w (Some t) e i = at (spelled-begins w [] s)
+    where
+      s : Spelled rs start.places w []
+      s = leads-linked rs w start (set_at a.sets t) [] start-order.within (run-to w t e) tt
+
+      at : (s.places ++ [] ≡ []) ⊎ BeginsWith x w [] → IsBegun x w
+      at (inl n) = inl (sym s.spell ∙ ap (map (kind_at rs)) (sym (append-nil s.places) ∙ n))
+      at (inr b) = inr b
 
   leads : (w : List ℕ) → IsBegun x w → IsSome (led_to a.edges 0 w)
-  leads w b =
+  leads w (inl e) = subst (λ (z : List ℕ). IsSome (led_to a.edges 0 z)) (sym e) refl
+  leads w (inr b) =
       let s = begins-spelled w [] b in
       let l = linked-leads rs s.places [] start s.links in
-      let r = leads-led rs a.sets a.edges h.1.full h.1.edges w 0 l.to h.1.some (subst (λ (z : PlaceSet). Leads_to rs z w l.to) (sym h.1.begins) (subst (λ (v : List ℕ). Leads_to rs start v l.to) s.spell l.leads)) in
+      let r = leads-led rs a.sets a.edges h.full h.edges w 0 l.to h.some (subst (λ (z : PlaceSet). Leads_to rs z w l.to) (sym h.begins) (subst (λ (v : List ℕ). Leads_to rs start v l.to) s.spell l.leads)) in
       ap is_some r.is
 
   pub leads-where-begun : (w : List ℕ) → IsSome (led_to a.edges 0 w) ↔ IsBegun x w
@@ -123,7 +139,14 @@ module _ (x : Expr) (a : Auto) (h : IsAutomatonOf x a) where
     order = leads-order rs w start (set_at a.sets t) start-order (run-to w t e)
 
     in-comes : (q : ℕ) → Is_in q (set_at a.sets t).places → ComesNext x w q
-    in-comes q i = spelled-begins w (q ∷ []) (leads-linked rs w start (set_at a.sets t) (q ∷ []) start-order.within (run-to w t e) ((i, order.within q i), tt))
+    in-comes q i = at (spelled-begins w (q ∷ []) s)
+      where
+        s : Spelled rs start.places w (q ∷ [])
+        s = leads-linked rs w start (set_at a.sets t) (q ∷ []) start-order.within (run-to w t e) ((i, order.within q i), tt)
+
+        at : (s.places ++ q ∷ [] ≡ []) ⊎ BeginsWith x w (q ∷ []) → ComesNext x w q
+        at (inl n) = absurd (none-behind s.places q n)
+        at (inr b) = b
 
     comes-in : (q : ℕ) → ComesNext x w q → Is_in q (set_at a.sets t).places
     comes-in q b =
@@ -136,26 +159,26 @@ module _ (x : Expr) (a : Auto) (h : IsAutomatonOf x a) where
     leads-to-state = record {
       next = λ q. (λ c. in-comes q (contains-in q (set_at a.sets t).places c), λ b. in-contains q (set_at a.sets t).places (comes-in q b));
       ordered = rising-next 0 (set_at a.sets t).places order.rising;
-      ends = let is = led-accepted a.sets a.edges w 0 t e in let d = accepted-in x a h.1 w in (λ i. d.0 (is ∙ i), λ i. sym is ∙ d.1 i);
+      ends = let is = led-accepted a.sets a.edges w 0 t e in let d = accepted-in x a h w in (λ i. d.0 (is ∙ i), λ i. sym is ∙ d.1 i);
     }
 
     abbrev least_places : List ℕ
     least_places = leasts rs [] (set_at a.sets t).places
 
     edges : Edges_of rs a.sets (set_at a.sets t) (edges_at a.edges t)
-    edges = let l = inside w t e in let n = h.1.full in edges-of-at rs a.sets a.sets a.edges t (omega (arith, l, n)) h.1.edges
+    edges = let l = inside w t e in let n = h.full in edges-of-at rs a.sets a.sets a.edges t (omega (arith, l, n)) h.edges
 
     is-least : (p : ℕ) → Is_in p least_places → IsLeast x w p
     is-least p i = record {
       comes = in-comes p (leasts-in rs p [] (set_at a.sets t).places i);
-      least = λ q b d. leasts-least rs 0 p q [] (set_at a.sets t).places order.rising i (comes-in q b) (kind-type (expand x) q ∙ d ∙ sym (kind-type (expand x) p));
+      least = λ q b d. leasts-least rs 0 p q [] (set_at a.sets t).places order.rising i (comes-in q b) (kind-type (trimmed x) q ∙ d ∙ sym (kind-type (trimmed x) p));
     }
 
     type-in : (q : ℕ) → Is_in q (set_at a.sets t).places → Is_in (type_at x q) (edge_kinds (edges_at a.edges t))
     type-in q i =
         let k = in-kinds rs (kind_at rs q) (set_at a.sets t).places (has-back (λ (p : ℕ). kind_at rs p ≡ kind_at rs q) (set_at a.sets t).places q i refl) in
         let o : Is_in (kind_at rs q) (edge_kinds (edges_at a.edges t)) = has-is (kind_at rs q) (edge_kinds (edges_at a.edges t)) (ap (has (kind_at rs q)) edges.types ∙ has-once (kind_at rs q) (kinds rs (set_at a.sets t).places) k) in
-        subst (λ (z : ℕ). Is_in z (edge_kinds (edges_at a.edges t))) (kind-type (expand x) q) o
+        subst (λ (z : ℕ). Is_in z (edge_kinds (edges_at a.edges t))) (kind-type (trimmed x) q) o
 
     pub has-edges-next : AreTypesNext x w (edge_kinds (edges_at a.edges t))
     has-edges-next = record {
@@ -168,12 +191,12 @@ module _ (x : Expr) (a : Auto) (h : IsAutomatonOf x a) where
 
   pub reaches-each : (s : ℕ) → s < length a.sets → (w : List ℕ) × (led_to a.edges 0 w ≡ Some s)
   reaches-each s l =
-      let r = reached-at rs start a.sets s l h.1.reached in
-      let g = leads-led rs a.sets a.edges h.1.full h.1.edges r.0 0 (set_at a.sets s) h.1.some (subst (λ (z : PlaceSet). Leads_to rs z r.0 (set_at a.sets s)) (sym h.1.begins) r.1) in
-      (r.0, g.is ∙ ap (λ (z : ℕ). Some z) (number-one a.sets g.to s g.inside l h.1.differ g.at))
+      let r = reached-at rs start a.sets s l h.reached in
+      let g = leads-led rs a.sets a.edges h.full h.edges r.0 0 (set_at a.sets s) h.some (subst (λ (z : PlaceSet). Leads_to rs z r.0 (set_at a.sets s)) (sym h.begins) r.1) in
+      (r.0, g.is ∙ ap (λ (z : ℕ). Some z) (number-one a.sets g.to s g.inside l h.differ g.at))
 
   pub leads-alike : (v w : List ℕ) (s t : ℕ) → led_to a.edges 0 v ≡ Some s → led_to a.edges 0 w ≡ Some t → AreAlike x v w → s ≡ t
-  leads-alike v w s t d e same = number-one a.sets s t (inside v s d) (inside w t e) h.1.differ (ap (λ (ps : List ℕ). let z : PlaceSet = record { places = ps; ends = (set_at a.sets s).ends } in z) places ∙ ap (λ (b : Bool). let z : PlaceSet = record { places = (set_at a.sets t).places; ends = b } in z) ends)
+  leads-alike v w s t d e same = number-one a.sets s t (inside v s d) (inside w t e) h.differ (ap (λ (ps : List ℕ). let z : PlaceSet = record { places = ps; ends = (set_at a.sets s).ends } in z) places ∙ ap (λ (b : Bool). let z : PlaceSet = record { places = (set_at a.sets t).places; ends = b } in z) ends)
     where
       places : (set_at a.sets s).places ≡ (set_at a.sets t).places
       places = rising-same 0 0 (set_at a.sets s).places (set_at a.sets t).places (order v s d).rising (order w t e).rising

@@ -2,19 +2,18 @@
 use Rattle.std.specs.Prelude.{◌≡◌, ℕ, ◌<◌, List, length, Some, IsSome, ◌↔◌}
 use Rattle.pm_auto.specs.declared.expr.Expr.{Expr}
 use Rattle.pm_auto.specs.declared.auto.Auto.{Auto}
-use Rattle.pm_auto.specs.Expand.{expand}
+use Rattle.pm_auto.specs.Trim.{trimmed}
 use Rattle.pm_auto.specs.Table.{rows}
 use Rattle.pm_auto.specs.States.{start_of, set_at, edge_kinds}
 use Rattle.pm_auto.specs.Automata.{Is_automaton}
 use Rattle.pm_auto.specs.Walks.{edges_at}
-use Rattle.pm_places.specs.Chosen.{HasAlternatives}
 use Rattle.pm_places.specs.Nexts.{IsBegun, led_to, IsStateAfter, AreTypesNext, AreAlike}
 
--- the automaton is that of the expression, in which each choice has an alternative
+-- the automaton is that of the expression
 abbrev pub IsAutomatonOf : Expr → Auto → Type 0
-IsAutomatonOf e a = HasAlternatives e × Is_automaton (rows 0 (expand e)) (start_of (expand e)) a
+IsAutomatonOf e a = Is_automaton (rows 0 (trimmed e)) (start_of (trimmed e)) a
 
--- A list leads from the start to a state exactly where some place word begins with places that spell it.
+-- A list leads from the start to a state exactly where it is empty or some place word begins with places that spell it.
 abbrev pub LeadsWhereBegun : Expr → Auto → Type 0
 LeadsWhereBegun e a = IsAutomatonOf e a → (w : List ℕ) → IsSome (led_to a.edges 0 w) ↔ IsBegun e w
 

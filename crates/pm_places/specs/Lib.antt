@@ -1,4 +1,3 @@
 pub mod Words
-pub mod Chosen
 pub mod Nexts
 pub mod Laws

@@ -1,5 +1,5 @@
 -- What may come next after a list of types, by place words.
-use Rattle.std.specs.Prelude.{◌≡◌, ℕ, ◌≤◌, List, [], ◌∷◌, ◌++◌, Option, Some, true, All, Contains, option_and_then, ◌↔◌}
+use Rattle.std.specs.Prelude.{◌≡◌, ℕ, ◌≤◌, List, [], ◌∷◌, ◌++◌, Option, Some, true, All, Contains, option_and_then, ◌↔◌, ◌⊎◌}
 use Rattle.std.specs.List.Sorted.{IsStrictlyIncreasing}
 use Rattle.pm_auto.specs.declared.expr.Expr.{Expr}
 use Rattle.pm_auto.specs.declared.sets.PlaceSet.{PlaceSet}
@@ -15,9 +15,9 @@ pub record BeginsWith (e : Expr) (w next : List ℕ) : Type 0 where
   pub rest : List ℕ
   pub word : IsPlaceWord e (places ++ next ++ rest)
 
--- some place word begins with places that spell w
+-- w is empty, or some place word begins with places that spell it
 abbrev pub IsBegun : Expr → List ℕ → Type 0
-IsBegun e w = BeginsWith e w []
+IsBegun e w = (w ≡ []) ⊎ BeginsWith e w []
 
 -- some place word begins with places that spell w and then the place q
 abbrev pub ComesNext : Expr → List ℕ → ℕ → Type 0

@@ -3,8 +3,8 @@ ghost use Rattle.pm_places.specs.Laws.{LeadsWhereBegun, LeadsToState, HasEdgesNe
 
 use pm_auto::{Auto, Expr};
 
-/// A list of types leads from the start of the expression's automaton to a state exactly where some place word begins with
-/// places that spell it.
+/// A list of types leads from the start of the expression's automaton to a state exactly where it is empty or some place word
+/// begins with places that spell it.
 pub fn leads_where_begun(expr: &Expr, auto: &Auto)
     ensures { LeadsWhereBegun expr.now auto.now }
 {

@@ -1,6 +1,5 @@
-//! The laws are called, with ample memory, for the automaton of `(3 | 2) 2+`.
+//! The laws are called, with ample memory, for the automaton of `(3 | 2) 2+`, and one for that of `1` and a choice of nothing.
 ghost use Rattle.std.specs.Prelude.{ℕ, List, IsSome, IfOk, ◌↔◌};
-ghost use Rattle.pm_places.specs.Chosen.{HasAlternatives};
 ghost use Rattle.pm_places.specs.Nexts.{IsBegun, led_to};
 
 use crate::laws;
@@ -8,9 +7,8 @@ use pm_auto::{Auto, AutoError, Expr};
 use std::alloc::Global;
 use std::test::Fail;
 
-/// The automaton of an expression in which each choice has an alternative: what a law says of it.
+/// The automaton of an expression: what a law says of it.
 fn built(alloc: Global, expr: &Expr) -> Result<Auto, AutoError>
-    requires { HasAlternatives expr.now }
     ensures { IfOk result (λ a. (w : List ℕ) → IsSome (led_to a.edges 0 w) ↔ IsBegun expr.now w) }
 {
     let auto = Auto::build(alloc, expr, &[])?;
@@ -35,5 +33,9 @@ fn laws_are_called(rt: HostRuntime) -> Result<(), Fail> {
     let edges = auto.edges(auto.start());
     assert!(rt; edges.len() == 2);
     assert!(rt; edges[0].kind == 3 && edges[1].kind == 2);
+    let none = Expr::Seq(vec![in alloc; Expr::One(1), Expr::Choice(Vec::new(alloc))]?);
+    let auto = built(alloc, &none)?;
+    assert!(rt; auto.edges(auto.start()).is_empty());
+    assert!(rt; !auto.valid_end(auto.start()));
     Ok(())
 }

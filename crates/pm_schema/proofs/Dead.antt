@@ -5,6 +5,7 @@ use Rattle.pm_auto.specs.declared.auto.Auto.{Auto}
 use Rattle.pm_auto.specs.declared.error.AutoError.{AutoError}
 use Rattle.pm_auto.specs.declared.error.AutoError.TheVariants.{Mixed, TooWide, NoMemory}
 use Rattle.pm_auto.specs.Expand.{expand}
+use Rattle.pm_auto.specs.Trim.{trimmed}
 use Rattle.pm_auto.specs.Table.{width, rows}
 use Rattle.pm_auto.specs.States.{start_of, Too_many}
 use Rattle.pm_auto.specs.Types.{Is_mixed}
@@ -24,12 +25,12 @@ pub record Built (n : NodeSpec) (inline : List Bool) (a : Auto) : Type 0 where
   pub auto : IsAutoOf n.content a
   pub pure : Is_mixed n.content inline → ⊥
   pub narrow : width (expand n.content) < 4097
-  pub few : Too_many (rows 0 (expand n.content)) (start_of (expand n.content)) → ⊥
+  pub few : Too_many (rows 0 (trimmed n.content)) (start_of (trimmed n.content)) → ⊥
 
 built-has : (s : SchemaSpec) (i : ℕ) (a : Auto) → Built (node_at s i) (inline_table s) a → HasAutomaton s i
 built-has s i a b = record { pure = b.pure; narrow = λ f. at f.1 }
   where
-    at : (4096 < width (expand (node_at s i).content)) ⊎ Too_many (rows 0 (expand (node_at s i).content)) (start_of (expand (node_at s i).content)) → ⊥
+    at : (4096 < width (expand (node_at s i).content)) ⊎ Too_many (rows 0 (trimmed (node_at s i).content)) (start_of (trimmed (node_at s i).content)) → ⊥
     at (inl l) = omega (arith, l, b.narrow)
     at (inr m) = b.few m
 

@@ -4,7 +4,7 @@ use Rattle.pm_schema.proofs.Orders.{le_or_lt}
 use Rattle.pm_auto.specs.declared.expr.Expr.{Expr}
 use Rattle.pm_auto.specs.declared.auto.Auto.{Auto}
 use Rattle.pm_auto.specs.declared.sets.PlaceSet.{PlaceSet}
-use Rattle.pm_auto.specs.Expand.{expand}
+use Rattle.pm_auto.specs.Trim.{trimmed}
 use Rattle.pm_auto.specs.Table.{rows}
 use Rattle.pm_auto.specs.States.{once, kinds}
 use Rattle.pm_auto.proofs.AcceptLaws.{accepted-fits, edges-of-at}
@@ -42,7 +42,7 @@ run-auto e a h =
     let l : 0 < length a.edges = omega (arith, h.full, h.some) in
     record {
       accepts = λ w. accepted-fits e a h w;
-      first = (edges-of-at (rows 0 (expand e)) a.sets a.sets a.edges 0 l h.edges).types ∙ ap (λ (s : PlaceSet). once [] (kinds (rows 0 (expand e)) s.places)) h.begins;
+      first = (edges-of-at (rows 0 (trimmed e)) a.sets a.sets a.edges 0 l h.edges).types ∙ ap (λ (s : PlaceSet). once [] (kinds (rows 0 (trimmed e)) s.places)) h.begins;
     }
 
 pub all-run : (ns : List NodeSpec) (as' : List Auto) → length as' ≡ length ns → AutosOf ns as' → All_run ns as'

@@ -3,7 +3,7 @@ use Rattle.std.specs.Prelude.{◌≡◌, ℕ, List, [], ◌∷◌}
 use Rattle.std.specs.Coded.{×_prop, Coded-set, coded_bool, coded_list, coded_ℕ}
 use Rattle.pm_auto.specs.declared.expr.Expr.{Expr}
 use Rattle.pm_auto.specs.declared.auto.Auto.{Auto}
-use Rattle.pm_auto.specs.Expand.{expand}
+use Rattle.pm_auto.specs.Trim.{trimmed}
 use Rattle.pm_auto.specs.Table.{rows}
 use Rattle.pm_auto.specs.Runs.{fits}
 use Rattle.pm_auto.specs.States.{start_of, kinds, once, edge_kinds}
@@ -12,7 +12,7 @@ use Rattle.pm_schema.specs.declared.spec.NodeSpec.{NodeSpec}
 
 -- the types that may stand first, each once, in the order of their first places
 unfoldable pub starts : Expr → List ℕ
-starts e = once [] (kinds (rows 0 (expand e)) (start_of (expand e)).places)
+starts e = once [] (kinds (rows 0 (trimmed e)) (start_of (trimmed e)).places)
 
 -- the automaton runs the expression: a list leads to a valid end exactly where it fits, and the start has an edge for each
 -- type that may stand first

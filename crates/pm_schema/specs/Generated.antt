@@ -2,7 +2,7 @@
 use Rattle.std.specs.Prelude.{◌≡◌, ◌<◌, ℕ, Bool, true, false, List, [], ◌∷◌, suc, length, slice_index_or}
 use Rattle.pm_auto.specs.declared.expr.Expr.{Expr}
 use Rattle.pm_auto.specs.declared.auto.Auto.{Auto}
-use Rattle.pm_auto.specs.Expand.{expand}
+use Rattle.pm_auto.specs.Trim.{trimmed}
 use Rattle.pm_auto.specs.Table.{rows}
 use Rattle.pm_auto.specs.Runs.{fits}
 use Rattle.pm_auto.specs.States.{start_of}
@@ -44,7 +44,7 @@ pub record IsGeneratable (nodes : List NodeSpec) (table : List Bool) : Type 0 wh
 
 -- an automaton of the expression: its states are those that can be reached, each once
 abbrev pub IsAutoOf : Expr → Auto → Type 0
-IsAutoOf e a = Is_automaton (rows 0 (expand e)) (start_of (expand e)) a
+IsAutoOf e a = Is_automaton (rows 0 (trimmed e)) (start_of (trimmed e)) a
 
 -- each automaton is one of its type's content
 abbrev pub AutosOf : List NodeSpec → List Auto → Type 0

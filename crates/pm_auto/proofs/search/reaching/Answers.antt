@@ -1,5 +1,5 @@
 use Rattle.std.proofs.Common.{◌≡◌, ◌∙◌, ◌⊎◌, ◌<◌, sym, ap, subst, suc, length, List, Bool, inl, inr}
-use Rattle.pm_auto.specs.Near.{wider, near}
+use Rattle.pm_auto.specs.Near.{wider}
 use Rattle.pm_auto.proofs.SearchLaws.{fewer, falses, length-near}
 use Rattle.pm_auto.proofs.ReachLaws.{still-reaches}
 use Rattle.pm_auto.proofs.search.reaching.Goals as goal
