@@ -17,7 +17,8 @@ pub enum ExprError {
     /// The braces that open here have a number above 64, or a second number below the first.
     #[error("numbers out of range at byte {at}")]
     Range { at: usize },
-    /// There was no memory for the expression.
+    /// There was no memory for the expression, or the text has more than 500 levels of brackets and suffixes, and there
+    /// may be no stack for walks over the expression.
     #[error("no memory")]
     NoMemory,
 }

@@ -3,6 +3,7 @@
 
 pub mod error;
 mod join;
+mod levels;
 pub mod names;
 mod reader;
 mod reading;

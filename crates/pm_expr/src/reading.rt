@@ -6,6 +6,7 @@ ghost use Rattle.pm_expr.specs.Reader.{expr_of};
 ghost use Rattle.pm_expr.specs.declared.error.ExprError.{ExprError as Fault};
 
 use crate::error::ExprError;
+use crate::levels::Levels;
 use crate::names::Names;
 use crate::reader::Reader;
 use crate::tokens::Tokens;
@@ -16,7 +17,11 @@ use std::alloc::Global;
 /// A sequence is one or more items. An item is a name or a choice in brackets, followed by any number of the suffixes
 /// `+`, `*`, `?`, `{n}`, `{n,}` and `{n,m}`. A name is that of a node type, or else of a group, and then stands for the
 /// choice of all types of the group in schema order. A text of blanks alone is the empty expression. A choice or sequence
-/// of one part is that part. Want of memory may come at any point.
+/// of one part is that part.
+///
+/// Want of memory may come at any point, and comes where the text has more than 500 levels, since walks over an expression
+/// take stack for each of its levels. A name has no level. A suffix has one more than the item it stands behind. A pair of
+/// brackets has one more than the deepest item inside, or those of the one item where there is no other.
 pub fn parse(alloc: Global, text: &str, names: &Names) -> Result<Expr, ExprError>
     // The answer is a reading of the text by the grammar, and every reading of it is the answer.
     ensures told { (r : Result Tree Fault) × Reads names.now text.now r × Is tree result r }
@@ -27,8 +32,10 @@ pub fn parse(alloc: Global, text: &str, names: &Names) -> Result<Expr, ExprError
 {
     let mut tokens = Tokens::new(text.as_bytes());
     let mut reader = Reader::new(alloc);
+    let mut levels = Levels::new(alloc);
     while let Some(token) = tokens.take() {
         reader.read(alloc, names, token)?;
+        levels.count(token)?;
     }
     reader.finish(text.len())
 }

@@ -1,6 +1,7 @@
 //! What texts say, and their faults. The types are 0 doc, 1 paragraph, 2 blockquote, 3 heading, 4 text, 5 image, 6 hr, and
 //! the groups block (1, 2, 3), inline (4, 5) and rule (6). The name `heading` is also a group of type 1.
 use crate::{ExprError, NameGroups, Names, parse};
+use pm_auto::{Auto, AutoError};
 use std::alloc::{AllocError, Global};
 use std::test::Fail;
 
@@ -105,6 +106,29 @@ fn tells_the_first_fault(rt: HostRuntime) -> Result<(), Fail> {
     Ok(())
 }
 
+/// The name `hr`, then as many pluses.
+fn with_pluses(alloc: Global, count: usize) -> Result<String, AllocError> {
+    let mut text = String::from_str(alloc, "hr")?;
+    for _ in 0..count {
+        text.push('+')?;
+    }
+    Ok(text)
+}
+
+#[test]
+fn bounds_the_levels(rt: HostRuntime) -> Result<(), Fail> {
+    let alloc = rt.alloc();
+    let names = names(alloc)?;
+    for count in [501, 1_000_000] {
+        let told = parse(alloc, with_pluses(alloc, count)?.as_str(), &names).err();
+        assert!(rt; told == Some(ExprError::NoMemory));
+    }
+    let expr = parse(alloc, with_pluses(alloc, 500)?.as_str(), &names)?;
+    let auto = Auto::build(alloc, &expr, &[])?;
+    assert!(rt; auto.edges(auto.start()).len() == 1);
+    Ok(())
+}
+
 #[test]
 fn nests_deep(rt: HostRuntime) -> Result<(), Fail> {
     let alloc = rt.alloc();
@@ -120,5 +144,36 @@ fn nests_deep(rt: HostRuntime) -> Result<(), Fail> {
     let expr = parse(alloc, text.as_str(), &names)?;
     let shown = format!(in alloc; "{expr:?}")?;
     assert_eq!(rt; shown.as_str(), "One(6)");
+    Ok(())
+}
+
+/// There is stack enough for walks over the deepest expressions that are read: each level is a repetition, or each is a
+/// choice and a sequence.
+#[test]
+fn walks_deep(rt: HostRuntime) -> Result<(), Fail> {
+    let alloc = rt.alloc();
+    let names = names(alloc)?;
+    let mut text = String::from_str(alloc, "hr")?;
+    for _ in 0..500 {
+        text.push_str("{1}")?;
+    }
+    let expr = parse(alloc, text.as_str(), &names)?;
+    let auto = Auto::build(alloc, &expr, &[])?;
+    assert!(rt; auto.edges(auto.start()).len() == 1);
+    let mut text = String::new(alloc);
+    for _ in 0..500 {
+        text.push_str("(hr|hr ")?;
+    }
+    text.push_str("hr")?;
+    for _ in 0..500 {
+        text.push(')')?;
+    }
+    let expr = parse(alloc, text.as_str(), &names)?;
+    let shown = format!(in alloc; "{expr:?}")?;
+    assert!(rt;
+        shown
+            .as_str()
+            .starts_with("Choice([One(6), Seq([One(6), Choice([One(6), ")
+    );
     Ok(())
 }

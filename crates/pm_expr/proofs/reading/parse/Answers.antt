@@ -31,6 +31,15 @@ returns-in_err-read-clause-only c r h = subst (λ z. Is tree c.from_residual.res
 pub returns-in_err-read-clause-computed : goal.returns-in_err-read-clause-computed
 returns-in_err-read-clause-computed c = fault-is c
 
+-- want of memory comes with any outcome
+pub returns-in_err-count-clause-told : goal.returns-in_err-count-clause-told
+returns-in_err-count-clause-told c = (
+  outcome c.args.names.now (length c.args.text.now) (tokens c.args.text.now) start,
+  outcome-is c.args.names.now c.args.text.now (length c.args.text.now) refl,
+  handed-is tree c.from_residual-in_err-count.result c.in_err-count.field-0.0 (outcome c.args.names.now (length c.args.text.now) (tokens c.args.text.now) start) c.from_residual-in_err-count.ensures.1
+      (subst (λ z. Is tree (Err z) (outcome c.args.names.now (length c.args.text.now) (tokens c.args.text.now) start)) (sym c.in_err-count.ensures) tt),
+)
+
 pub returns-clause-told : goal.returns-clause-told
 returns-clause-told c =
     let text = c.args.text.now in
