@@ -1,7 +1,7 @@
 //! What texts say, and their faults. The types are 0 doc, 1 paragraph, 2 blockquote, 3 heading, 4 text, 5 image, 6 hr, and
 //! the groups block (1, 2, 3), inline (4, 5) and rule (6). The name `heading` is also a group of type 1.
 use crate::{ExprError, NameGroups, Names, parse};
-use pm_auto::{Auto, AutoError};
+use pm_auto::Auto;
 use std::alloc::{AllocError, Global};
 use std::test::Fail;
 
