@@ -20,36 +20,6 @@ use Rattle.pm_schema.specs.Refusals.{inline_table, HasAutomaton, IsNamed, IsRefu
 use Rattle.pm_schema.proofs.Orders.{le_or_lt}
 use Rattle.pm_schema.proofs.Tables.{nth-is, autos-more}
 
--- what is known of an automaton that was built
-pub record Built (n : NodeSpec) (inline : List Bool) (a : Auto) : Type 0 where
-  pub auto : IsAutoOf n.content a
-  pub pure : Is_mixed n.content inline → ⊥
-  pub narrow : width (expand n.content) < 4097
-  pub few : Too_many (rows 0 (trimmed n.content)) (start_of (trimmed n.content)) → ⊥
-
-built-has : (s : SchemaSpec) (i : ℕ) (a : Auto) → Built (node_at s i) (inline_table s) a → HasAutomaton s i
-built-has s i a b = record { pure = b.pure; narrow = λ f. at f.1 }
-  where
-    at : (4096 < width (expand (node_at s i).content)) ⊎ Too_many (rows 0 (trimmed (node_at s i).content)) (start_of (trimmed (node_at s i).content)) → ⊥
-    at (inl l) = omega (arith, l, b.narrow)
-    at (inr m) = b.few m
-
--- one more automaton
-pub built-more : (s : SchemaSpec) (as' new : List Auto) (i : ℕ) (n : NodeSpec) (a : Auto) (inline : List Bool) → length as' ≡ i → i < length s.nodes → n ≡ get_or s.nodes i n → inline ≡ inline_table s
-    → new ≡ as' ++ a ∷ [] → AutosOf s.nodes as' → ((j : ℕ) → j < i → HasAutomaton s j) → Built n inline a
-    → (length new ≡ i + 1) × AutosOf s.nodes new × ((j : ℕ) → j < i + 1 → HasAutomaton s j)
-built-more s as' new i n a inline li l en ei e all have b =
-    let len : length (as' ++ a ∷ []) ≡ suc (length as') = rw length-append (omega arith) in
-    let m : length new ≡ i + 1 = ap length e ∙ omega (arith, len, li) in
-    let q : n ≡ node_at s i = nth-is s.nodes i n l en in
-    let c : Built (node_at s i) (inline_table s) a = subst (λ (t : List Bool). Built (node_at s i) t a) ei (subst (λ (x : NodeSpec). Built x inline a) q b) in
-    let d : IsAutoOf (nth s.nodes (length as')).content a = subst (λ (j : ℕ). IsAutoOf (nth s.nodes j).content a) (sym li) c.auto in
-    (m, subst (AutosOf s.nodes) (sym e) (autos-more s.nodes as' a d all), λ j k. at c j (le_or_lt i j) k)
-  where
-    at : Built (node_at s i) (inline_table s) a → (j : ℕ) → (i ≤ j) ⊎ (j < i) → j < i + 1 → HasAutomaton s j
-    at c j (inl x) k = let z : i ≡ j = omega (arith, x, k) in subst (HasAutomaton s) z (built-has s i a c)
-    at c j (inr x) k = have j x
-
 -- the fault of the first type without automaton
 pub fault-refused : (s : SchemaSpec) (i : ℕ) (n : NodeSpec) (inline : List Bool) (e : AutoError) → IsNamed s → i < length s.nodes → n ≡ get_or s.nodes i n → inline ≡ inline_table s → ((j : ℕ) → j < i → HasAutomaton s j)
     → Is_fault n.content inline e → IsRefused s (carried e)

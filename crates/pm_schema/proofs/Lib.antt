@@ -6,6 +6,7 @@ mod Tables
 mod Shares
 mod Rounds
 mod Rows
+mod SameLaws
 mod Dead
 mod Makes
 mod Pairs

@@ -8,4 +8,5 @@ pub mod Made
 pub mod Documents
 pub mod Attrs
 pub mod Generated
+pub mod Shared
 pub mod Refusals

@@ -13,6 +13,7 @@ mod mark_texts;
 mod marks;
 mod names;
 mod naming;
+mod same;
 mod schema;
 mod spec;
 mod types;
