@@ -1,13 +1,13 @@
 -- Attributes that are written are read again.
-use Rattle.std.proofs.Common.{◌≡◌, ◌==◌, ◌<◌, ◌≤◌, ◌+◌, ℕ, zero, suc, List, [], ◌∷◌, ◌++◌, length, map, drop, drop-cons, get_or, Bool, true, false, cond, refl, ap, ap₂, sym, subst, ◌∙◌, add-one, arith, ◌&&◌, length-drop}
+use Rattle.std.proofs.Common.{◌≡◌, ◌==◌, ◌<◌, ◌≤◌, ◌+◌, ℕ, zero, suc, List, [], ◌∷◌, length, drop, drop-cons, get_or, Bool, true, false, refl, ap, ap₂, sym, subst, ◌∙◌, add-one, arith, ◌&&◌, length-drop}
 use Rattle.std.proofs.lemmas.Bool.Decides.{nat_tests}
 use Rattle.std.proofs.lemmas.List.{drop_all, get_or-map, length-map}
-use Rattle.std.specs.Prelude.{Option, Some, None, Ok, codes, nat_le}
+use Rattle.std.specs.Prelude.{None, Ok, codes, nat_le}
 use Rattle.std.specs.List.{list_all}
 use Rattle.std.specs.List.Sorted.{IsStrictlySortedBy}
 use Rattle.serde_json.specs.Data.{Data, object, Members, no_members, member, put}
-use Rattle.pm_value.specs.Plain.{Plain, depth, fields, plains_of}
-use Rattle.pm_value.specs.Kept.{HasEach, InOrder}
+use Rattle.pm_value.specs.Plain.{Plain, depth}
+use Rattle.pm_value.specs.Kept.{InOrder}
 use Rattle.pm_value.specs.Told.{paired}
 use Rattle.pm_value.specs.Reading.{value_of}
 use Rattle.pm_value.specs.Writing.{written, members_written}
@@ -15,7 +15,7 @@ use Rattle.pm_schema.specs.declared.spec.AttrSpec.{AttrSpec}
 use Rattle.pm_schema.specs.Types.{fit_attrs}
 use Rattle.pm_schema.specs.Attrs.{no_attr}
 use Rattle.pm_docjson.specs.Values.{keys, values_for}
-use Rattle.pm_docjson.specs.Reading.{as_attr, given_in, given_at, attrs_read}
+use Rattle.pm_docjson.specs.Reading.{given_in, given_at, attrs_read}
 use Rattle.pm_docjson.specs.Members.{attr_members, attrs_field, put_attrs}
 use Rattle.pm_docjson.proofs.ValueLaws.{values_for-again}
 

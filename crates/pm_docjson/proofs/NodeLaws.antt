@@ -1,16 +1,13 @@
 -- Nodes in normal form: their trees, and what each is where all can be written.
-use Rattle.std.proofs.Common.{◌≡◌, ◌==◌, ◌<◌, ℕ, ◌+◌, List, [], ◌∷◌, ◌++◌, length, map, Bool, true, false, ◌&&◌, cond, refl, ap, sym, subst, ◌∙◌, append-nil, append_assoc, arith}
+use Rattle.std.proofs.Common.{◌≡◌, ◌<◌, ℕ, ◌+◌, List, [], ◌∷◌, ◌++◌, length, map, Bool, true, false, ◌&&◌, cond, refl, ap, sym, subst, ◌∙◌, append_assoc, arith}
 use Rattle.std.specs.Prelude.{Option, Some, None}
 use Rattle.std.specs.List.{AllByRecursion}
 use Rattle.std.specs.Char.Utf16.{is_high_surrogate}
 use Rattle.std.specs.Arc.{arc_value}
 use Rattle.std.specs.declared.sync.Arc.{Arc}
-use Rattle.serde_json.specs.Data.{Items, no_items, item}
 use Rattle.serde_json.specs.View.{items_of}
-use Rattle.pm_attrs.specs.Attrs.{same_attrs}
-use Rattle.pm_marks.specs.Sets.{same_marks}
 use Rattle.pm_tokens.specs.Tokens.{Attrs, Marks, Token, Open, Close, Leaf, CodeUnit}
-use Rattle.pm_tokens.specs.Scan.{Balanced, none as empty, leaf, unit, node}
+use Rattle.pm_tokens.specs.Scan.{Balanced, none as empty, leaf, unit}
 use Rattle.pm_tokens.specs.Kids.{text_tokens, EndsText, goes_on}
 use Rattle.pm_tokens.specs.Faults.{first_broken, last_high, high_of}
 use Rattle.pm_tokens.proofs.BalanceLaws.{balanced-append}
@@ -22,11 +19,11 @@ use Rattle.pm_node.specs.declared.node.Body.TheVariants.{Text, Leaf as Childless
 use Rattle.pm_node.proofs.TreeLaws.{balanced-node}
 use Rattle.pm_node.proofs.KindLaws.{ends-apart}
 use Rattle.pm_schema.specs.declared.spec.SchemaSpec.{SchemaSpec}
-use Rattle.pm_docjson.specs.Trees.{Tree, text, branch, Trees, none, tree, trees_of}
+use Rattle.pm_docjson.specs.Trees.{Tree, text, branch, none, tree, trees_of}
 use Rattle.pm_docjson.specs.Writing.{tree_written, trees_written, nodes_written, body_written, node_written}
-use Rattle.pm_docjson.specs.Writable.{is_writable, are_writable, IsWritable}
+use Rattle.pm_docjson.specs.Writable.{is_writable, are_writable, IsWritable, AreWritable}
 use Rattle.pm_docjson.proofs.TreeLaws.{trees-leaf, trees-branch, trees-text}
-use Rattle.pm_docjson.proofs.Pairs.{broken-behind, broken-before_close, broken-closed, broken-text, from_place, first_whole}
+use Rattle.pm_docjson.proofs.Pairs.{broken-behind, broken-before_close, broken-closed, broken-text, from_place}
 
 -- ---- balanced
 
@@ -178,3 +175,8 @@ inside-writable s n ts xs is tokens normal w =
     let fits : are_writable s (ts ++ (Close ∷ [])) ≡ true = (both (is_writable s (Open n.kind n.attrs n.marks)) (are_writable s (ts ++ (Close ∷ []))) (subst (λ z. are_writable s z ≡ true) all w.tokens)).1 in
     let pairs : first_broken 2 None (ts ++ (Close ∷ [])) ≡ None = subst (λ z. first_broken 1 None z ≡ None) all w.pairs in
     each-writable s xs 2 None normal (subst (λ z. are_writable s z ≡ true) (sym tokens) (writable-front s ts (Close ∷ []) fits)) (free-none (list_tokens xs)) (subst (λ z. first_broken 2 None z ≡ None) (sym tokens) (broken-before_close ts [] 2 None pairs))
+
+-- those of a content that can be written
+pub content-writable : {Z : Type 0} (s : SchemaSpec) (ts : List Token) (xs : List (Arc Node Z)) → list_tokens xs ≡ ts → IsNormal xs → AreWritable s ts → AllByRecursion (λ x. IsWritable s (arc_value x)) xs
+content-writable s ts xs tokens normal w =
+    each-writable s xs 1 None normal (subst (λ z. are_writable s z ≡ true) (sym tokens) w.tokens) (free-none (list_tokens xs)) (subst (λ z. first_broken 1 None z ≡ None) (sym tokens) w.pairs)

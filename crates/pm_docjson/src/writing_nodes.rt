@@ -9,11 +9,12 @@ ghost use Rattle.serde_json.specs.Data.{string};
 ghost use Rattle.pm_schema.specs.Documents.{documents_of};
 ghost use Rattle.pm_schema.specs.Names.{place_of};
 ghost use Rattle.pm_schema.specs.Types.{names_of_nodes, node_at};
+ghost use Rattle.pm_docjson.specs.declared.leaves.LeafContent.{LeafContent};
 ghost use Rattle.pm_docjson.specs.Values.{keys};
 ghost use Rattle.pm_docjson.specs.Members.{attrs_field, put_list};
-ghost use Rattle.pm_docjson.specs.Reading.{attrs_read, mark_of, node_of};
-ghost use Rattle.pm_docjson.specs.Writing.{mark_written, text_written, branch_written, node_written, as_read};
-ghost use Rattle.pm_docjson.specs.Writable.{marks_fit, type_fits, IsWritable};
+ghost use Rattle.pm_docjson.specs.Reading.{attrs_read, mark_of, node_of, node_list};
+ghost use Rattle.pm_docjson.specs.Writing.{mark_written, text_written, branch_written, node_written, nodes_written, as_read};
+ghost use Rattle.pm_docjson.specs.Writable.{marks_fit, type_fits, IsWritable, AreWritable};
 
 use crate::types::text_type;
 use crate::writing_attrs::put_attrs;
@@ -21,7 +22,7 @@ use crate::writing_marks::{typed, write_marks};
 use pm_attrs::Attrs;
 use pm_auto::TypeId;
 use pm_marks::Mark;
-use pm_node::{Body, Node, Units};
+use pm_node::{Body, Fragment, Node, Units};
 use pm_schema::{AnyType, Schema};
 use pm_text::{TextError, text_of};
 use serde_json::{Map, Value as Json, put};
@@ -32,16 +33,31 @@ use std::sync::Arc;
 pub fn write_node(alloc: Global, schema: &Schema, node: &Node) -> Result<Json, AllocError>
     requires writable { IsWritable schema.now.spec node.now }
     ensures written { IfOk result (λ j. view j ≡ node_written schema.now.spec node.now) }
-    ensures again { IfOk result (λ j. node_of schema.now.spec (view j) ≡ Ok (as_read schema.now.spec node.now)) }
+    ensures again { IfOk result (λ j. (l : LeafContent) → node_of schema.now.spec l (view j) ≡ Ok (as_read schema.now.spec node.now)) }
 {
     node_json(alloc, schema, node)
+}
+
+/// The JSON values of a content, which are read back as the same content.
+pub fn write_nodes(
+    alloc: Global,
+    schema: &Schema,
+    content: &Fragment,
+) -> Result<Vec<Json>, AllocError>
+    requires { AreWritable schema.now.spec content.now }
+    ensures written { IfOk result (λ v. items_view v.items ≡ nodes_written schema.now.spec content.now) }
+    ensures again { OnOk result ((l : LeafContent) → node_list schema.now.spec l (nodes_written schema.now.spec content.now) ≡ Ok content.now) }
+{
+    let _ = content.size();
+    let items = nodes_json(alloc, schema, content.children())?;
+    Ok(items)
 }
 
 #[cycle(write)]
 fn node_json(alloc: Global, schema: &Schema, node: &Node) -> Result<Json, AllocError>
     requires writable { IsWritable schema.now.spec node.now }
     ensures written { IfOk result (λ j. view j ≡ node_written schema.now.spec node.now) }
-    ensures again { OnOk result (node_of schema.now.spec (node_written schema.now.spec node.now) ≡ Ok (as_read schema.now.spec node.now)) }
+    ensures again { OnOk result ((l : LeafContent) → node_of schema.now.spec l (node_written schema.now.spec node.now) ≡ Ok (as_read schema.now.spec node.now)) }
 {
     let marks = node.marks.marks();
     match &node.body {
@@ -72,7 +88,7 @@ fn nodes_json(
 ) -> Result<Vec<Json>, AllocError>
     requires each { AllByRecursion (λ x. IsWritable schema.now.spec (arc_value x)) nodes.now }
     ensures written { IfOk result (λ v. items_view v.items ≡ items_of (map (λ x. node_written schema.now.spec (arc_value x)) nodes.now)) }
-    ensures again { OnOk result (AllByRecursion (λ x. node_of schema.now.spec (node_written schema.now.spec (arc_value x)) ≡ Ok (as_read schema.now.spec (arc_value x))) nodes.now) }
+    ensures again { OnOk result (AllByRecursion (λ x. (l : LeafContent) → node_of schema.now.spec l (node_written schema.now.spec (arc_value x)) ≡ Ok (as_read schema.now.spec (arc_value x))) nodes.now) }
 {
     let mut items = Vec::new(alloc);
     for node in nodes {

@@ -1,12 +1,11 @@
-use Rattle.std.proofs.Common.{◌≡◌, ◌<◌, ◌≤◌, ◌-◌, ◌+◌, arith, length, sym, subst, get_or, rules, ap, ◌∙◌}
+use Rattle.std.proofs.Common.{◌≡◌, ◌<◌, ◌≤◌, ◌-◌, arith, length, sym, subst, get_or, rules, ap, ◌∙◌}
 use Rattle.std.proofs.lemmas.List.{length-map, get_or-map}
-use Rattle.serde_json.specs.Data.{no_members, put}
+use Rattle.serde_json.specs.Data.{no_members}
 use Rattle.serde_json.specs.View.{view, members_view}
-use Rattle.pm_value.specs.Plain.{depth}
 use Rattle.pm_value.specs.Views.{plain, plains}
 use Rattle.pm_schema.specs.Attrs.{attrs_of}
 use Rattle.pm_docjson.specs.Values.{keys}
-use Rattle.pm_docjson.proofs.AttrsAgain.{Object, object-start, object-more, object-end, name-at, depth-at, fit-size, keys-size}
+use Rattle.pm_docjson.proofs.AttrsAgain.{Object, object-start, object-more, name-at, depth-at, fit-size, keys-size}
 use Rattle.pm_docjson.proofs.writing_attrs.attr_object.Goals as goal
 
 pub loop-i-init : goal.loop-i-init

@@ -1,9 +1,8 @@
-use Rattle.std.proofs.Common.{◌≡◌, ◌<◌, ℕ, List, true, subst, sym, ap, arith, length}
+use Rattle.std.proofs.Common.{◌≡◌, ◌<◌, true, subst, sym, ap, arith, length}
 use Rattle.std.specs.Arc.{arc_value}
 use Rattle.serde_json.specs.View.{view, items_view}
-use Rattle.pm_marks.specs.declared.mark.Mark.{Mark}
 use Rattle.pm_tokens.specs.Tokens.{Marks}
-use Rattle.pm_node.specs.Trees.{node_tokens, list_tokens}
+use Rattle.pm_node.specs.Trees.{node_tokens}
 use Rattle.pm_node.specs.declared.node.Node.{Node}
 use Rattle.pm_node.proofs.WalkLaws.{child-within}
 use Rattle.pm_docjson.specs.Writable.{marks_fit, IsWritable}
@@ -27,11 +26,11 @@ node_json-nodes_json-requires t c = (
 
 pub node_json-returns-in_ok-json-in-Text-clause-again : goal.node_json-returns-in_ok-json-in-Text-clause-again
 node_json-returns-in_ok-json-in-Text-clause-again t c =
-    text-node-again c.args.schema.now.spec c.args.node.now c.in-Text.units c.in_ok-json-in-Text.ensures.named c.in_ok-json-in-Text.ensures.plain c.in-Text.is c.requires.writable c.in_ok-json-in-Text.ensures.units (subst (MarksAgain c.args.schema.now.spec) c.marks-marks.ensures c.in_ok-json-in-Text.ensures.again)
+    λ l. text-node-again c.args.schema.now.spec l c.args.node.now c.in-Text.units c.in_ok-json-in-Text.ensures.named c.in_ok-json-in-Text.ensures.plain c.in-Text.is c.requires.writable c.in_ok-json-in-Text.ensures.units (subst (MarksAgain c.args.schema.now.spec) c.marks-marks.ensures c.in_ok-json-in-Text.ensures.again)
 
 pub node_json-returns-in_ok-json-in-Leaf-clause-again : goal.node_json-returns-in_ok-json-in-Leaf-clause-again
 node_json-returns-in_ok-json-in-Leaf-clause-again t c =
-    leaf-node-again c.args.schema.now.spec c.args.node.now c.in_ok-json-in-Leaf.ensures.named c.in-Leaf.is c.requires.writable c.in_ok-json-in-Leaf.ensures.attrs (subst (MarksAgain c.args.schema.now.spec) c.marks-marks.ensures c.in_ok-json-in-Leaf.ensures.again)
+    λ l. leaf-node-again c.args.schema.now.spec l c.args.node.now c.in_ok-json-in-Leaf.ensures.named c.in-Leaf.is c.requires.writable c.in_ok-json-in-Leaf.ensures.attrs (subst (MarksAgain c.args.schema.now.spec) c.marks-marks.ensures c.in_ok-json-in-Leaf.ensures.again)
 
 pub node_json-returns-in_ok-json-in-Children-clause-written : goal.node_json-returns-in_ok-json-in-Children-clause-written
 node_json-returns-in_ok-json-in-Children-clause-written t c =
@@ -41,7 +40,7 @@ node_json-returns-in_ok-json-in-Children-clause-written t c =
 pub node_json-returns-in_ok-json-in-Children-clause-again : goal.node_json-returns-in_ok-json-in-Children-clause-again
 node_json-returns-in_ok-json-in-Children-clause-again t c =
     let bound : length c.in-Children.content < 4294967296 = omega (arith, c.size.ensures.size, c.size.ensures.bound) in
-    branch-node-again c.args.schema.now.spec c.args.node.now c.in-Children.content c.children.result.now c.in_ok-json-in-Children.ensures.named c.in-Children.is c.requires.writable c.in_ok-json-in-Children.ensures.attrs (subst (MarksAgain c.args.schema.now.spec) c.marks-marks.ensures c.in_ok-json-in-Children.ensures.again)
+    λ l. branch-node-again c.args.schema.now.spec l c.args.node.now c.in-Children.content c.children.result.now c.in_ok-json-in-Children.ensures.named c.in-Children.is c.requires.writable c.in_ok-json-in-Children.ensures.attrs (subst (MarksAgain c.args.schema.now.spec) c.marks-marks.ensures c.in_ok-json-in-Children.ensures.again)
     bound c.children.ensures.tokens c.children.ensures.normal c.children.ensures.each c.in_ok-items-in-Children.ensures.again
 
 pub nodes_json-node_json-requires : goal.nodes_json-node_json-requires
