@@ -20,7 +20,7 @@ pub use leaves::LeafContent;
 pub use reading_marks::read_mark;
 pub use reading_nodes::{read_node, read_nodes};
 pub use texts::node_text;
-pub use writable::{has_its_body, valid_is_writable};
+pub use writable::{has_its_body, valid_content_is_writable, valid_is_writable};
 pub use writing_marks::write_mark;
 pub use writing_nodes::{write_node, write_nodes};
 

@@ -1,8 +1,12 @@
 //! Tables of slices as JSON, with ample memory. The types are 0 doc, 1 paragraph, 2 rule, 3 text.
+ghost use Rattle.std.specs.Prelude.{IfOk};
+ghost use Rattle.pm_docjson.specs.Writable.{AreWritable};
+
 use crate::{read_slice, write_slice};
 use pm_auto::Expr;
-use pm_docjson::DocReadError;
+use pm_docjson::{DocReadError, read_node, valid_content_is_writable};
 use pm_list::Listed;
+use pm_node::{Body, Document};
 use pm_schema::{AttrSpecs, NodeSpec, Schema, SchemaSpec};
 use pm_slice::Slice;
 use pm_value::Text;
@@ -44,118 +48,110 @@ fn read(alloc: Global, schema: &Schema, text: &str) -> Result<Result<Slice, DocR
     Ok(read_slice(alloc, schema, &json))
 }
 
+/// How many tokens and children the content has, the open sides, and the JSON.
+const SLICES: &str = r#"0 0 0 0 null
+0 0 0 0 {"content":[]}
+2 1 0 0 {"content":[{"type":"text","text":"a"},{"type":"text","text":"b"}]}
+2 2 0 0 {"content":[{"type":"rule","content":[]},{"type":"rule","content":null}],"openStart":null}
+3 1 1 1 {"content":[{"type":"paragraph","content":[{"type":"text","text":"a"}]}],"openStart":1,"openEnd":1}
+2 1 1 0 {"content":[{"type":"paragraph"}],"openStart":1}
+0 0 0 0 {"content":[{"type":"paragraph"}],"openStart":1,"openEnd":1}
+4 2 0 1 {"content":[{"type":"paragraph"},{"type":"paragraph"}],"openEnd":1}"#;
+
 #[test]
 fn slices_are_read_with_their_sides(rt: HostRuntime) -> Result<(), Fail> {
     let alloc = rt.alloc();
     let schema = schema(alloc)?;
-    // the JSON; how many tokens and children the content has, and the open sides
-    let rows: [(&str, usize, usize, usize, usize); 8] = [
-        ("null", 0, 0, 0, 0),
-        (r#"{"content":[]}"#, 0, 0, 0, 0),
-        (
-            r#"{"content":[{"type":"text","text":"a"},{"type":"text","text":"b"}]}"#,
-            2,
-            1,
-            0,
-            0,
-        ),
-        (
-            r#"{"content":[{"type":"rule","content":[]},{"type":"rule","content":null}],"openStart":null}"#,
-            2,
-            2,
-            0,
-            0,
-        ),
-        (
-            r#"{"content":[{"type":"paragraph","content":[{"type":"text","text":"a"}]}],"openStart":1,"openEnd":1}"#,
-            3,
-            1,
-            1,
-            1,
-        ),
-        (
-            r#"{"content":[{"type":"paragraph"}],"openStart":1}"#,
-            2,
-            1,
-            1,
-            0,
-        ),
-        // no tokens are left
-        (
-            r#"{"content":[{"type":"paragraph"}],"openStart":1,"openEnd":1}"#,
-            0,
-            0,
-            0,
-            0,
-        ),
-        (
-            r#"{"content":[{"type":"paragraph"},{"type":"paragraph"}],"openEnd":1}"#,
-            4,
-            2,
-            0,
-            1,
-        ),
-    ];
-    for (text, size, len, open_start, open_end) in &rows {
+    for row in SLICES.split('\n') {
+        let fields: Vec<&str> = row.split(' ').collect(alloc)?;
+        let [size, len, start, end, text] = fields.as_slice() else {
+            return Err(Fail::new("a row has five fields"));
+        };
         let slice = read(alloc, &schema, text)??;
-        assert!(rt; slice.content().size() == *size && slice.content().len() == *len);
-        assert!(rt; slice.open_start() == *open_start && slice.open_end() == *open_end);
+        let content = slice.content();
+        assert!(rt; content.size() == size.parse::<usize>()?, "{row}");
+        assert!(rt; content.len() == len.parse::<usize>()?, "{row}");
+        assert!(rt; slice.open_start() == start.parse::<usize>()?, "{row}");
+        assert!(rt; slice.open_end() == end.parse::<usize>()?, "{row}");
     }
     Ok(())
 }
+
+/// The fault and the JSON. What a leaf holds is not read.
+const FAULTS: &str = r#"Shape {}
+Shape []
+Shape {"content":null}
+UnknownType {"content":[{"type":"table"}],"openStart":-1}
+Shape {"content":[{"type":"rule","content":[{"type":"table"}]}]}
+Attr {"content":[{"type":"rule","attrs":{"x":1},"content":[0]}]}
+Shape {"content":[],"openStart":-1}
+Shape {"content":[],"openStart":1.0}
+Shape {"content":[],"openStart":1,"openEnd":4294967296}
+Open {"content":[],"openStart":4294967295}
+Open {"content":[{"type":"rule"}],"openEnd":1}
+Open {"content":[{"type":"paragraph"},{"type":"rule"}],"openStart":2}"#;
 
 #[test]
 fn the_first_fault_of_a_slice_is_named(rt: HostRuntime) -> Result<(), Fail> {
     let alloc = rt.alloc();
     let schema = schema(alloc)?;
-    let rows: [(&str, DocReadError); 12] = [
-        ("{}", DocReadError::Shape),
-        ("[]", DocReadError::Shape),
-        (r#"{"content":null}"#, DocReadError::Shape),
-        (
-            r#"{"content":[{"type":"table"}],"openStart":-1}"#,
-            DocReadError::UnknownType,
-        ),
-        // a leaf with content, which is not read
-        (
-            r#"{"content":[{"type":"rule","content":[{"type":"table"}]}]}"#,
-            DocReadError::Shape,
-        ),
-        (
-            r#"{"content":[{"type":"rule","attrs":{"x":1},"content":[0]}]}"#,
-            DocReadError::Attr,
-        ),
-        (r#"{"content":[],"openStart":-1}"#, DocReadError::Shape),
-        (r#"{"content":[],"openStart":1.0}"#, DocReadError::Shape),
-        (
-            r#"{"content":[],"openStart":1,"openEnd":4294967296}"#,
-            DocReadError::Shape,
-        ),
-        (
-            r#"{"content":[],"openStart":4294967295}"#,
-            DocReadError::Open,
-        ),
-        (
-            r#"{"content":[{"type":"rule"}],"openEnd":1}"#,
-            DocReadError::Open,
-        ),
-        (
-            r#"{"content":[{"type":"paragraph"},{"type":"rule"}],"openStart":2}"#,
-            DocReadError::Open,
-        ),
-    ];
-    for (text, fault) in &rows {
-        let read = read(alloc, &schema, text)?;
-        assert!(rt; read.err() == Some(*fault));
+    for row in FAULTS.split('\n') {
+        let fields: Vec<&str> = row.split(' ').collect(alloc)?;
+        let [fault, text] = fields.as_slice() else {
+            return Err(Fail::new("a row has two fields"));
+        };
+        let Err(found) = read(alloc, &schema, text)? else {
+            return Err(Fail::new("a row is faulty"));
+        };
+        let name = format!(in alloc; "{found:?}")?;
+        assert!(rt; name.as_str() == *fault, "{row}");
     }
     Ok(())
 }
 
+/// The slice of a valid document's whole content with these sides.
+fn slice_of(
+    alloc: Global,
+    schema: &Schema,
+    document: &Document,
+    open_start: usize,
+    open_end: usize,
+) -> Result<Slice, Fail>
+    ensures { IfOk result (λ s. AreWritable schema.now.spec s.content) }
+{
+    document.check(alloc, schema)?;
+    valid_content_is_writable(schema, document);
+    let Body::Children(content) = &document.top().body else {
+        return Err(Fail::new("the top node has content"));
+    };
+    let content = content.copy(alloc)?;
+    let Ok(slice) = Slice::new(alloc, content, open_start, open_end) else {
+        return Err(Fail::new("a side is too deep"));
+    };
+    Ok(slice)
+}
+
+/// The open sides, a document, and the JSON of the slice of its content. Keys stand in byte order.
+const WRITTEN: &str = r#"0 0 {"type":"doc"} null
+1 1 {"type":"doc","content":[{"type":"paragraph"}]} null
+0 0 {"type":"doc","content":[{"type":"rule"}]} {"content":[{"type":"rule"}]}
+1 0 {"type":"doc","content":[{"type":"paragraph"}]} {"content":[{"type":"paragraph"}],"openStart":1}
+1 1 {"type":"doc","content":[{"type":"paragraph"},{"type":"paragraph"}]} {"content":[{"type":"paragraph"},{"type":"paragraph"}],"openEnd":1,"openStart":1}"#;
+
 #[test]
-fn an_empty_slice_is_written_as_null(rt: HostRuntime) -> Result<(), Fail> {
+fn slices_are_written_in_full(rt: HostRuntime) -> Result<(), Fail> {
     let alloc = rt.alloc();
     let schema = schema(alloc)?;
-    let json = write_slice(alloc, &schema, &Slice::empty(alloc))?;
-    assert!(rt; json.is_null());
+    for row in WRITTEN.split('\n') {
+        let fields: Vec<&str> = row.split(' ').collect(alloc)?;
+        let [start, end, text, want] = fields.as_slice() else {
+            return Err(Fail::new("a row has four fields"));
+        };
+        let json = Json::from_str(alloc, text)?;
+        let document = Document::new(alloc, read_node(alloc, &schema, &json)?)?;
+        let slice = slice_of(alloc, &schema, &document, start.parse()?, end.parse()?)?;
+        let text = write_slice(alloc, &schema, &slice)?.to_string(alloc)?;
+        assert!(rt; text.as_str() == *want, "{row}");
+    }
     Ok(())
 }

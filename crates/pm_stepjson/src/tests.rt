@@ -1,9 +1,15 @@
 //! Tables of steps as JSON, with ample memory. The types are 0 doc, 1 paragraph, 2 rule, 3 text; the mark type is 0 em.
-use crate::{StepReadError, read_step, write_step};
+ghost use Rattle.std.specs.Prelude.{◌≡◌, true, IfOk, IsTrue};
+ghost use Rattle.pm_docjson.specs.Writable.{mark_fits, AreWritable};
+
+use crate::{read_step, write_step};
+use pm_attrs::Attrs;
 use pm_auto::Expr;
-use pm_docjson::DocReadError;
+use pm_docjson::{read_node, valid_content_is_writable};
 use pm_list::Listed;
-use pm_schema::{AttrSpecs, MarkSpec, NodeSpec, Schema, SchemaSpec};
+use pm_marks::Mark;
+use pm_node::{Body, Document};
+use pm_schema::{AnyType, AttrSpecs, MarkSpec, NodeSpec, Schema, SchemaSpec};
 use pm_slice::Slice;
 use pm_step::Step;
 use pm_value::Text;
@@ -72,112 +78,165 @@ fn told(step: &Step) -> (usize, u64, u64, usize) {
     }
 }
 
+/// The place of the kind, the first and the last position, the size of the slice, and the JSON.
+const STEPS: &str = r#"0 1 4 0 {"stepType":"replace","from":1,"to":4}
+0 4 1 0 {"stepType":"replace","from":4,"to":1,"slice":null,"structure":null,"more":0}
+0 1 4294967295 1 {"stepType":"replace","from":1,"to":4294967295,"slice":{"content":[{"type":"rule"}]},"structure":true}
+1 1 9 2 {"stepType":"replaceAround","from":1,"to":9,"gapFrom":2,"gapTo":8,"insert":1,"slice":{"content":[{"type":"paragraph"}]}}
+2 1 4 0 {"stepType":"addMark","from":1,"to":4,"mark":{"type":"em"}}
+3 0 2 0 {"stepType":"removeMark","from":0,"to":2,"mark":{"type":"em","attrs":null}}
+4 7 7 0 {"stepType":"addNodeMark","pos":7,"mark":{"type":"em"}}
+5 7 7 0 {"stepType":"removeNodeMark","pos":7,"mark":{"type":"em"}}"#;
+
 #[test]
 fn steps_are_read_with_their_fields(rt: HostRuntime) -> Result<(), Fail> {
     let alloc = rt.alloc();
     let schema = schema(alloc)?;
-    let rows: [(&str, (usize, u64, u64, usize)); 8] = [
-        (r#"{"stepType":"replace","from":1,"to":4}"#, (0, 1, 4, 0)),
-        (
-            r#"{"stepType":"replace","from":4,"to":1,"slice":null,"structure":null,"more":0}"#,
-            (0, 4, 1, 0),
-        ),
-        (
-            r#"{"stepType":"replace","from":1,"to":4294967295,"slice":{"content":[{"type":"rule"}]},"structure":true}"#,
-            (0, 1, 4294967295, 1),
-        ),
-        (
-            r#"{"stepType":"replaceAround","from":1,"to":9,"gapFrom":2,"gapTo":8,"insert":1,"slice":{"content":[{"type":"paragraph"}]}}"#,
-            (1, 1, 9, 2),
-        ),
-        (
-            r#"{"stepType":"addMark","from":1,"to":4,"mark":{"type":"em"}}"#,
-            (2, 1, 4, 0),
-        ),
-        (
-            r#"{"stepType":"removeMark","from":0,"to":2,"mark":{"type":"em","attrs":null}}"#,
-            (3, 0, 2, 0),
-        ),
-        (
-            r#"{"stepType":"addNodeMark","pos":7,"mark":{"type":"em"}}"#,
-            (4, 7, 7, 0),
-        ),
-        (
-            r#"{"stepType":"removeNodeMark","pos":7,"mark":{"type":"em"}}"#,
-            (5, 7, 7, 0),
-        ),
-    ];
-    for (text, wanted) in &rows {
+    for row in STEPS.split('\n') {
+        let fields: Vec<&str> = row.split(' ').collect(alloc)?;
+        let [kind, from, to, size, text] = fields.as_slice() else {
+            return Err(Fail::new("a row has five fields"));
+        };
         let json = Json::from_str(alloc, text)?;
         let step = read_step(alloc, &schema, &json)?;
         let is = told(&step);
-        assert!(rt; is.0 == wanted.0 && is.1 == wanted.1);
-        assert!(rt; is.2 == wanted.2 && is.3 == wanted.3);
+        assert!(rt; is.0 == kind.parse::<usize>()?, "{row}");
+        assert!(rt; is.1 == from.parse::<u64>()?, "{row}");
+        assert!(rt; is.2 == to.parse::<u64>()?, "{row}");
+        assert!(rt; is.3 == size.parse::<usize>()?, "{row}");
     }
     Ok(())
 }
+
+/// The fault and the JSON.
+const FAULTS: &str = r#"Shape []
+Shape {"stepType":null,"from":-1}
+UnknownKind {"stepType":"zoom"}
+Shape {"stepType":"replace","from":1}
+Shape {"stepType":"replace","to":1}
+Shape {"stepType":"replace","from":0,"to":4294967296,"slice":{}}
+Slice(Shape) {"stepType":"replace","from":0,"to":1,"slice":{},"structure":1}
+Slice(Open) {"stepType":"replace","from":0,"to":1,"slice":{"content":[],"openStart":1}}
+Shape {"stepType":"replace","from":0,"to":1,"structure":1}
+Shape {"stepType":"replaceAround","from":0,"to":1,"gapFrom":0,"gapTo":1,"slice":{}}
+Shape {"stepType":"addMark","from":0,"to":1}
+Mark(Shape) {"stepType":"addMark","from":0,"to":1,"mark":null}
+Mark(UnknownType) {"stepType":"addNodeMark","pos":0,"mark":{"type":"bold"}}"#;
 
 #[test]
 fn the_first_fault_of_a_step_is_named(rt: HostRuntime) -> Result<(), Fail> {
     let alloc = rt.alloc();
     let schema = schema(alloc)?;
-    let rows: [(&str, StepReadError); 12] = [
-        ("[]", StepReadError::Shape),
-        (r#"{"stepType":null,"from":-1}"#, StepReadError::Shape),
-        (r#"{"stepType":"attr","pos":1}"#, StepReadError::UnknownKind),
-        (r#"{"stepType":"replace","to":1}"#, StepReadError::Shape),
-        (
-            r#"{"stepType":"replace","from":0,"to":4294967296,"slice":{}}"#,
-            StepReadError::Shape,
-        ),
-        (
-            r#"{"stepType":"replace","from":0,"to":1,"slice":{},"structure":1}"#,
-            StepReadError::Slice(DocReadError::Shape),
-        ),
-        (
-            r#"{"stepType":"replace","from":0,"to":1,"slice":{"content":[],"openStart":1}}"#,
-            StepReadError::Slice(DocReadError::Open),
-        ),
-        (
-            r#"{"stepType":"replace","from":0,"to":1,"structure":1}"#,
-            StepReadError::Shape,
-        ),
-        (
-            r#"{"stepType":"replaceAround","from":0,"to":1,"gapFrom":0,"gapTo":1,"slice":{}}"#,
-            StepReadError::Shape,
-        ),
-        (
-            r#"{"stepType":"addMark","from":0,"to":1}"#,
-            StepReadError::Shape,
-        ),
-        (
-            r#"{"stepType":"addMark","from":0,"to":1,"mark":null}"#,
-            StepReadError::Mark(DocReadError::Shape),
-        ),
-        (
-            r#"{"stepType":"addNodeMark","pos":0,"mark":{"type":"bold"}}"#,
-            StepReadError::Mark(DocReadError::UnknownType),
-        ),
-    ];
-    for (text, fault) in &rows {
+    for row in FAULTS.split('\n') {
+        let fields: Vec<&str> = row.split(' ').collect(alloc)?;
+        let [fault, text] = fields.as_slice() else {
+            return Err(Fail::new("a row has two fields"));
+        };
         let json = Json::from_str(alloc, text)?;
-        assert!(rt; read_step(alloc, &schema, &json).err() == Some(*fault));
+        let Err(found) = read_step(alloc, &schema, &json) else {
+            return Err(Fail::new("a row is faulty"));
+        };
+        let name = format!(in alloc; "{found:?}")?;
+        assert!(rt; name.as_str() == *fault, "{row}");
     }
     Ok(())
 }
 
+/// The slice of a valid document's whole content with these sides.
+fn slice_of(
+    alloc: Global,
+    schema: &Schema,
+    document: &Document,
+    open_start: usize,
+    open_end: usize,
+) -> Result<Slice, Fail>
+    ensures { IfOk result (λ s. AreWritable schema.now.spec s.content) }
+{
+    document.check(alloc, schema)?;
+    valid_content_is_writable(schema, document);
+    let Body::Children(content) = &document.top().body else {
+        return Err(Fail::new("the top node has content"));
+    };
+    let content = content.copy(alloc)?;
+    let Ok(slice) = Slice::new(alloc, content, open_start, open_end) else {
+        return Err(Fail::new("a side is too deep"));
+    };
+    Ok(slice)
+}
+
+/// Whether the mark has a type of the schema, which declares no attributes. Such a mark can be written.
+fn is_plain(schema: &Schema, mark: &Mark<Attrs>) -> bool
+    ensures { IsTrue result → mark_fits schema.now.spec mark.now ≡ true }
+{
+    let kind = mark.kind;
+    kind < schema.mark_count()
+        && schema.attr_count(AnyType::Mark(kind)) == 0
+        && mark.attrs.values().is_empty()
+}
+
+/// The open sides, a document, and the JSON of the step that puts the slice of its content in place of what stands from 21 to 29.
+/// Keys stand in byte order.
+const REPLACES: &str = r#"0 0 {"type":"doc"} {"from":21,"stepType":"replace","structure":true,"to":29}
+0 0 {"type":"doc","content":[{"type":"rule"}]} {"from":21,"slice":{"content":[{"type":"rule"}]},"stepType":"replace","structure":true,"to":29}
+1 1 {"type":"doc","content":[{"type":"paragraph"},{"type":"paragraph"}]} {"from":21,"slice":{"content":[{"type":"paragraph"},{"type":"paragraph"}],"openEnd":1,"openStart":1},"stepType":"replace","structure":true,"to":29}"#;
+
+/// The JSON of a step that keeps what stands from 22 to 28 in a paragraph.
+const AROUND: &str = r#"{"from":21,"gapFrom":22,"gapTo":28,"insert":1,"slice":{"content":[{"type":"paragraph"}]},"stepType":"replaceAround","to":29}"#;
+
 #[test]
-fn an_empty_slice_is_left_out(rt: HostRuntime) -> Result<(), Fail> {
+fn steps_with_slices_are_written_in_full(rt: HostRuntime) -> Result<(), Fail> {
     let alloc = rt.alloc();
     let schema = schema(alloc)?;
-    let step = Step::Replace {
-        from: 1,
-        to: 3,
-        slice: Slice::empty(alloc),
-        structure: true,
+    for row in REPLACES.split('\n') {
+        let fields: Vec<&str> = row.split(' ').collect(alloc)?;
+        let [start, end, text, want] = fields.as_slice() else {
+            return Err(Fail::new("a row has four fields"));
+        };
+        let json = Json::from_str(alloc, text)?;
+        let document = Document::new(alloc, read_node(alloc, &schema, &json)?)?;
+        let slice = slice_of(alloc, &schema, &document, start.parse()?, end.parse()?)?;
+        let step = Step::Replace {
+            from: 21,
+            to: 29,
+            slice,
+            structure: true,
+        };
+        let text = write_step(alloc, &schema, &step)?.to_string(alloc)?;
+        assert!(rt; text.as_str() == *want, "{row}");
+    }
+    let json = Json::from_str(alloc, r#"{"type":"doc","content":[{"type":"paragraph"}]}"#)?;
+    let document = Document::new(alloc, read_node(alloc, &schema, &json)?)?;
+    let step = Step::ReplaceAround {
+        from: 21,
+        to: 29,
+        gap_from: 22,
+        gap_to: 28,
+        slice: slice_of(alloc, &schema, &document, 0, 0)?,
+        insert: 1,
+        structure: false,
     };
-    let json = write_step(alloc, &schema, &step)?;
-    let text = json.to_string(alloc)?;
-    assert!(rt; text.as_str() == r#"{"from":1,"stepType":"replace","structure":true,"to":3}"#);
+    let text = write_step(alloc, &schema, &step)?.to_string(alloc)?;
+    assert!(rt; text.as_str() == AROUND, "{text}");
+    Ok(())
+}
+
+/// The JSON of a step that adds em over a range, and of one that takes it from a node.
+const MARKED: &str = r#"{"from":1,"mark":{"type":"em"},"stepType":"addMark","to":4}
+{"mark":{"type":"em"},"pos":7,"stepType":"removeNodeMark"}"#;
+
+#[test]
+fn steps_with_marks_are_written_in_full(rt: HostRuntime) -> Result<(), Fail> {
+    let alloc = rt.alloc();
+    let schema = schema(alloc)?;
+    for row in MARKED.split('\n') {
+        let json = Json::from_str(alloc, row)?;
+        let step = read_step(alloc, &schema, &json)?;
+        let (Step::AddMark { mark, .. } | Step::RemoveNodeMark { mark, .. }) = &step else {
+            return Err(Fail::new("a row has a mark"));
+        };
+        assert!(rt; is_plain(&schema, mark));
+        let text = write_step(alloc, &schema, &step)?.to_string(alloc)?;
+        assert!(rt; text.as_str() == row, "{text}");
+    }
     Ok(())
 }
