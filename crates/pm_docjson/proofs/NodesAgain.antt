@@ -114,6 +114,15 @@ tokens-as_read s n (Children ts) = refl
 abbrev pub NodesAgain : {Z : Type 0} → SchemaSpec → List (Arc Node Z) → Type 0
 NodesAgain s xs = AllByRecursion (λ x. (l : LeafContent) → node_of s l (node_written s (arc_value x)) ≡ Ok (as_read s (arc_value x))) xs
 
+-- each of them that can be written is read again
+abbrev pub NodesIf : {Z : Type 0} → SchemaSpec → List (Arc Node Z) → Type 0
+NodesIf s xs = AllByRecursion (λ x. IsWritable s (arc_value x) → (l : LeafContent) → node_of s l (node_written s (arc_value x)) ≡ Ok (as_read s (arc_value x))) xs
+
+-- all can be written
+pub nodes-read : {Z : Type 0} (s : SchemaSpec) (xs : List (Arc Node Z)) → NodesIf s xs → AllByRecursion (λ x. IsWritable s (arc_value x)) xs → NodesAgain s xs
+nodes-read s [] h w = tt
+nodes-read s (x ∷ xs) h w = (h.0 w.0, nodes-read s xs h.1 w.1)
+
 pub node_list-again : {Z : Type 0} (s : SchemaSpec) (l : LeafContent) (xs : List (Arc Node Z)) → NodesAgain s xs → node_list s l (items_of (map (λ x. node_written s (arc_value x)) xs)) ≡ Ok (list_tokens xs)
 unfolding node_list
 node_list-again s l [] h = refl
@@ -255,3 +264,7 @@ branch-put s k a m name cs w d m0 m1 m2 m3 named start marks first second third 
     let at_start : m0 ≡ typed (node_at s k).name = start ∙ ap typed named in
     let with_marks_in : m1 ≡ put_list (codes "marks") (marks_written s m) (typed (node_at s k).name) = first ∙ ap₂ (put_list (codes "marks")) marks at_start in
     seen ∙ ap object (third ∙ ap (put_attrs (keys (node_at s k).attrs) a) (second ∙ ap (put_list (codes "content") cs) with_marks_in) ∙ puts_branch (keys (node_at s k).attrs) a cs (marks_written s m) e)
+
+-- the marks of a set that can be written
+pub marks-of : (s : SchemaSpec) (ms : Marks) → marks_fit s ms ≡ true → list_all (mark_fits s) ms ≡ true
+marks-of s ms h = (both (list_all (mark_fits s) ms) (is_set (documents_of s) ms) h).0

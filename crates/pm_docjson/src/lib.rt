@@ -11,6 +11,7 @@ mod texts;
 mod types;
 mod writable;
 mod writing_attrs;
+mod writing_documents;
 mod writing_marks;
 mod writing_nodes;
 
@@ -19,7 +20,7 @@ pub use fields::field;
 pub use leaves::LeafContent;
 pub use reading_marks::read_mark;
 pub use reading_nodes::{read_node, read_nodes};
-pub use texts::node_text;
+pub use texts::{document_text, node_text};
 pub use writable::{has_its_body, valid_content_is_writable, valid_is_writable};
 pub use writing_marks::write_mark;
 pub use writing_nodes::{write_node, write_nodes};

@@ -1,12 +1,8 @@
 //! Tables of slices as JSON, with ample memory. The types are 0 doc, 1 paragraph, 2 rule, 3 text.
-ghost use Rattle.std.specs.Prelude.{IfOk};
-ghost use Rattle.pm_docjson.specs.Writable.{AreWritable};
-
 use crate::{read_slice, write_slice};
 use pm_auto::Expr;
-use pm_docjson::{DocReadError, read_node, valid_content_is_writable};
+use pm_docjson::DocReadError;
 use pm_list::Listed;
-use pm_node::{Body, Document};
 use pm_schema::{AttrSpecs, NodeSpec, Schema, SchemaSpec};
 use pm_slice::Slice;
 use pm_value::Text;
@@ -109,34 +105,13 @@ fn the_first_fault_of_a_slice_is_named(rt: HostRuntime) -> Result<(), Fail> {
     Ok(())
 }
 
-/// The slice of a valid document's whole content with these sides.
-fn slice_of(
-    alloc: Global,
-    schema: &Schema,
-    document: &Document,
-    open_start: usize,
-    open_end: usize,
-) -> Result<Slice, Fail>
-    ensures { IfOk result (λ s. AreWritable schema.now.spec s.content) }
-{
-    document.check(alloc, schema)?;
-    valid_content_is_writable(schema, document);
-    let Body::Children(content) = &document.top().body else {
-        return Err(Fail::new("the top node has content"));
-    };
-    let content = content.copy(alloc)?;
-    let Ok(slice) = Slice::new(alloc, content, open_start, open_end) else {
-        return Err(Fail::new("a side is too deep"));
-    };
-    Ok(slice)
-}
-
-/// The open sides, a document, and the JSON of the slice of its content. Keys stand in byte order.
-const WRITTEN: &str = r#"0 0 {"type":"doc"} null
-1 1 {"type":"doc","content":[{"type":"paragraph"}]} null
-0 0 {"type":"doc","content":[{"type":"rule"}]} {"content":[{"type":"rule"}]}
-1 0 {"type":"doc","content":[{"type":"paragraph"}]} {"content":[{"type":"paragraph"}],"openStart":1}
-1 1 {"type":"doc","content":[{"type":"paragraph"},{"type":"paragraph"}]} {"content":[{"type":"paragraph"},{"type":"paragraph"}],"openEnd":1,"openStart":1}"#;
+/// A slice's JSON, and the JSON that is written of it. Keys stand in byte order.
+const WRITTEN: &str = r#"null null
+{"content":[]} null
+{"openStart":1,"openEnd":1,"content":[{"type":"paragraph"}]} null
+{"openEnd":null,"content":[{"type":"rule","content":null}]} {"content":[{"type":"rule"}]}
+{"openStart":1,"content":[{"type":"paragraph"}]} {"content":[{"type":"paragraph"}],"openStart":1}
+{"openStart":1,"openEnd":1,"content":[{"type":"paragraph"},{"type":"paragraph"}]} {"content":[{"type":"paragraph"},{"type":"paragraph"}],"openEnd":1,"openStart":1}"#;
 
 #[test]
 fn slices_are_written_in_full(rt: HostRuntime) -> Result<(), Fail> {
@@ -144,12 +119,10 @@ fn slices_are_written_in_full(rt: HostRuntime) -> Result<(), Fail> {
     let schema = schema(alloc)?;
     for row in WRITTEN.split('\n') {
         let fields: Vec<&str> = row.split(' ').collect(alloc)?;
-        let [start, end, text, want] = fields.as_slice() else {
-            return Err(Fail::new("a row has four fields"));
+        let [text, want] = fields.as_slice() else {
+            return Err(Fail::new("a row has two fields"));
         };
-        let json = Json::from_str(alloc, text)?;
-        let document = Document::new(alloc, read_node(alloc, &schema, &json)?)?;
-        let slice = slice_of(alloc, &schema, &document, start.parse()?, end.parse()?)?;
+        let slice = read(alloc, &schema, text)??;
         let text = write_slice(alloc, &schema, &slice)?.to_string(alloc)?;
         assert!(rt; text.as_str() == *want, "{row}");
     }

@@ -11,21 +11,20 @@ use pm_slice::Slice;
 use serde_json::{Map, Value as Json, put};
 use std::alloc::{AllocError, Global};
 
-/// The JSON value of a slice, which is read back as the same slice: null where the slice is empty, else `content`, and the
-/// open sides that are above 0.
+/// The JSON value of a slice: null where the slice is empty, else `content`, and the open sides that are above 0. It is read back
+/// as the same slice where its content can be written.
 pub fn write_slice(alloc: Global, schema: &Schema, slice: &Slice) -> Result<Json, AllocError>
-    requires writable { AreWritable schema.now.spec slice.now.content }
     ensures written { IfOk result (λ j. view j ≡ slice_written schema.now.spec slice.now) }
-    ensures again { IfOk result (λ j. slice_of schema.now.spec (view j) ≡ Ok slice.now) }
+    ensures again { IfOk result (λ j. AreWritable schema.now.spec slice.now.content → slice_of schema.now.spec (view j) ≡ Ok slice.now) }
 {
     slice_json(alloc, schema, slice)
 }
 
 #[tactic(auto, using(crate::proofs::Puts::counts))]
 fn slice_json(alloc: Global, schema: &Schema, slice: &Slice) -> Result<Json, AllocError>
-    requires writable { AreWritable schema.now.spec slice.now.content }
     ensures written { IfOk result (λ j. view j ≡ slice_written schema.now.spec slice.now) }
-    ensures again { OnOk result (slice_of schema.now.spec (slice_written schema.now.spec slice.now) ≡ Ok slice.now) }
+    ensures again { OnOk result (AreWritable schema.now.spec slice.now.content
+        → slice_of schema.now.spec (slice_written schema.now.spec slice.now) ≡ Ok slice.now) }
 {
     if slice.size() == 0 {
         return Ok(Json::Null);

@@ -10,13 +10,14 @@ use Rattle.pm_schema.specs.declared.spec.SchemaSpec.{SchemaSpec}
 use Rattle.pm_docjson.specs.Fields.{non_null}
 use Rattle.pm_docjson.specs.Reading.{mark_of}
 use Rattle.pm_docjson.specs.Writing.{mark_written}
+use Rattle.pm_docjson.specs.Writable.{mark_fits, AreWritable}
 use Rattle.pm_slice.specs.Sides.{no_slice, or_none}
 use Rattle.pm_slicejson.specs.Reading.{slice_of}
 use Rattle.pm_slicejson.specs.Writing.{sides_written, slice_written}
 use Rattle.pm_meaning.specs.Steps.{Step, Replace, ReplaceAround, AddMark, RemoveMark, AddNodeMark, RemoveNodeMark}
 use Rattle.pm_stepjson.specs.Members.{slice_field, SliceAgain}
 use Rattle.pm_stepjson.specs.Reading.{as_slice, slice_in, replace_from, around_from, range_from, node_from, step_read}
-use Rattle.pm_stepjson.specs.Writable.{HasCounts}
+use Rattle.pm_stepjson.specs.Writable.{CanBeWritten, HasCounts}
 use Rattle.pm_stepjson.specs.Writing.{count, replace_written, around_written, range_written, node_written}
 use Rattle.pm_stepjson.proofs.ObjectLaws.{replace_type, replace_to, replace_slice, replace_structure, around_type, around_to, around_slice, around_structure}
 
@@ -113,35 +114,41 @@ remove_node_mark-read s pos mark hp again = rw (small pos hp, again) refl
 abbrev pub ReadAgain : SchemaSpec → Data → Step → Type 0
 ReadAgain s d st = step_read s d ≡ Ok st
 
-pub replace-again : (s : SchemaSpec) (st : Step) (d : Data) (from to : ℕ) (sl : Slice) (structure : Bool) → st ≡ Replace from to sl structure → d ≡ replace_written s from to sl structure → SliceAgain s sl → HasCounts st → ReadAgain s d st
-replace-again s st d from to sl structure is wrote again counts =
+pub replace-again : (s : SchemaSpec) (st : Step) (d : Data) (from to : ℕ) (sl : Slice) (structure : Bool) → st ≡ Replace from to sl structure → d ≡ replace_written s from to sl structure → (AreWritable s sl.content → SliceAgain s sl) → CanBeWritten s st → HasCounts st → ReadAgain s d st
+replace-again s st d from to sl structure is wrote again can counts =
+    let w : CanBeWritten s (Replace from to sl structure) = subst (CanBeWritten s) is can in
     let h : HasCounts (Replace from to sl structure) = subst HasCounts is counts in
-    ap (step_read s) wrote ∙ (replace-read s from to sl structure h.0 h.1 again ∙ ap Ok (sym is))
+    ap (step_read s) wrote ∙ (replace-read s from to sl structure h.0 h.1 (again w) ∙ ap Ok (sym is))
 
 pub around-again : (s : SchemaSpec) (st : Step) (d : Data) (from to gap_from gap_to : ℕ) (sl : Slice) (insert : ℕ) (structure : Bool) → st ≡ ReplaceAround from to gap_from gap_to sl insert structure → d ≡ around_written s from to gap_from gap_to sl insert structure
-    → SliceAgain s sl → HasCounts st → ReadAgain s d st
-around-again s st d from to gap_from gap_to sl insert structure is wrote again counts =
+    → (AreWritable s sl.content → SliceAgain s sl) → CanBeWritten s st → HasCounts st → ReadAgain s d st
+around-again s st d from to gap_from gap_to sl insert structure is wrote again can counts =
+    let w : CanBeWritten s (ReplaceAround from to gap_from gap_to sl insert structure) = subst (CanBeWritten s) is can in
     let h : HasCounts (ReplaceAround from to gap_from gap_to sl insert structure) = subst HasCounts is counts in
-    ap (step_read s) wrote ∙ (around-read s from to gap_from gap_to sl insert structure h.0 h.1 h.2 h.3 h.4 again ∙ ap Ok (sym is))
+    ap (step_read s) wrote ∙ (around-read s from to gap_from gap_to sl insert structure h.0 h.1 h.2 h.3 h.4 (again w) ∙ ap Ok (sym is))
 
-module _ (s : SchemaSpec) (st : Step) (d : Data) (from to : ℕ) (mark : Mark Attrs) (again : mark_of s (mark_written s mark) ≡ Ok mark) (counts : HasCounts st) where
+module _ (s : SchemaSpec) (st : Step) (d : Data) (from to : ℕ) (mark : Mark Attrs) (again : mark_fits s mark ≡ true → mark_of s (mark_written s mark) ≡ Ok mark) (can : CanBeWritten s st) (counts : HasCounts st) where
   pub add_mark-again : st ≡ AddMark from to mark → d ≡ range_written s (codes "addMark") from to mark → ReadAgain s d st
   add_mark-again is wrote =
+      let w : CanBeWritten s (AddMark from to mark) = subst (CanBeWritten s) is can in
       let h : HasCounts (AddMark from to mark) = subst HasCounts is counts in
-      ap (step_read s) wrote ∙ (add_mark-read s from to mark h.0 h.1 again ∙ ap Ok (sym is))
+      ap (step_read s) wrote ∙ (add_mark-read s from to mark h.0 h.1 (again w) ∙ ap Ok (sym is))
 
   pub remove_mark-again : st ≡ RemoveMark from to mark → d ≡ range_written s (codes "removeMark") from to mark → ReadAgain s d st
   remove_mark-again is wrote =
+      let w : CanBeWritten s (RemoveMark from to mark) = subst (CanBeWritten s) is can in
       let h : HasCounts (RemoveMark from to mark) = subst HasCounts is counts in
-      ap (step_read s) wrote ∙ (remove_mark-read s from to mark h.0 h.1 again ∙ ap Ok (sym is))
+      ap (step_read s) wrote ∙ (remove_mark-read s from to mark h.0 h.1 (again w) ∙ ap Ok (sym is))
 
-module _ (s : SchemaSpec) (st : Step) (d : Data) (pos : ℕ) (mark : Mark Attrs) (again : mark_of s (mark_written s mark) ≡ Ok mark) (counts : HasCounts st) where
+module _ (s : SchemaSpec) (st : Step) (d : Data) (pos : ℕ) (mark : Mark Attrs) (again : mark_fits s mark ≡ true → mark_of s (mark_written s mark) ≡ Ok mark) (can : CanBeWritten s st) (counts : HasCounts st) where
   pub add_node_mark-again : st ≡ AddNodeMark pos mark → d ≡ node_written s (codes "addNodeMark") pos mark → ReadAgain s d st
   add_node_mark-again is wrote =
+      let w : CanBeWritten s (AddNodeMark pos mark) = subst (CanBeWritten s) is can in
       let h : HasCounts (AddNodeMark pos mark) = subst HasCounts is counts in
-      ap (step_read s) wrote ∙ (add_node_mark-read s pos mark h again ∙ ap Ok (sym is))
+      ap (step_read s) wrote ∙ (add_node_mark-read s pos mark h (again w) ∙ ap Ok (sym is))
 
   pub remove_node_mark-again : st ≡ RemoveNodeMark pos mark → d ≡ node_written s (codes "removeNodeMark") pos mark → ReadAgain s d st
   remove_node_mark-again is wrote =
+      let w : CanBeWritten s (RemoveNodeMark pos mark) = subst (CanBeWritten s) is can in
       let h : HasCounts (RemoveNodeMark pos mark) = subst HasCounts is counts in
-      ap (step_read s) wrote ∙ (remove_node_mark-read s pos mark h again ∙ ap Ok (sym is))
+      ap (step_read s) wrote ∙ (remove_node_mark-read s pos mark h (again w) ∙ ap Ok (sym is))

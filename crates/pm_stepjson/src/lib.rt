@@ -5,10 +5,12 @@ mod fault;
 mod fields;
 mod kind;
 mod reading;
+mod texts;
 mod writing;
 
 pub use fault::StepReadError;
 pub use reading::read_step;
+pub use texts::step_text;
 pub use writing::write_step;
 
 #[cfg(test)]

@@ -1,16 +1,8 @@
 //! Tables of steps as JSON, with ample memory. The types are 0 doc, 1 paragraph, 2 rule, 3 text; the mark type is 0 em.
-ghost use Rattle.std.specs.Prelude.{◌≡◌, true, IfOk, IsTrue};
-ghost use Rattle.pm_docjson.specs.Writable.{mark_fits, AreWritable};
-
-use crate::{read_step, write_step};
-use pm_attrs::Attrs;
+use crate::{read_step, step_text, write_step};
 use pm_auto::Expr;
-use pm_docjson::{read_node, valid_content_is_writable};
 use pm_list::Listed;
-use pm_marks::Mark;
-use pm_node::{Body, Document};
-use pm_schema::{AnyType, AttrSpecs, MarkSpec, NodeSpec, Schema, SchemaSpec};
-use pm_slice::Slice;
+use pm_schema::{AttrSpecs, MarkSpec, NodeSpec, Schema, SchemaSpec};
 use pm_step::Step;
 use pm_value::Text;
 use serde_json::Value as Json;
@@ -142,101 +134,31 @@ fn the_first_fault_of_a_step_is_named(rt: HostRuntime) -> Result<(), Fail> {
     Ok(())
 }
 
-/// The slice of a valid document's whole content with these sides.
-fn slice_of(
-    alloc: Global,
-    schema: &Schema,
-    document: &Document,
-    open_start: usize,
-    open_end: usize,
-) -> Result<Slice, Fail>
-    ensures { IfOk result (λ s. AreWritable schema.now.spec s.content) }
-{
-    document.check(alloc, schema)?;
-    valid_content_is_writable(schema, document);
-    let Body::Children(content) = &document.top().body else {
-        return Err(Fail::new("the top node has content"));
-    };
-    let content = content.copy(alloc)?;
-    let Ok(slice) = Slice::new(alloc, content, open_start, open_end) else {
-        return Err(Fail::new("a side is too deep"));
-    };
-    Ok(slice)
-}
-
-/// Whether the mark has a type of the schema, which declares no attributes. Such a mark can be written.
-fn is_plain(schema: &Schema, mark: &Mark<Attrs>) -> bool
-    ensures { IsTrue result → mark_fits schema.now.spec mark.now ≡ true }
-{
-    let kind = mark.kind;
-    kind < schema.mark_count()
-        && schema.attr_count(AnyType::Mark(kind)) == 0
-        && mark.attrs.values().is_empty()
-}
-
-/// The open sides, a document, and the JSON of the step that puts the slice of its content in place of what stands from 21 to 29.
-/// Keys stand in byte order.
-const REPLACES: &str = r#"0 0 {"type":"doc"} {"from":21,"stepType":"replace","structure":true,"to":29}
-0 0 {"type":"doc","content":[{"type":"rule"}]} {"from":21,"slice":{"content":[{"type":"rule"}]},"stepType":"replace","structure":true,"to":29}
-1 1 {"type":"doc","content":[{"type":"paragraph"},{"type":"paragraph"}]} {"from":21,"slice":{"content":[{"type":"paragraph"},{"type":"paragraph"}],"openEnd":1,"openStart":1},"stepType":"replace","structure":true,"to":29}"#;
-
-/// The JSON of a step that keeps what stands from 22 to 28 in a paragraph.
-const AROUND: &str = r#"{"from":21,"gapFrom":22,"gapTo":28,"insert":1,"slice":{"content":[{"type":"paragraph"}]},"stepType":"replaceAround","to":29}"#;
+/// A step's JSON, and the JSON that is written of it. Keys stand in byte order.
+const WRITTEN: &str = r#"{"to":4,"stepType":"replace","structure":false,"from":1,"slice":null} {"from":1,"stepType":"replace","to":4}
+{"to":4,"stepType":"replace","structure":true,"from":1,"slice":{"content":[{"type":"rule"}]}} {"from":1,"slice":{"content":[{"type":"rule"}]},"stepType":"replace","structure":true,"to":4}
+{"to":21,"stepType":"replace","structure":true,"from":21,"slice":{"openStart":1,"openEnd":1,"content":[{"type":"paragraph"},{"type":"paragraph"}]}} {"from":21,"slice":{"content":[{"type":"paragraph"},{"type":"paragraph"}],"openEnd":1,"openStart":1},"stepType":"replace","structure":true,"to":21}
+{"stepType":"replaceAround","from":0,"to":8,"gapFrom":1,"gapTo":7,"insert":1,"slice":{"content":[{"type":"paragraph"}]},"structure":true} {"from":0,"gapFrom":1,"gapTo":7,"insert":1,"slice":{"content":[{"type":"paragraph"}]},"stepType":"replaceAround","structure":true,"to":8}
+{"to":15,"stepType":"addMark","mark":{"type":"em"},"from":11} {"from":11,"mark":{"type":"em"},"stepType":"addMark","to":15}
+{"to":15,"stepType":"removeMark","mark":{"type":"em"},"from":11} {"from":11,"mark":{"type":"em"},"stepType":"removeMark","to":15}
+{"stepType":"addNodeMark","mark":{"type":"em"},"pos":7} {"mark":{"type":"em"},"pos":7,"stepType":"addNodeMark"}
+{"stepType":"removeNodeMark","mark":{"type":"em"},"pos":7} {"mark":{"type":"em"},"pos":7,"stepType":"removeNodeMark"}"#;
 
 #[test]
-fn steps_with_slices_are_written_in_full(rt: HostRuntime) -> Result<(), Fail> {
+fn steps_are_written_in_full(rt: HostRuntime) -> Result<(), Fail> {
     let alloc = rt.alloc();
     let schema = schema(alloc)?;
-    for row in REPLACES.split('\n') {
+    for row in WRITTEN.split('\n') {
         let fields: Vec<&str> = row.split(' ').collect(alloc)?;
-        let [start, end, text, want] = fields.as_slice() else {
-            return Err(Fail::new("a row has four fields"));
+        let [text, want] = fields.as_slice() else {
+            return Err(Fail::new("a row has two fields"));
         };
         let json = Json::from_str(alloc, text)?;
-        let document = Document::new(alloc, read_node(alloc, &schema, &json)?)?;
-        let slice = slice_of(alloc, &schema, &document, start.parse()?, end.parse()?)?;
-        let step = Step::Replace {
-            from: 21,
-            to: 29,
-            slice,
-            structure: true,
-        };
+        let step = read_step(alloc, &schema, &json)?;
         let text = write_step(alloc, &schema, &step)?.to_string(alloc)?;
         assert!(rt; text.as_str() == *want, "{row}");
-    }
-    let json = Json::from_str(alloc, r#"{"type":"doc","content":[{"type":"paragraph"}]}"#)?;
-    let document = Document::new(alloc, read_node(alloc, &schema, &json)?)?;
-    let step = Step::ReplaceAround {
-        from: 21,
-        to: 29,
-        gap_from: 22,
-        gap_to: 28,
-        slice: slice_of(alloc, &schema, &document, 0, 0)?,
-        insert: 1,
-        structure: false,
-    };
-    let text = write_step(alloc, &schema, &step)?.to_string(alloc)?;
-    assert!(rt; text.as_str() == AROUND, "{text}");
-    Ok(())
-}
-
-/// The JSON of a step that adds em over a range, and of one that takes it from a node.
-const MARKED: &str = r#"{"from":1,"mark":{"type":"em"},"stepType":"addMark","to":4}
-{"mark":{"type":"em"},"pos":7,"stepType":"removeNodeMark"}"#;
-
-#[test]
-fn steps_with_marks_are_written_in_full(rt: HostRuntime) -> Result<(), Fail> {
-    let alloc = rt.alloc();
-    let schema = schema(alloc)?;
-    for row in MARKED.split('\n') {
-        let json = Json::from_str(alloc, row)?;
-        let step = read_step(alloc, &schema, &json)?;
-        let (Step::AddMark { mark, .. } | Step::RemoveNodeMark { mark, .. }) = &step else {
-            return Err(Fail::new("a row has a mark"));
-        };
-        assert!(rt; is_plain(&schema, mark));
-        let text = write_step(alloc, &schema, &step)?.to_string(alloc)?;
-        assert!(rt; text.as_str() == row, "{text}");
+        let text = step_text(alloc, &schema, &step)?;
+        assert!(rt; text.as_str() == *want, "{row}");
     }
     Ok(())
 }

@@ -21,11 +21,12 @@ use serde_json::{Map, Value as Json, put};
 use std::alloc::{AllocError, Global};
 
 /// The JSON value of a step: `stepType` and the fields of its kind, where `slice` is left out if the slice is empty and
-/// `structure` if it is false. It is read back as the same step where its positions and `insert` are 4,294,967,295 at most.
+/// `structure` if it is false. It is read back as the same step where the content of its slice, or its mark, can be written, and
+/// its positions and `insert` are 4,294,967,295 at most.
 pub fn write_step(alloc: Global, schema: &Schema, step: &Step) -> Result<Json, AllocError>
-    requires { CanBeWritten schema.now.spec (step_of step.now) }
     ensures written { IfOk result (λ j. view j ≡ step_written schema.now.spec (step_of step.now)) }
-    ensures again { HasCounts (step_of step.now) → IfOk result (λ j. step_read schema.now.spec (view j) ≡ Ok (step_of step.now)) }
+    ensures again { IfOk result (λ j. CanBeWritten schema.now.spec (step_of step.now) → HasCounts (step_of step.now)
+        → step_read schema.now.spec (view j) ≡ Ok (step_of step.now)) }
 {
     match step {
         Step::Replace {
@@ -80,9 +81,8 @@ fn replace_json(
     slice: &Slice,
     structure: bool,
 ) -> Result<Json, AllocError>
-    requires { AreWritable schema.now.spec slice.now.content }
     ensures written { IfOk result (λ j. view j ≡ replace_written schema.now.spec from to slice.now structure) }
-    ensures again { OnOk result (SliceAgain schema.now.spec slice.now) }
+    ensures again { OnOk result (AreWritable schema.now.spec slice.now.content → SliceAgain schema.now.spec slice.now) }
 {
     let mut map = replaced(alloc, schema, "replace", to, slice, structure)?;
     put(&mut map, alloc, "from", Json::from(from))?;
@@ -102,10 +102,9 @@ fn around_json(
     insert: u64,
     structure: bool,
 ) -> Result<Json, AllocError>
-    requires { AreWritable schema.now.spec slice.now.content }
     ensures written { IfOk result (λ j. view j
         ≡ around_written schema.now.spec from to gap_from gap_to slice.now insert structure) }
-    ensures again { OnOk result (SliceAgain schema.now.spec slice.now) }
+    ensures again { OnOk result (AreWritable schema.now.spec slice.now.content → SliceAgain schema.now.spec slice.now) }
 {
     let mut map = replaced(alloc, schema, "replaceAround", to, slice, structure)?;
     put(&mut map, alloc, "insert", Json::from(insert))?;
@@ -125,9 +124,8 @@ fn replaced(
     slice: &Slice,
     structure: bool,
 ) -> Result<Map<String, Json>, AllocError>
-    requires { AreWritable schema.now.spec slice.now.content }
     ensures written { IfOk result (λ m. members_view m.entries ≡ replaced schema.now.spec name.now to slice.now structure) }
-    ensures again { OnOk result (SliceAgain schema.now.spec slice.now) }
+    ensures again { OnOk result (AreWritable schema.now.spec slice.now.content → SliceAgain schema.now.spec slice.now) }
 {
     let mut map = Map::new(alloc);
     put(&mut map, alloc, "to", Json::from(to))?;
@@ -160,10 +158,9 @@ fn put_slice(
     schema: &Schema,
     slice: &Slice,
 ) -> Result<(), AllocError>
-    requires { AreWritable schema.now.spec slice.now.content }
     ensures put { OnOk result (members_view map.new.entries
         ≡ put_slice schema.now.spec slice.now (members_view map.old.entries)) }
-    ensures again { OnOk result (SliceAgain schema.now.spec slice.now) }
+    ensures again { OnOk result (AreWritable schema.now.spec slice.now.content → SliceAgain schema.now.spec slice.now) }
 {
     if slice.size() == 0 {
         return Ok(());
@@ -182,9 +179,9 @@ fn range_json(
     to: u64,
     mark: &Mark<Attrs>,
 ) -> Result<Json, AllocError>
-    requires { mark_fits schema.now.spec mark.now ≡ true }
     ensures written { IfOk result (λ j. view j ≡ range_written schema.now.spec name.now from to mark.now) }
-    ensures again { OnOk result (mark_of schema.now.spec (mark_written schema.now.spec mark.now) ≡ Ok mark.now) }
+    ensures again { OnOk result (mark_fits schema.now.spec mark.now ≡ true
+        → mark_of schema.now.spec (mark_written schema.now.spec mark.now) ≡ Ok mark.now) }
 {
     let mut map = Map::new(alloc);
     put(&mut map, alloc, "to", Json::from(to))?;
@@ -204,9 +201,9 @@ fn node_json(
     pos: u64,
     mark: &Mark<Attrs>,
 ) -> Result<Json, AllocError>
-    requires { mark_fits schema.now.spec mark.now ≡ true }
     ensures written { IfOk result (λ j. view j ≡ node_written schema.now.spec name.now pos mark.now) }
-    ensures again { OnOk result (mark_of schema.now.spec (mark_written schema.now.spec mark.now) ≡ Ok mark.now) }
+    ensures again { OnOk result (mark_fits schema.now.spec mark.now ≡ true
+        → mark_of schema.now.spec (mark_written schema.now.spec mark.now) ≡ Ok mark.now) }
 {
     let mut map = Map::new(alloc);
     let name = Json::try_from_str(alloc, name)?;

@@ -1,12 +1,8 @@
 use Rattle.std.proofs.Common.{sym, ap, ◌∙◌}
 use Rattle.pm_docjson.specs.Writing.{nodes_written}
 use Rattle.pm_docjson.proofs.NodeLaws.{content-writable, nodes-written}
-use Rattle.pm_docjson.proofs.NodesAgain.{nodes-again}
+use Rattle.pm_docjson.proofs.NodesAgain.{nodes-again, nodes-read}
 use Rattle.pm_docjson.proofs.writing_nodes.write_nodes.Goals as goal
-
-pub nodes_json-requires : goal.nodes_json-requires
-nodes_json-requires c =
-    record { each = content-writable c.args.schema.now.spec c.args.content.now c.children.result.now c.children.ensures.tokens c.children.ensures.normal c.requires }
 
 pub returns-clause-written : goal.returns-clause-written
 returns-clause-written c =
@@ -14,4 +10,9 @@ returns-clause-written c =
 
 pub returns-clause-again : goal.returns-clause-again
 returns-clause-again c =
-    λ l. nodes-again c.args.schema.now.spec l c.args.content.now c.children.result.now c.children.ensures.tokens c.children.ensures.normal c.children.ensures.each c.in_ok-items.ensures.again
+    let s = c.args.schema.now.spec in
+    let ts = c.args.content.now in
+    let xs = c.children.result.now in
+    λ can l.
+      let inner = nodes-read s xs c.in_ok-items.ensures.again (content-writable s ts xs c.children.ensures.tokens c.children.ensures.normal can) in
+      nodes-again s l ts xs c.children.ensures.tokens c.children.ensures.normal c.children.ensures.each inner
