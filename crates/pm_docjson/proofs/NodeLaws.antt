@@ -94,8 +94,12 @@ units-written s m (u ∷ us) some =
 
 pub no_units-written : (s : SchemaSpec) (m : Marks) (us : List ℕ) → length us ≡ 0 → nodes_written s (text_tokens m us) ≡ no_items
 unfolding trees_written
-no_units-written s m [] none = refl
-no_units-written s m (u ∷ us) none = absurd (omega arith)
+no_units-written s m [] size = refl
+no_units-written s m (u ∷ us) size = absurd (omega arith)
+
+pub nothing-written : (s : SchemaSpec) → nodes_written s [] ≡ no_items
+unfolding trees_written
+nothing-written s = refl
 
 -- ---- what can be written
 

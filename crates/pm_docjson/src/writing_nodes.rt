@@ -125,6 +125,7 @@ pub(crate) fn text_json(
 }
 
 /// The text that the units spell, with U+FFFD for each unit of no pair.
+#[tactic(auto, unfolding(pm_text::specs::Units::utf8))]
 fn text_value(alloc: Global, units: &Units) -> Result<Json, AllocError>
     ensures written { IfOk result (λ j. view j ≡ string (utf8 units.now)) }
     ensures units { OnOk result (HasNoLone units.now → utf16 (utf8 units.now) ≡ units.now) }

@@ -12,7 +12,7 @@ puts-by true false c e s = refl
 puts-by false true c e s = refl
 puts-by false false c e s = refl
 
-puts : (c : Data) (e s : ℕ) → put (codes "content") c (put_count (codes "openEnd") e (put_count (codes "openStart") s no_members)) ≡ member (codes "content") c (with_count (codes "openEnd") e (with_count (codes "openStart") s no_members))
+pub puts : (c : Data) (e s : ℕ) → put (codes "content") c (put_count (codes "openEnd") e (put_count (codes "openStart") s no_members)) ≡ member (codes "content") c (with_count (codes "openEnd") e (with_count (codes "openStart") s no_members))
 puts c e s = puts-by (e == 0) (s == 0) c (number (unsigned e)) (number (unsigned s))
 
 pub sides-put : (c d : Data) (e s : ℕ) (m0 m1 m2 m3 : Members) → m0 ≡ no_members → m1 ≡ put_count (codes "openStart") s m0 → m2 ≡ put_count (codes "openEnd") e m1 → m3 ≡ put (codes "content") c m2 → d ≡ object m3

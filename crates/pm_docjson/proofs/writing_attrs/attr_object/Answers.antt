@@ -16,7 +16,7 @@ loop-i-init c =
     let empty : members_view c.new-map.result.entries ≡ no_members = search rules in
     let names : length (keys attrs) ≡ length attrs = length-map attrs (λ a. a.name) in
     let counted : length vs ≡ length c.args.values.now = length-map c.args.values.now plain in
-    subst (Object (fit_attrs attrs vs) (keys attrs) vs c.min.result) (sym empty) (object-start (fit_attrs attrs vs) (keys attrs) vs c.min.result (omega arith) (keys-size attrs vs))
+    subst (Object (fit_attrs attrs vs) (keys attrs) vs c.min-i.result) (sym empty) (object-start (fit_attrs attrs vs) (keys attrs) vs c.min-i.result (omega arith) (keys-size attrs vs))
 
 pub loop-i-preserved : goal.loop-i-preserved
 loop-i-preserved c =
