@@ -1,13 +1,13 @@
 -- Attributes that are written are read again.
-use Rattle.std.proofs.Common.{◌≡◌, ◌==◌, ◌<◌, ◌≤◌, ◌+◌, ℕ, zero, suc, List, [], ◌∷◌, ◌++◌, length, map, drop, drop-cons, get_or, Bool, true, false, cond, refl, ap, ap₂, sym, subst, ◌∙◌, add-one, arith, ◌&&◌, length-drop}
+use Rattle.std.proofs.Common.{◌≡◌, ◌==◌, ◌<◌, ◌≤◌, ◌+◌, ℕ, zero, suc, List, [], ◌∷◌, length, drop, drop-cons, get_or, min, Bool, true, false, refl, ap, ap₂, sym, subst, ◌∙◌, add-one, arith, ◌&&◌, length-drop}
 use Rattle.std.proofs.lemmas.Bool.Decides.{nat_tests}
 use Rattle.std.proofs.lemmas.List.{drop_all, get_or-map, length-map}
-use Rattle.std.specs.Prelude.{Option, Some, None, Ok, codes, nat_le}
+use Rattle.std.specs.Prelude.{None, Ok, codes, nat_le}
 use Rattle.std.specs.List.{list_all}
 use Rattle.std.specs.List.Sorted.{IsStrictlySortedBy}
 use Rattle.serde_json.specs.Data.{Data, object, Members, no_members, member, put}
-use Rattle.pm_value.specs.Plain.{Plain, depth, fields, plains_of}
-use Rattle.pm_value.specs.Kept.{HasEach, InOrder}
+use Rattle.pm_value.specs.Plain.{Plain, depth}
+use Rattle.pm_value.specs.Kept.{InOrder}
 use Rattle.pm_value.specs.Told.{paired}
 use Rattle.pm_value.specs.Reading.{value_of}
 use Rattle.pm_value.specs.Writing.{written, members_written}
@@ -15,7 +15,7 @@ use Rattle.pm_schema.specs.declared.spec.AttrSpec.{AttrSpec}
 use Rattle.pm_schema.specs.Types.{fit_attrs}
 use Rattle.pm_schema.specs.Attrs.{no_attr}
 use Rattle.pm_docjson.specs.Values.{keys, values_for}
-use Rattle.pm_docjson.specs.Reading.{as_attr, given_in, given_at, attrs_read}
+use Rattle.pm_docjson.specs.Reading.{given_in, given_at, attrs_read}
 use Rattle.pm_docjson.specs.Members.{attr_members, attrs_field, put_attrs}
 use Rattle.pm_docjson.proofs.ValueLaws.{values_for-again}
 
@@ -26,18 +26,15 @@ put_first k d [] (v ∷ vs) each h = absurd (omega (arith, each))
 put_first k d (n ∷ ns) [] each h = absurd (omega (arith, each))
 put_first k d (n ∷ ns) (v ∷ vs) each h = rw (put_first n (written v) ns vs (omega (arith, each)) h.1, h.0.0) refl
 
--- what one more attribute at the front gives
-pub record Grown (k : List ℕ) (v : Plain) (ns : List (List ℕ)) (vs : List Plain) (ms : Members) : Type 0 where
-  pub wrote : ms ≡ attr_members (k ∷ ns) (v ∷ vs)
-  pub read : given_in ms ≡ Ok (paired (k ∷ ns) (v ∷ vs))
+-- one more attribute at the front
+more-members : (k : List ℕ) (v : Plain) (ns : List (List ℕ)) (vs : List Plain) → put k (written v) (attr_members ns vs) ≡ attr_members (k ∷ ns) (v ∷ vs)
+unfolding members_written
+more-members k v ns vs = refl
 
-pub grown : (k : List ℕ) (v : Plain) (ns : List (List ℕ)) (vs : List Plain) → length vs ≡ length ns → InOrder (k ∷ ns) → value_of (written v) ≡ Ok v → given_in (attr_members ns vs) ≡ Ok (paired ns vs)
-    → Grown k v ns vs (put k (written v) (attr_members ns vs))
+more-read : (k : List ℕ) (v : Plain) (ns : List (List ℕ)) (vs : List Plain) → length vs ≡ length ns → InOrder (k ∷ ns) → value_of (written v) ≡ Ok v → given_in (attr_members ns vs) ≡ Ok (paired ns vs)
+    → given_in (put k (written v) (attr_members ns vs)) ≡ Ok (paired (k ∷ ns) (v ∷ vs))
 unfolding members_written given_in
-grown k v ns vs size order again rest = record {
-  wrote = refl;
-  read = rw (put_first k (written v) ns vs size order, again, rest) refl;
-}
+more-read k v ns vs size order again rest = rw (put_first k (written v) ns vs size order, again, rest) refl
 
 order-from : (ns : List (List ℕ)) (i : ℕ) → InOrder ns → InOrder (drop i ns)
 unfolding IsStrictlySortedBy
@@ -45,43 +42,64 @@ order-from ns zero h = h
 order-from [] (suc i) h = h
 order-from (n ∷ ns) (suc i) h = order-from ns i h.1
 
--- what stands in the object from the i-th attribute on
-pub record Object (ns : List (List ℕ)) (vs : List Plain) (i : ℕ) (ms : Members) : Type 0 where
+-- what stands in the object from the i-th attribute on, which is read again where the attributes fit
+pub record Object (fit : Bool) (ns : List (List ℕ)) (vs : List Plain) (i : ℕ) (ms : Members) : Type 0 where
   pub inside : i ≤ length vs
+  pub named : i ≤ length ns
   pub wrote : ms ≡ attr_members (drop i ns) (drop i vs)
-  pub read : given_in ms ≡ Ok (paired (drop i ns) (drop i vs))
+  pub read : fit ≡ true → given_in ms ≡ Ok (paired (drop i ns) (drop i vs))
 
-pub object-start : (ns : List (List ℕ)) (vs : List Plain) (i : ℕ) → i ≡ length vs → length vs ≡ length ns → Object ns vs i no_members
-unfolding members_written given_in
-object-start ns vs i is size =
-    let n : drop i ns ≡ [] = drop_all i ns (omega arith) in
-    let v : drop i vs ≡ [] = drop_all i vs (omega arith) in
-    record {
-      inside = omega arith;
-      wrote = rw (n, v) refl;
-      read = rw n refl;
-    }
+-- no member without a name, nor without a value
 
-pub object-more : (ns : List (List ℕ)) (vs : List Plain) (i j : ℕ) (k : List ℕ) (v : Plain) (d : Data) (ms new : Members) → length vs ≡ length ns → InOrder ns → i < length vs → j ≡ i + 1 → k ≡ get_or ns i k → v ≡ get_or vs i v
-    → d ≡ written v → value_of d ≡ Ok v → new ≡ put k d ms → Object ns vs j ms → Object ns vs i new
-object-more ns vs i j k v d ms new size order within next name value wrote again puts o =
-    let nk : drop i ns ≡ k ∷ drop (i + 1) ns = rw add-one (drop-cons ns i k (omega arith) ∙ ap (λ x. x ∷ drop (suc i) ns) (sym name)) in
+no-names : (vs : List Plain) → attr_members [] vs ≡ no_members
+unfolding members_written
+no-names [] = refl
+no-names (v ∷ vs) = refl
+
+no-values : (ns : List (List ℕ)) → attr_members ns [] ≡ no_members
+unfolding members_written
+no-values ns = refl
+
+past-members : (ns : List (List ℕ)) (vs : List Plain) (i : ℕ) → min (length ns) (length vs) ≤ i → attr_members (drop i ns) (drop i vs) ≡ no_members
+past-members ns vs i h = by_names (nat_le (length ns) i) refl
+  where
+    low : (a b : ℕ) → nat_le a b ≡ true → a ≤ b
+    low a b e = grind (arith, nat_tests)
+
+    high : (a b c : ℕ) → nat_le a c ≡ false → min a b ≤ c → b ≤ c
+    high a b c e g = grind (arith, nat_tests)
+
+    by_names : (b : Bool) → nat_le (length ns) i ≡ b → attr_members (drop i ns) (drop i vs) ≡ no_members
+    by_names true e = rw (drop_all i ns (low (length ns) i e)) (no-names (drop i vs))
+    by_names false e = rw (drop_all i vs (high (length ns) (length vs) i e h)) (no-values (drop i ns))
+
+pub object-start : (fit : Bool) (ns : List (List ℕ)) (vs : List Plain) (i : ℕ) → i ≡ min (length ns) (length vs) → (fit ≡ true → length vs ≡ length ns) → Object fit ns vs i no_members
+unfolding given_in
+object-start fit ns vs i is size = record {
+  inside = omega arith;
+  named = omega arith;
+  wrote = sym (past-members ns vs i (omega arith));
+  read = λ h. let g = size h in rw (drop_all i ns (omega (arith, g))) refl;
+}
+
+pub object-more : (fit : Bool) (ns : List (List ℕ)) (vs : List Plain) (i j : ℕ) (k : List ℕ) (v : Plain) (d : Data) (ms new : Members) → (fit ≡ true → length vs ≡ length ns) → InOrder ns → i < length vs → i < length ns → j ≡ i + 1 → k ≡ get_or ns i k → v ≡ get_or vs i v
+    → d ≡ written v → (fit ≡ true → value_of d ≡ Ok v) → new ≡ put k d ms → Object fit ns vs j ms → Object fit ns vs i new
+object-more fit ns vs i j k v d ms new size order within named next name value wrote again puts o =
+    let nk : drop i ns ≡ k ∷ drop (i + 1) ns = rw add-one (drop-cons ns i k named ∙ ap (λ x. x ∷ drop (suc i) ns) (sym name)) in
     let nv : drop i vs ≡ v ∷ drop (i + 1) vs = rw add-one (drop-cons vs i v within ∙ ap (λ x. x ∷ drop (suc i) vs) (sym value)) in
     let behind : ms ≡ attr_members (drop (i + 1) ns) (drop (i + 1) vs) = subst (λ n. ms ≡ attr_members (drop n ns) (drop n vs)) next o.wrote in
-    let reads : given_in (attr_members (drop (i + 1) ns) (drop (i + 1) vs)) ≡ Ok (paired (drop (i + 1) ns) (drop (i + 1) vs)) = subst (λ m. given_in m ≡ Ok (paired (drop (i + 1) ns) (drop (i + 1) vs))) behind (subst (λ n. given_in ms ≡ Ok (paired (drop n ns) (drop n vs))) next o.read) in
-    let sizes : length (drop (i + 1) vs) ≡ length (drop (i + 1) ns) = omega (arith, length-drop (i + 1) vs, length-drop (i + 1) ns) in
-    let ordered : InOrder (k ∷ drop (i + 1) ns) = subst InOrder nk (order-from ns i order) in
-    let g = grown k v (drop (i + 1) ns) (drop (i + 1) vs) sizes ordered (subst (λ x. value_of x ≡ Ok v) wrote again) reads in
     let is : new ≡ put k (written v) (attr_members (drop (i + 1) ns) (drop (i + 1) vs)) = puts ∙ ap₂ (put k) wrote behind in
+    let ordered : InOrder (k ∷ drop (i + 1) ns) = subst InOrder nk (order-from ns i order) in
     record {
       inside = omega arith;
-      wrote = is ∙ (g.wrote ∙ ap₂ attr_members (sym nk) (sym nv));
-      read = ap given_in is ∙ (g.read ∙ ap₂ (λ a b. Ok (paired a b)) (sym nk) (sym nv));
+      named = omega arith;
+      wrote = is ∙ (more-members k v (drop (i + 1) ns) (drop (i + 1) vs) ∙ ap₂ attr_members (sym nk) (sym nv));
+      read = λ h.
+        let g = size h in
+        let rest : given_in (attr_members (drop (i + 1) ns) (drop (i + 1) vs)) ≡ Ok (paired (drop (i + 1) ns) (drop (i + 1) vs)) = subst (λ m. given_in m ≡ Ok (paired (drop (i + 1) ns) (drop (i + 1) vs))) behind (subst (λ n. given_in ms ≡ Ok (paired (drop n ns) (drop n vs))) next (o.read h)) in
+        let sizes : length (drop (i + 1) vs) ≡ length (drop (i + 1) ns) = omega (arith, g, length-drop (i + 1) vs, length-drop (i + 1) ns) in
+        ap given_in is ∙ (more-read k v (drop (i + 1) ns) (drop (i + 1) vs) sizes ordered (subst (λ x. value_of x ≡ Ok v) wrote (again h)) rest ∙ ap₂ (λ a b. Ok (paired a b)) (sym nk) (sym nv));
     }
-
-pub object-end : (ns : List (List ℕ)) (vs : List Plain) (i : ℕ) (ms : Members) → i ≤ 0 → Object ns vs i ms → (ms ≡ attr_members ns vs) × (given_in ms ≡ Ok (paired ns vs))
-object-end ns vs zero ms past o = (o.wrote, o.read)
-object-end ns vs (suc i) ms past o = absurd (omega arith)
 
 -- ---- the field `attrs`
 
@@ -150,3 +168,8 @@ object-read ns vs ws ms wrote read is = subst (λ x. given_in (attr_members ns x
 
 pub object-put : (ns : List (List ℕ)) (vs ws : List Plain) (ms old : Members) (d : Data) → 0 < length ns → d ≡ object ms → ms ≡ attr_members ns ws → ws ≡ vs → put (codes "attrs") d old ≡ put_attrs ns vs old
 object-put ns vs ws ms old d some seen wrote is = ap (λ x. put (codes "attrs") x old) (seen ∙ ap object (wrote ∙ ap (attr_members ns) is)) ∙ sym (put_attrs-filled ns vs old some)
+
+-- a type without attributes has none to write
+pub none-again : (attrs : List AttrSpec) (vs : List Plain) → length attrs ≡ 0 → fit_attrs attrs vs ≡ true → attrs_read attrs (attrs_field (keys attrs) vs) ≡ Ok vs
+none-again [] vs none fit = no-attrs vs (fit-size [] vs fit)
+none-again (a ∷ attrs) vs none fit = absurd (omega arith)

@@ -12,47 +12,48 @@ use Rattle.pm_schema.specs.Names.{place_of}
 use Rattle.pm_schema.specs.Types.{names_of_nodes}
 use Rattle.pm_schema.specs.Documents.{documents_of}
 use Rattle.pm_tokens.specs.Tokens.{Token}
+use Rattle.pm_docjson.specs.declared.leaves.LeafContent.{LeafContent}
 use Rattle.pm_docjson.specs.declared.fault.DocReadError.{DocReadError}
 use Rattle.pm_docjson.specs.Fields.{non_null, field, text_at}
-use Rattle.pm_docjson.specs.Reading.{text_from, branch_from, node_of, node_from, content_in, content_of, content_at}
+use Rattle.pm_docjson.specs.Reading.{text_from, branch_from, node_of, node_from, content_in, content_of, content_for, content_at}
 
-content_of-value : (s : SchemaSpec) (d : Data) → content_of s d ≡ content_at s (non_null d)
+content_of-value : (s : SchemaSpec) (l : LeafContent) (d : Data) → content_of s l d ≡ content_at s l (non_null d)
 unfolding content_of
-content_of-value s null = refl
-content_of-value s (boolean b) = refl
-content_of-value s (number n) = refl
-content_of-value s (string t) = refl
-content_of-value s (array ds) = refl
-content_of-value s (object ms) = refl
+content_of-value s l null = refl
+content_of-value s l (boolean b) = refl
+content_of-value s l (number n) = refl
+content_of-value s l (string t) = refl
+content_of-value s l (array ds) = refl
+content_of-value s l (object ms) = refl
 
-pick : (s : SchemaSpec) (o : Ordering) (d : Data) (rest : Option Data) (r : Result (List Token) DocReadError) → r ≡ content_at s (option_and_then non_null rest)
-    → match_ordering o r (content_of s d) r ≡ content_at s (option_and_then non_null (match_ordering o rest (Some d) rest))
-pick s Less d rest r h = h
-pick s Equal d rest r h = content_of-value s d
-pick s Greater d rest r h = h
+pick : (s : SchemaSpec) (l : LeafContent) (o : Ordering) (d : Data) (rest : Option Data) (r : Result (List Token) DocReadError) → r ≡ content_at s l (option_and_then non_null rest)
+    → match_ordering o r (content_of s l d) r ≡ content_at s l (option_and_then non_null (match_ordering o rest (Some d) rest))
+pick s l Less d rest r h = h
+pick s l Equal d rest r h = content_of-value s l d
+pick s l Greater d rest r h = h
 
-content_in-field : (s : SchemaSpec) (ms : Members) → content_in s ms ≡ content_at s (field (codes "content") (object ms))
+content_in-field : (s : SchemaSpec) (l : LeafContent) (ms : Members) → content_in s l ms ≡ content_at s l (field (codes "content") (object ms))
 unfolding content_in
-content_in-field s no_members = refl
-content_in-field s (member k d ms) = pick s (slice_cmp nat_cmp (codes "content") k) d (get_member (codes "content") ms) (content_in s ms) (content_in-field s ms)
+content_in-field s l no_members = refl
+content_in-field s l (member k d ms) = pick s l (slice_cmp nat_cmp (codes "content") k) d (get_member (codes "content") ms) (content_in s l ms) (content_in-field s l ms)
 
-pub node_of-fields : (s : SchemaSpec) (d : Data) → node_of s d ≡ node_from s d (content_at s (field (codes "content") d))
+pub node_of-fields : (s : SchemaSpec) (l : LeafContent) (d : Data) → node_of s l d ≡ node_from s l d (content_at s l (field (codes "content") d))
 unfolding node_of node_from
-node_of-fields s null = refl
-node_of-fields s (boolean b) = refl
-node_of-fields s (number n) = refl
-node_of-fields s (string t) = refl
-node_of-fields s (array ds) = refl
-node_of-fields s (object ms) = ap (node_from s (object ms)) (content_in-field s ms)
+node_of-fields s l null = refl
+node_of-fields s l (boolean b) = refl
+node_of-fields s l (number n) = refl
+node_of-fields s l (string t) = refl
+node_of-fields s l (array ds) = refl
+node_of-fields s l (object ms) = ap (node_from s l (object ms)) (content_in-field s l ms)
 
-pub as_text : (s : SchemaSpec) (d : Data) (name : List ℕ) (kind : ℕ) → text_at (codes "type") d ≡ Ok name → place_of name (names_of_nodes s) ≡ Some kind → (kind == (documents_of s).text) ≡ true
-    → node_of s d ≡ text_from s d
+pub as_text : (s : SchemaSpec) (l : LeafContent) (d : Data) (name : List ℕ) (kind : ℕ) → text_at (codes "type") d ≡ Ok name → place_of name (names_of_nodes s) ≡ Some kind → (kind == (documents_of s).text) ≡ true
+    → node_of s l d ≡ text_from s d
 unfolding node_from
-as_text s d name kind h g k = node_of-fields s d ∙ rw (h, g, k) refl
+as_text s l d name kind h g k = node_of-fields s l d ∙ rw (h, g, k) refl
 
-pub as_branch : (s : SchemaSpec) (d : Data) (name : List ℕ) (kind : ℕ) → text_at (codes "type") d ≡ Ok name → place_of name (names_of_nodes s) ≡ Some kind → (kind == (documents_of s).text) ≡ false
-    → node_of s d ≡ branch_from s kind d (content_at s (field (codes "content") d))
+pub as_branch : (s : SchemaSpec) (l : LeafContent) (d : Data) (name : List ℕ) (kind : ℕ) → text_at (codes "type") d ≡ Ok name → place_of name (names_of_nodes s) ≡ Some kind → (kind == (documents_of s).text) ≡ false
+    → node_of s l d ≡ branch_from s kind d (content_for s l kind (field (codes "content") d) (content_at s l (field (codes "content") d)))
 unfolding node_from
-as_branch s d name kind h g k = node_of-fields s d ∙ rw (h, g, k) refl
+as_branch s l d name kind h g k = node_of-fields s l d ∙ rw (h, g, k) refl
 
 pub ruleset fields = node_of-fields

@@ -52,8 +52,8 @@ item-depth [] i d h = absurd (omega arith)
 item-depth (v ∷ vs) zero d h = omega arith
 item-depth (v ∷ vs) (suc i) d h = omega (arith, item-depth vs i d (omega arith))
 
-pub content-falls : (k : List ℕ) (d e : Data) (vs ws : List Value) → field k d ≡ Some e → as_array e ≡ Some (items_view ws) → vs ≡ ws → 4 * items_depth (items_view vs) + 4 < 4 * depth d + 1
+pub content-falls : (k : List ℕ) (d e : Data) (vs ws : List Value) → field k d ≡ Some e → as_array e ≡ Some (items_view ws) → vs ≡ ws → 5 * items_depth (items_view vs) + 5 < 5 * depth d + 1
 content-falls k d e vs ws h g same = rw same (omega (arith, field-depth k d e h, array-depth e (items_view ws) g))
 
-pub item-falls : (vs : List Value) (i : ℕ) (v : Value) → i < length vs → v ≡ get_or vs i v → 4 * depth (view v) + 3 < 4 * items_depth (items_view vs) + 4
+pub item-falls : (vs : List Value) (i : ℕ) (v : Value) → i < length vs → v ≡ get_or vs i v → 5 * depth (view v) + 4 < 5 * items_depth (items_view vs) + 5
 item-falls vs i v h is = rw is (omega (arith, item-depth vs i v h))

@@ -1,3 +1,4 @@
+pub mod TypeLaws
 pub mod TreeLaws
 pub mod Pairs
 pub mod Fronts

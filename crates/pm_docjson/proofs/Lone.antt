@@ -5,7 +5,7 @@ use Rattle.std.specs.Char.Utf16.{is_high_surrogate, is_low_surrogate}
 use Rattle.pm_attrs.specs.Attrs.{same_attrs}
 use Rattle.pm_marks.specs.Sets.{same_marks}
 use Rattle.pm_text.specs.Lone.{is_lone, HasNoLone}
-use Rattle.pm_tokens.specs.Tokens.{Marks, Token, CodeUnit}
+use Rattle.pm_tokens.specs.Tokens.{Marks, CodeUnit}
 use Rattle.pm_tokens.specs.Kids.{text_tokens, goes_on}
 use Rattle.pm_tokens.specs.Faults.{low_next, high_of, first_broken}
 use Rattle.pm_docjson.proofs.Pairs.{first_whole, later}

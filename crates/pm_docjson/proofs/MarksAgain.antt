@@ -1,10 +1,9 @@
 -- Marks that are written are read again.
-use Rattle.std.proofs.Common.{◌≡◌, ◌<◌, ℕ, List, [], ◌∷◌, ◌++◌, length, map, Bool, true, false, refl, ap, sym, subst, ◌∙◌, ◌&&◌, nat_lt, arith}
+use Rattle.std.proofs.Common.{◌≡◌, ◌<◌, ℕ, List, [], ◌∷◌, length, Bool, true, false, refl, ◌&&◌, nat_lt, arith}
 use Rattle.std.proofs.lemmas.Bool.Decides.{nat_tests}
-use Rattle.std.specs.Prelude.{Option, Some, None, Ok, codes}
+use Rattle.std.specs.Prelude.{Some, Ok}
 use Rattle.std.specs.List.{AllByRecursion, list_all}
 use Rattle.serde_json.specs.Data.{string, no_items}
-use Rattle.serde_json.specs.View.{items_of}
 use Rattle.pm_value.specs.Plain.{Plain}
 use Rattle.pm_marks.specs.declared.mark.Mark.{Mark}
 use Rattle.pm_tokens.specs.Tokens.{Marks}
@@ -31,6 +30,10 @@ mark-again s m named attrs =
 abbrev pub MarksAgain : SchemaSpec → Marks → Type 0
 MarksAgain s ms = AllByRecursion (λ m. mark_of s (mark_written s m) ≡ Ok m) ms
 
+-- each of them that can be written is read again
+abbrev pub MarksIf : SchemaSpec → Marks → Type 0
+MarksIf s ms = AllByRecursion (λ m. mark_fits s m ≡ true → mark_of s (mark_written s m) ≡ Ok m) ms
+
 pub mark_list-again : (s : SchemaSpec) (ms : Marks) → MarksAgain s ms → mark_list s (marks_written s ms) ≡ Ok ms
 unfolding mark_list
 mark_list-again s [] h = refl
@@ -46,6 +49,13 @@ marks-again s (m ∷ ms) h set = rw (mark_list-again s (m ∷ ms) h, set) refl
 both : (a b : Bool) → (a && b) ≡ true → (a ≡ true) × (b ≡ true)
 both true b h = (refl, h)
 both false b h = absurd (cc)
+
+-- all can be written
+pub marks-read : (s : SchemaSpec) (ms : Marks) → MarksIf s ms → list_all (mark_fits s) ms ≡ true → MarksAgain s ms
+marks-read s [] h fit = tt
+marks-read s (m ∷ ms) h fit =
+    let p = both (mark_fits s m) (list_all (mark_fits s) ms) fit in
+    (h.0 p.0, marks-read s ms h.1 p.1)
 
 pub mark-inside : (s : SchemaSpec) (m : Mark (List Plain)) → mark_fits s m ≡ true → m.kind < length s.marks
 mark-inside s m h = below m.kind (length s.marks) (both (nat_lt m.kind (length s.marks)) (fit_attrs (mark_at s m.kind).attrs m.attrs) h).0

@@ -11,7 +11,7 @@ use Rattle.pm_text.specs.Units.{utf8}
 use Rattle.pm_value.specs.Plain.{Plain, null, truth, int, text as words, items, fields, Plains, none as no_plains, one, plains_of}
 use Rattle.pm_value.specs.Writing.{written, items_written, members_written}
 use Rattle.pm_marks.specs.declared.mark.Mark.{Mark}
-use Rattle.pm_tokens.specs.Tokens.{Marks}
+use Rattle.pm_tokens.specs.Tokens.{Marks, Token}
 use Rattle.pm_schema.specs.declared.spec.SchemaSpec.{SchemaSpec}
 use Rattle.pm_schema.specs.Types.{node_at, mark_at}
 use Rattle.pm_schema.specs.Documents.{documents_of}
@@ -26,7 +26,7 @@ or-parts : (x y : Bool) → (x || y) ≡ false → (x ≡ false) × (y ≡ false
 or-parts false y h = (refl, h)
 or-parts true y h = absurd (cc)
 
-neither : (x y : Bool) → x ≡ false → y ≡ false → (x || y) ≡ false
+pub neither : (x y : Bool) → x ≡ false → y ≡ false → (x || y) ≡ false
 neither false y p q = q
 neither true y p q = absurd (cc)
 
@@ -81,7 +81,7 @@ with_attrs-whole : (ns : List (List ℕ)) (vs : List Plain) (ms : Members) → m
 with_attrs-whole [] vs ms h = h
 with_attrs-whole (n ∷ ns) vs ms h = neither (has_float (written (fields (n ∷ ns) (plains_of vs)))) (members_have_float ms) (written-whole (fields (n ∷ ns) (plains_of vs))) h
 
-mark-whole : (s : SchemaSpec) (m : Mark (List Plain)) → has_float (mark_written s m) ≡ false
+pub mark-whole : (s : SchemaSpec) (m : Mark (List Plain)) → has_float (mark_written s m) ≡ false
 mark-whole s m = with_attrs-whole (keys (mark_at s m.kind).attrs) m.attrs (typed (mark_at s m.kind).name) refl
 
 marks-whole : (s : SchemaSpec) (ms : Marks) → items_have_float (marks_written s ms) ≡ false
@@ -115,6 +115,9 @@ body-whole : (s : SchemaSpec) (kind : ℕ) (attrs : List Plain) (marks : Marks) 
 body-whole s kind attrs marks (Text us) = text-whole s us marks
 body-whole s kind attrs marks Leaf = branch-whole s kind attrs marks no_items refl
 body-whole s kind attrs marks (Children ts) = branch-whole s kind attrs marks (nodes_written s ts) (trees-whole s (trees_of ts))
+
+pub nodes-whole : (s : SchemaSpec) (ts : List Token) → items_have_float (nodes_written s ts) ≡ false
+nodes-whole s ts = trees-whole s (trees_of ts)
 
 pub node-whole : (s : SchemaSpec) (n : Node) → has_float (node_written s n) ≡ false
 node-whole s n = body-whole s n.kind n.attrs n.marks n.body

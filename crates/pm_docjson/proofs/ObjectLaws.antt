@@ -1,7 +1,7 @@
 -- What is found in an object that was written, and that putting its members in gives it.
 use Rattle.std.proofs.Common.{◌≡◌, ℕ, List, [], ◌∷◌, refl}
-use Rattle.std.specs.Prelude.{codes, Option, Some, None}
-use Rattle.serde_json.specs.Data.{Data, string, array, object, Items, no_items, item, Members, no_members, member}
+use Rattle.std.specs.Prelude.{codes, Some, None}
+use Rattle.serde_json.specs.Data.{Data, object, Items, no_items, item, no_members, member}
 use Rattle.serde_json.specs.Find.{get}
 use Rattle.pm_value.specs.Plain.{Plain}
 use Rattle.pm_value.specs.Writing.{written}

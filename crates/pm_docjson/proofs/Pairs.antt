@@ -1,13 +1,13 @@
 -- Which parts of a list without broken units have none.
-use Rattle.std.proofs.Common.{◌≡◌, ℕ, ◌+◌, List, [], ◌∷◌, ◌++◌, refl, ap, sym, subst, ◌∙◌, cond, Bool, true, false, ◌&&◌}
+use Rattle.std.proofs.Common.{◌≡◌, ℕ, ◌+◌, List, [], ◌∷◌, ◌++◌, refl, ap, sym, ◌∙◌, cond, Bool, true, false, ◌&&◌}
 use Rattle.std.specs.Prelude.{Option, Some, None}
 use Rattle.std.specs.Char.Utf16.{is_high_surrogate, is_low_surrogate}
 use Rattle.pm_marks.specs.Sets.{same_marks}
-use Rattle.pm_tokens.specs.Tokens.{Attrs, Marks, Token, Open, Close, Leaf, CodeUnit}
+use Rattle.pm_tokens.specs.Tokens.{Marks, Token, Open, Close, Leaf, CodeUnit}
 use Rattle.pm_attrs.specs.Attrs.{same_attrs}
 use Rattle.pm_tokens.specs.Kids.{text_tokens, EndsText, goes_on}
 use Rattle.pm_tokens.specs.Faults.{Fault, Pair, low_next, high_of, pair_fits, last_high, first_broken}
-use Rattle.pm_tokens.proofs.MarkLaws.{marks-itself, marks-differ, marks-equal}
+use Rattle.pm_tokens.proofs.MarkLaws.{marks-equal}
 
 -- no unit of the list is broken, where the token before it is a high surrogate of these marks, if it is one
 abbrev pub NoBroken : Option Marks → List Token → Type 0

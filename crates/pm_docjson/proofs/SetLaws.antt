@@ -1,6 +1,6 @@
 -- Marks are read as a set exactly where they are one.
 use Rattle.std.proofs.Common.{◌≡◌, Bool, true, false, refl, cond}
-use Rattle.std.specs.Prelude.{Ok, Err, Result}
+use Rattle.std.specs.Prelude.{Ok, Err}
 use Rattle.pm_attrs.specs.Attrs.{same_attrs}
 use Rattle.pm_marks.specs.Sets.{IsSet}
 use Rattle.pm_tokens.specs.Tokens.{Marks}
@@ -9,7 +9,6 @@ use Rattle.pm_tokens.proofs.MarkLaws.{set-is, is-set}
 use Rattle.pm_schema.specs.declared.spec.SchemaSpec.{SchemaSpec}
 use Rattle.pm_schema.specs.MarkTexts.{exclude_table}
 use Rattle.pm_schema.specs.Documents.{documents_of}
-use Rattle.pm_docjson.specs.declared.fault.DocReadError.{DocReadError}
 use Rattle.pm_docjson.specs.declared.fault.DocReadError.TheVariants.{NotASet}
 use Rattle.pm_docjson.specs.Reading.{as_set}
 

@@ -3,7 +3,7 @@ use Rattle.std.proofs.Common.{◌≡◌, ℕ, suc, ◌+◌, ◌<◌, List, [], �
 use Rattle.std.proofs.Math.Seq.{take-suc}
 use Rattle.std.proofs.lemmas.List.{append-nil}
 use Rattle.std.specs.Prelude.{Result, Ok, Err}
-use Rattle.serde_json.specs.Data.{Data, Items, no_items, item}
+use Rattle.serde_json.specs.Data.{Data, Items, item}
 use Rattle.serde_json.specs.View.{view, items_view}
 use Rattle.serde_json.specs.declared.value.Value.{Value}
 use Rattle.pm_list.specs.Readings.{◌>>=◌}
@@ -11,6 +11,7 @@ use Rattle.pm_schema.specs.declared.spec.SchemaSpec.{SchemaSpec}
 use Rattle.pm_tokens.specs.Tokens.{Token}
 use Rattle.pm_node.specs.Trees.{node_tokens, nodes_tokens}
 use Rattle.pm_node.specs.declared.node.Node.{Node}
+use Rattle.pm_docjson.specs.declared.leaves.LeafContent.{LeafContent}
 use Rattle.pm_docjson.specs.declared.fault.DocReadError.{DocReadError}
 use Rattle.pm_docjson.specs.Reading.{node_of, node_list}
 
@@ -30,21 +31,21 @@ with_tokens-more : (front more : List Token) (r : Result (List Token) DocReadErr
 with_tokens-more front more (Ok rest) = ap Ok (append_assoc front more rest)
 with_tokens-more front more (Err e) = refl
 
-node_list-opened : (s : SchemaSpec) (d : Data) (ds : Items) (n : Node) → node_of s d ≡ Ok n → node_list s (item d ds) ≡ with_tokens (node_tokens n) (node_list s ds)
+node_list-opened : (s : SchemaSpec) (l : LeafContent) (d : Data) (ds : Items) (n : Node) → node_of s l d ≡ Ok n → node_list s l (item d ds) ≡ with_tokens (node_tokens n) (node_list s l ds)
 unfolding node_list
-node_list-opened s d ds n is = rw is (given (node_list s ds))
+node_list-opened s l d ds n is = rw is (given (node_list s l ds))
   where
     given : (r : Result (List Token) DocReadError) → (r >>= λ rest. Ok (node_tokens n ++ rest)) ≡ with_tokens (node_tokens n) r
     given (Ok rest) = refl
     given (Err e) = refl
 
 -- one more node
-pub node_list-more : (s : SchemaSpec) (ns : List Node) (n : Node) (d : Data) (ds : Items) → node_of s d ≡ Ok n
-    → with_tokens (nodes_tokens (ns ++ n ∷ [])) (node_list s ds) ≡ with_tokens (nodes_tokens ns) (node_list s (item d ds))
-node_list-more s ns n d ds is =
-    ap (λ front. with_tokens front (node_list s ds)) (nodes_tokens-last ns n)
-    ∙ with_tokens-more (nodes_tokens ns) (node_tokens n) (node_list s ds)
-    ∙ ap (with_tokens (nodes_tokens ns)) (sym (node_list-opened s d ds n is))
+pub node_list-more : (s : SchemaSpec) (l : LeafContent) (ns : List Node) (n : Node) (d : Data) (ds : Items) → node_of s l d ≡ Ok n
+    → with_tokens (nodes_tokens (ns ++ n ∷ [])) (node_list s l ds) ≡ with_tokens (nodes_tokens ns) (node_list s l (item d ds))
+node_list-more s l ns n d ds is =
+    ap (λ front. with_tokens front (node_list s l ds)) (nodes_tokens-last ns n)
+    ∙ with_tokens-more (nodes_tokens ns) (node_tokens n) (node_list s l ds)
+    ∙ ap (with_tokens (nodes_tokens ns)) (sym (node_list-opened s l d ds n is))
 
 pub with_tokens-all : (front : List Token) → with_tokens front (Ok []) ≡ Ok front
 with_tokens-all front = ap Ok (append-nil front)
@@ -57,11 +58,11 @@ tokens-more ns i n within is =
     let taken : take (i + 1) ns ≡ take i ns ++ n ∷ [] = rw add-one (take-suc ns i n within ∙ ap (λ x. take i ns ++ x ∷ []) (sym is)) in
     ap (λ xs. length (nodes_tokens xs)) taken ∙ ap length (nodes_tokens-last (take i ns) n) ∙ length-append (nodes_tokens (take i ns)) (node_tokens n)
 
-pub node_list-step : (s : SchemaSpec) (ns ms : List Node) (n : Node) (vs : List Value) (i : ℕ) (v : Value) (whole : Result (List Token) DocReadError) → i < length vs → v ≡ get_or vs i v → node_of s (view v) ≡ Ok n → ms ≡ ns ++ n ∷ []
-    → with_tokens (nodes_tokens ns) (node_list s (items_view (drop i vs))) ≡ whole → with_tokens (nodes_tokens ms) (node_list s (items_view (drop (i + 1) vs))) ≡ whole
-node_list-step s ns ms n vs i v whole within is read more h =
+pub node_list-step : (s : SchemaSpec) (l : LeafContent) (ns ms : List Node) (n : Node) (vs : List Value) (i : ℕ) (v : Value) (whole : Result (List Token) DocReadError) → i < length vs → v ≡ get_or vs i v → node_of s l (view v) ≡ Ok n → ms ≡ ns ++ n ∷ []
+    → with_tokens (nodes_tokens ns) (node_list s l (items_view (drop i vs))) ≡ whole → with_tokens (nodes_tokens ms) (node_list s l (items_view (drop (i + 1) vs))) ≡ whole
+node_list-step s l ns ms n vs i v whole within is read more h =
     let split : drop i vs ≡ v ∷ drop (i + 1) vs = rw add-one (drop-cons vs i v within ∙ ap (λ x. x ∷ drop (suc i) vs) (sym is)) in
-    ap (λ xs. with_tokens (nodes_tokens xs) (node_list s (items_view (drop (i + 1) vs)))) more
-    ∙ node_list-more s ns n (view v) (items_view (drop (i + 1) vs)) read
-    ∙ ap (λ xs. with_tokens (nodes_tokens ns) (node_list s (items_view xs))) (sym split)
+    ap (λ xs. with_tokens (nodes_tokens xs) (node_list s l (items_view (drop (i + 1) vs)))) more
+    ∙ node_list-more s l ns n (view v) (items_view (drop (i + 1) vs)) read
+    ∙ ap (λ xs. with_tokens (nodes_tokens ns) (node_list s l (items_view xs))) (sym split)
     ∙ h

@@ -1,14 +1,12 @@
 -- The trees of a list of nodes are those of its nodes, one after another.
-use Rattle.std.proofs.Common.{◌≡◌, ℕ, List, [], ◌∷◌, ◌++◌, refl, ap, sym, subst, ◌∙◌, append_assoc, append-nil, cond, Bool, true, false}
-use Rattle.pm_value.specs.Plain.{Plain}
+use Rattle.std.proofs.Common.{◌≡◌, ℕ, List, [], ◌∷◌, ◌++◌, refl, ap, sym, subst, ◌∙◌, append_assoc, cond, Bool, true, false}
 use Rattle.pm_marks.specs.Sets.{same_marks}
-use Rattle.pm_marks.specs.declared.mark.Mark.{Mark}
 use Rattle.pm_tokens.specs.Tokens.{Attrs, Marks, Token, Open, Close, Leaf, CodeUnit}
 use Rattle.pm_attrs.specs.Attrs.{same_attrs}
 use Rattle.pm_tokens.specs.Scan.{Balanced, none as empty, leaf, unit, node}
 use Rattle.pm_tokens.specs.Kids.{text_tokens, EndsText}
 use Rattle.pm_tokens.proofs.MarkLaws.{marks-itself, marks-differ}
-use Rattle.pm_docjson.specs.Trees.{Tree, text, branch, Trees, none, tree, with_unit, Levels, innermost, with_token, read_back, trees_of}
+use Rattle.pm_docjson.specs.Trees.{text, branch, Trees, none, tree, with_unit, Levels, innermost, with_token, read_back, trees_of}
 
 pub read_back-append : (xs ys : List Token) (levels : Levels) → read_back (xs ++ ys) levels ≡ read_back xs (read_back ys levels)
 read_back-append [] ys levels = refl

@@ -1,5 +1,5 @@
 -- What a schema answers for given values is what they are read as.
-use Rattle.std.proofs.Common.{◌≡◌, ◌<◌, ℕ, zero, suc, List, [], ◌∷◌, length, map, Bool, true, false, cond, refl, ap, sym, ◌∙◌, ◌||◌, arith, get_or}
+use Rattle.std.proofs.Common.{◌≡◌, ◌<◌, ℕ, zero, suc, List, [], ◌∷◌, length, map, Bool, true, false, cond, refl, ap, ◌∙◌, ◌||◌, arith}
 use Rattle.std.specs.Prelude.{Option, Some, None, option_map, option_and_then, is_none, slice_index_or}
 use Rattle.std.specs.List.{list_any}
 use Rattle.pm_value.specs.Plain.{Plain}

@@ -1,12 +1,12 @@
 -- The attributes of a type that are given under all their names are those values.
-use Rattle.std.proofs.Common.{◌≡◌, ◌==◌, ◌<◌, ◌≤◌, ℕ, zero, suc, List, [], ◌∷◌, ◌++◌, length, map, Bool, true, false, cond, refl, ap, sym, subst, ◌∙◌, append_assoc, arith, not, ◌||◌}
-use Rattle.std.specs.Prelude.{Option, Some, None, option_map, option_and_then}
+use Rattle.std.proofs.Common.{◌≡◌, ℕ, List, [], ◌∷◌, ◌++◌, length, Bool, true, false, cond, refl, ap, sym, ◌∙◌, append_assoc, arith, not, ◌||◌}
+use Rattle.std.specs.Prelude.{Some, None, option_map, option_and_then}
 use Rattle.std.specs.List.{list_any, AllByRecursion}
 use Rattle.std.specs.List.Sorted.{IsStrictlySortedBy}
 use Rattle.std.specs.Ordering.{nat_cmp}
 use Rattle.std.specs.Cmp.Lexicographic.{slice_cmp}
 use Rattle.std.specs.Str.{bytes_eq}
-use Rattle.std.specs.declared.cmp.Ordering.TheVariants.{Less, Equal}
+use Rattle.std.specs.declared.cmp.Ordering.TheVariants.{Less}
 use Rattle.std.proofs.lemmas.Slice.Eq.{bytes_eq-Decides}
 use Rattle.std.proofs.lemmas.Map.Text.{is_eq-slice_cmp}
 use Rattle.std.proofs.Common.{is_eq}
@@ -14,7 +14,7 @@ use Rattle.pm_value.specs.Plain.{Plain}
 use Rattle.pm_value.specs.Kept.{InOrder}
 use Rattle.pm_value.specs.Told.{paired}
 use Rattle.pm_schema.specs.declared.spec.AttrSpec.{AttrSpec}
-use Rattle.pm_schema.specs.Attrs.{given_for, or_default, value_for, is_unknown}
+use Rattle.pm_schema.specs.Attrs.{given_for, value_for, is_unknown}
 use Rattle.pm_docjson.specs.Values.{Given, keys, all_values, values_for}
 
 -- none of the given names is this one

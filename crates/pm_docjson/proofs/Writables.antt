@@ -1,5 +1,5 @@
 -- A valid document whose top node has the body of its type can be written.
-use Rattle.std.proofs.Common.{◌≡◌, ℕ, ◌+◌, ◌<◌, List, [], ◌∷◌, ◌++◌, length, Bool, true, false, ◌&&◌, not, ◌==◌, nat_lt, cond, refl, ap, sym, subst, ◌∙◌, arith}
+use Rattle.std.proofs.Common.{◌≡◌, ℕ, ◌+◌, ◌<◌, List, [], ◌∷◌, ◌++◌, length, Bool, true, ◌&&◌, not, ◌==◌, nat_lt, cond, refl, ap, sym, subst, arith}
 use Rattle.std.specs.Prelude.{Option, Some, None}
 use Rattle.std.specs.List.{list_all}
 use Rattle.pm_tokens.specs.Tokens.{Attrs, Marks, Token, Open, Close, Leaf, CodeUnit, Doc}
@@ -18,7 +18,7 @@ use Rattle.pm_node.specs.Documents.{doc_of, content_tokens}
 use Rattle.pm_node.specs.declared.node.Node.{Node}
 use Rattle.pm_node.specs.declared.node.Body.{Body}
 use Rattle.pm_node.specs.declared.node.Body.TheVariants.{Text, Leaf as Childless, Children}
-use Rattle.pm_docjson.specs.Writable.{mark_fits, marks_fit, type_fits, is_writable, are_writable, IsWritable, is_body_of, has_its_body}
+use Rattle.pm_docjson.specs.Writable.{mark_fits, marks_fit, type_fits, is_writable, are_writable, IsWritable, AreWritable, is_body_of, has_its_body}
 use Rattle.pm_docjson.proofs.Pairs.{broken-closed}
 
 -- attributes fit by either reading
@@ -126,3 +126,8 @@ around s n (Children ts) is body fits v =
 
 pub top-writable : (s : SchemaSpec) (n : Node) → has_its_body s n ≡ true → Valid (documents_of s) (doc_of n) → IsWritable s n
 top-writable s n h v = around s n n.body refl (body-of s n h) (top-fits s n h v) v
+
+pub content-writable : (s : SchemaSpec) (d : Doc) → Valid (documents_of s) d → AreWritable s d.tokens
+content-writable s d v =
+    let w = tokens-written s (d.kind ∷ []) None d.tokens (valid-tokens (documents_of s) d v) in
+    record { tokens = w.fits; pairs = w.pairs 1 }

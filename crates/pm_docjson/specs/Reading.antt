@@ -1,10 +1,10 @@
 -- The node or the mark that a JSON value is, or its first fault. Fields are read in the order type, text, attrs, marks,
 -- content, each with all that is in it before the next.
-use Rattle.std.specs.Prelude.{ℕ, ◌==◌, ◌^◌, ◌-◌, Bool, nat_lt, List, [], ◌∷◌, ◌++◌, length, codes, Option, Some, None, Result, Ok, Err, if◌then◌else◌}
+use Rattle.std.specs.Prelude.{ℕ, ◌==◌, ◌^◌, ◌-◌, Bool, true, false, ◌&&◌, nat_lt, List, [], ◌∷◌, ◌++◌, length, codes, Option, Some, None, Result, Ok, Err, if◌then◌else◌}
 use Rattle.std.specs.Ordering.{nat_cmp, match_ordering}
 use Rattle.std.specs.Cmp.Lexicographic.{slice_cmp}
 use Rattle.serde_json.specs.Data.{Data, null, boolean, number, string, array, object, Items, no_items, item, Members, no_members, member}
-use Rattle.serde_json.specs.Find.{get, as_str, as_array, as_object}
+use Rattle.serde_json.specs.Find.{as_array, as_object}
 use Rattle.pm_list.specs.Readings.{◌>>=◌, or_fault}
 use Rattle.pm_text.specs.Units.{utf16}
 use Rattle.pm_value.specs.Plain.{Plain}
@@ -22,6 +22,8 @@ use Rattle.pm_node.specs.Trees.{node_tokens}
 use Rattle.pm_node.specs.declared.node.Node.{Node}
 use Rattle.pm_node.specs.declared.node.Body.{Body}
 use Rattle.pm_node.specs.declared.node.Body.TheVariants.{Text, Leaf, Children}
+use Rattle.pm_docjson.specs.declared.leaves.LeafContent.{LeafContent}
+use Rattle.pm_docjson.specs.declared.leaves.LeafContent.TheVariants.{Kept, Refused}
 use Rattle.pm_docjson.specs.declared.fault.DocReadError.{DocReadError}
 use Rattle.pm_docjson.specs.declared.fault.DocReadError.TheVariants.{Shape, UnknownType, Attr, EmptyText, NotASet, Large}
 use Rattle.pm_docjson.specs.Fields.{field, text_at}
@@ -58,6 +60,21 @@ attrs_read attrs d = do
 -- a text that is not empty
 abbrev pub filled : List ℕ → Result (List ℕ) DocReadError
 filled text = if length text == 0 then Err EmptyText else Ok text
+
+-- content of a node of a leaf type is a fault
+abbrev pub refuses : LeafContent → Bool
+refuses Kept = false
+refuses Refused = true
+
+-- a list without nodes
+abbrev pub no_nodes : Items → Result (List Token) DocReadError
+no_nodes no_items = Ok []
+no_nodes (item d ds) = Err Shape
+
+-- content that the field gives, which may be absent and has no nodes
+abbrev pub none_at : Option Data → Result (List Token) DocReadError
+none_at None = Ok []
+none_at (Some d) = or_fault Shape (as_array d) >>= no_nodes
 
 -- the tokens of a list of nodes, which may be 4,294,967,295 at most
 abbrev pub bounded : List Token → Result (List Token) DocReadError
@@ -103,8 +120,7 @@ module _ (s : SchemaSpec) where
     marks ← marks_of (field (codes "marks") d)
     Ok (record { kind = (documents_of s).text; attrs = attrs; marks = marks; body = Text (utf16 bytes) })
 
-  -- A node of a leaf type without content is a leaf. Content that a leaf type has all the same is kept, so that a check of the
-  -- document finds it.
+  -- a node of a leaf type without content is a leaf
   abbrev pub body_of : ℕ → List Token → Body
   body_of kind [] = if (documents_of s).is_leaf kind then Leaf else Children []
   body_of kind (t ∷ ts) = Children (t ∷ ts)
@@ -117,11 +133,18 @@ module _ (s : SchemaSpec) where
     tokens ← content
     Ok (record { kind = kind; attrs = attrs; marks = marks; body = body_of kind tokens })
 
+-- Nodes with what they hold. Content that a leaf type has all the same is kept, so that a check of the document finds it, or
+-- is a fault before what is in it is read.
+module _ (s : SchemaSpec) (leaves : LeafContent) where
+  -- the content that a node of the type has, where the field is read as `content`
+  abbrev pub content_for : ℕ → Option Data → Result (List Token) DocReadError → Result (List Token) DocReadError
+  content_for kind d content = if refuses leaves && (documents_of s).is_leaf kind then none_at d else content
+
   unfoldable pub node_from : Data → Result (List Token) DocReadError → Result Node DocReadError
   node_from d content = do
     name ← text_at (codes "type") d
     kind ← or_fault UnknownType (place_of name (names_of_nodes s))
-    if kind == (documents_of s).text then text_from d else branch_from kind d content
+    if kind == (documents_of s).text then text_from s d else branch_from s kind d (content_for kind (field (codes "content") d) content)
 
   unfoldable mutual
     pub node_of : Data → Result Node DocReadError
@@ -154,7 +177,11 @@ module _ (s : SchemaSpec) where
       rest ← node_list ds
       Ok (node_tokens first ++ rest)
 
+  -- a list of nodes that are not too many tokens
+  abbrev pub nodes_of : Items → Result (List Token) DocReadError
+  nodes_of ds = node_list ds >>= bounded
+
   -- the content, as the field of that name gives it
   abbrev pub content_at : Option Data → Result (List Token) DocReadError
   content_at None = Ok []
-  content_at (Some d) = (or_fault Shape (as_array d) >>= node_list) >>= bounded
+  content_at (Some d) = or_fault Shape (as_array d) >>= nodes_of

@@ -2,9 +2,8 @@
 use Rattle.std.specs.Prelude.{ℕ, ◌≡◌, ◌<◌, ◌==◌, nat_lt, Bool, true, false, ◌&&◌, not, List, [], ◌∷◌, length, None}
 use Rattle.std.specs.List.{list_all}
 use Rattle.pm_value.specs.Plain.{Plain}
-use Rattle.pm_value.specs.Kept.{InOrder}
 use Rattle.pm_marks.specs.declared.mark.Mark.{Mark}
-use Rattle.pm_tokens.specs.Tokens.{Marks, Token, Open, Close, Leaf, CodeUnit, marks_of}
+use Rattle.pm_tokens.specs.Tokens.{Marks, Token, Open, Close, Leaf, CodeUnit}
 use Rattle.pm_tokens.specs.Marks.{is_set}
 use Rattle.pm_tokens.specs.Faults.{first_broken}
 use Rattle.pm_schema.specs.declared.spec.SchemaSpec.{SchemaSpec}
@@ -55,3 +54,8 @@ module _ (s : SchemaSpec) where
   -- the node is of a type of the schema that is not the type of texts, and its body is one of that type
   abbrev pub has_its_body : Node → Bool
   has_its_body n = nat_lt n.kind (length s.nodes) && (not (n.kind == (documents_of s).text) && is_body_of n.kind n.body)
+
+  -- a content that can be written: each of its tokens can, and none of its units is broken
+  pub record AreWritable (ts : List Token) : Type 0 where
+    pub tokens : are_writable ts ≡ true
+    pub pairs : first_broken 1 None ts ≡ None

@@ -6,7 +6,7 @@ use Rattle.pm_text.specs.Units.{utf8}
 use Rattle.pm_value.specs.Plain.{Plain, fields, plains_of}
 use Rattle.pm_value.specs.Writing.{written}
 use Rattle.pm_marks.specs.declared.mark.Mark.{Mark}
-use Rattle.pm_tokens.specs.Tokens.{Marks, Token}
+use Rattle.pm_tokens.specs.Tokens.{Doc, Marks, Token}
 use Rattle.pm_schema.specs.declared.spec.SchemaSpec.{SchemaSpec}
 use Rattle.pm_schema.specs.Types.{node_at, mark_at}
 use Rattle.pm_schema.specs.Documents.{documents_of}
@@ -68,6 +68,10 @@ module _ (s : SchemaSpec) where
 
   abbrev pub node_written : Node → Data
   node_written n = body_written n.kind n.attrs n.marks n.body
+
+  -- a document: its top node, with the nodes that its tokens are
+  abbrev pub doc_written : Doc → Data
+  doc_written d = branch_written d.kind d.attrs d.marks (nodes_written d.tokens)
 
   -- a node as it is read back: a text is one of the type of texts, which has no attributes, whatever the node's own type says
   abbrev pub as_read_by : Node → Body → Node

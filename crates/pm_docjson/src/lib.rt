@@ -3,6 +3,7 @@
 
 mod fault;
 mod fields;
+mod leaves;
 mod reading_attrs;
 mod reading_marks;
 mod reading_nodes;
@@ -10,16 +11,19 @@ mod texts;
 mod types;
 mod writable;
 mod writing_attrs;
+mod writing_documents;
 mod writing_marks;
 mod writing_nodes;
 
 pub use fault::DocReadError;
+pub use fields::field;
+pub use leaves::LeafContent;
 pub use reading_marks::read_mark;
-pub use reading_nodes::read_node;
-pub use texts::node_text;
-pub use writable::{has_its_body, valid_is_writable};
+pub use reading_nodes::{read_node, read_nodes};
+pub use texts::{document_text, node_text};
+pub use writable::{has_its_body, valid_content_is_writable, valid_is_writable};
 pub use writing_marks::write_mark;
-pub use writing_nodes::write_node;
+pub use writing_nodes::{write_node, write_nodes};
 
 #[cfg(test)]
 mod tests;

@@ -3,11 +3,13 @@ ghost use Rattle.std.specs.Prelude.{◌≡◌, ◌<◌, codes, length, min};
 ghost use Rattle.serde_json.specs.View.{view, items_view};
 ghost use Rattle.pm_node.specs.Trees.{nodes_tokens};
 ghost use Rattle.pm_docjson.specs.Answers.{Gives};
+ghost use Rattle.pm_docjson.specs.declared.leaves.LeafContent.TheVariants.{Kept};
 ghost use Rattle.pm_docjson.specs.Fields.{field};
-ghost use Rattle.pm_docjson.specs.Reading.{text_from, branch_from, body_of, bounded, node_of, node_list, content_at};
+ghost use Rattle.pm_docjson.specs.Reading.{text_from, branch_from, body_of, bounded, no_nodes, none_at, content_for, node_of, node_list, nodes_of, content_at};
 
 use crate::fault::DocReadError;
 use crate::fields::{field, text_at};
+use crate::leaves::LeafContent;
 use crate::reading_attrs::attrs_read;
 use crate::reading_marks::marks_of;
 use crate::types::{is_leaf, text_type};
@@ -26,17 +28,42 @@ const MAX_TOKENS: usize = 4_294_967_295;
 /// kind; `UnknownType` where no type has the name; `EmptyText` at an empty text; `Attr` as in `read_mark`; `NotASet` where
 /// the marks are no set; `Large` after the last node of a list of more than 4,294,967,295 tokens. Neighbouring texts with
 /// equal marks are one text. Content that a leaf type has all the same is kept, so that a check of the document finds it.
+pub fn read_node(alloc: Global, schema: &Schema, json: &Json) -> Result<Node, DocReadError>
+    ensures { Gives (λ n. n) result (node_of schema.now.spec Kept (view json.now)) }
+{
+    node_of(alloc, schema, LeafContent::Kept, json)
+}
+
+/// The nodes of a list of JSON values, one after another, or the first fault in one of them, as in `read_node`. `Large` comes
+/// after the last node, where they have more than 4,294,967,295 tokens. Content of a leaf type is refused or kept.
+pub fn read_nodes(
+    alloc: Global,
+    schema: &Schema,
+    leaves: LeafContent,
+    items: &[Json],
+) -> Result<Fragment, DocReadError>
+    ensures { Gives (λ f. f) result (nodes_of schema.now.spec leaves (items_view items.now)) }
+{
+    let nodes = node_list(alloc, schema, leaves, items)?;
+    joined(alloc, nodes)
+}
+
 #[cycle(node)]
 #[tactic(auto, using(crate::proofs::Content::fields), unfolding(crate::specs::Reading::node_from))]
-pub fn read_node(alloc: Global, schema: &Schema, json: &Json) -> Result<Node, DocReadError>
-    ensures { Gives (λ n. n) result (node_of schema.now.spec (view json.now)) }
+fn node_of(
+    alloc: Global,
+    schema: &Schema,
+    leaves: LeafContent,
+    json: &Json,
+) -> Result<Node, DocReadError>
+    ensures { Gives (λ n. n) result (node_of schema.now.spec leaves (view json.now)) }
 {
     let name = text_at(json, "type")?;
     let kind = schema.node_named(name).ok_or(DocReadError::UnknownType)?;
     if kind == text_type(schema) {
         text_from(alloc, schema, json)
     } else {
-        branch_from(alloc, schema, kind, json)
+        branch_from(alloc, schema, leaves, kind, json)
     }
 }
 
@@ -68,16 +95,18 @@ fn text_from(alloc: Global, schema: &Schema, json: &Json) -> Result<Node, DocRea
 fn branch_from(
     alloc: Global,
     schema: &Schema,
+    leaves: LeafContent,
     kind: TypeId,
     json: &Json,
 ) -> Result<Node, DocReadError>
     requires { kind < length schema.now.spec.nodes }
     ensures { Gives (λ n. n) result (branch_from schema.now.spec kind (view json.now)
-        (content_at schema.now.spec (field (codes "content") (view json.now)))) }
+        (content_for schema.now.spec leaves kind (field (codes "content") (view json.now))
+        (content_at schema.now.spec leaves (field (codes "content") (view json.now))))) }
 {
     let attrs = attrs_read(alloc, schema, AnyType::Node(kind), json)?;
     let marks = marks_of(alloc, schema, json)?;
-    let content = content_of(alloc, schema, json)?;
+    let content = content_for(alloc, schema, leaves, kind, json)?;
     let body = body_of(schema, kind, content);
     Ok(Node {
         kind,
@@ -85,6 +114,51 @@ fn branch_from(
         marks,
         body,
     })
+}
+
+/// The content of a node of the type, which has none where the type is a leaf's and its content is refused.
+#[cycle(node)]
+fn content_for(
+    alloc: Global,
+    schema: &Schema,
+    leaves: LeafContent,
+    kind: TypeId,
+    json: &Json,
+) -> Result<Fragment, DocReadError>
+    requires { kind < length schema.now.spec.nodes }
+    ensures { Gives (λ f. f) result (content_for schema.now.spec leaves kind (field (codes "content") (view json.now))
+        (content_at schema.now.spec leaves (field (codes "content") (view json.now)))) }
+{
+    if leaves.refuses() && is_leaf(schema, kind) {
+        none_at(alloc, json)
+    } else {
+        content_of(alloc, schema, leaves, json)
+    }
+}
+
+/// No nodes, where the field `content` gives none.
+fn none_at(alloc: Global, json: &Json) -> Result<Fragment, DocReadError>
+    ensures { Gives (λ f. f) result (none_at (field (codes "content") (view json.now))) }
+{
+    let Some(value) = field(json, "content") else {
+        return Ok(Fragment::new(alloc));
+    };
+    match value.as_array() {
+        Some(items) => no_nodes(alloc, items),
+        None => Err(DocReadError::Shape),
+    }
+}
+
+/// No nodes, where the list has none.
+#[tactic(auto, using(crate::proofs::Bodies::bodies))]
+fn no_nodes(alloc: Global, items: &[Json]) -> Result<Fragment, DocReadError>
+    ensures { Gives (λ f. f) result (no_nodes (items_view items.now)) }
+{
+    if items.is_empty() {
+        Ok(Fragment::new(alloc))
+    } else {
+        Err(DocReadError::Shape)
+    }
 }
 
 /// What a node of the type holds: nothing where the type is a leaf's and there is no content.
@@ -105,14 +179,19 @@ fn body_of(schema: &Schema, kind: TypeId, content: Fragment) -> Body
 
 /// The nodes that the field `content` gives.
 #[cycle(node)]
-fn content_of(alloc: Global, schema: &Schema, json: &Json) -> Result<Fragment, DocReadError>
-    ensures { Gives (λ f. f) result (content_at schema.now.spec (field (codes "content") (view json.now))) }
+fn content_of(
+    alloc: Global,
+    schema: &Schema,
+    leaves: LeafContent,
+    json: &Json,
+) -> Result<Fragment, DocReadError>
+    ensures { Gives (λ f. f) result (content_at schema.now.spec leaves (field (codes "content") (view json.now))) }
 {
     match field(json, "content") {
         None => Ok(Fragment::new(alloc)),
         Some(value) => match value.as_array() {
             Some(items) => {
-                let nodes = node_list(alloc, schema, items)?;
+                let nodes = node_list(alloc, schema, leaves, items)?;
                 joined(alloc, nodes)
             }
             None => Err(DocReadError::Shape),
@@ -122,12 +201,17 @@ fn content_of(alloc: Global, schema: &Schema, json: &Json) -> Result<Fragment, D
 
 #[cycle(node)]
 #[tactic(auto, using(crate::proofs::TokenFronts::token_fronts), unfolding(crate::specs::Reading::node_list))]
-fn node_list(alloc: Global, schema: &Schema, items: &[Json]) -> Result<Vec<Node>, DocReadError>
-    ensures { Gives (λ v. nodes_tokens v.items) result (node_list schema.now.spec (items_view items.now)) }
+fn node_list(
+    alloc: Global,
+    schema: &Schema,
+    leaves: LeafContent,
+    items: &[Json],
+) -> Result<Vec<Node>, DocReadError>
+    ensures { Gives (λ v. nodes_tokens v.items) result (node_list schema.now.spec leaves (items_view items.now)) }
 {
     let mut nodes = Vec::new(alloc);
     for item in items {
-        nodes.push(read_node(alloc, schema, item)?)?;
+        nodes.push(node_of(alloc, schema, leaves, item)?)?;
     }
     Ok(nodes)
 }

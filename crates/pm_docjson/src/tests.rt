@@ -2,10 +2,10 @@
 //! 2 strong, 3 code.
 mod writing;
 
-use crate::{DocReadError, read_mark, read_node};
+use crate::{DocReadError, LeafContent, read_mark, read_node, read_nodes, write_nodes};
 use pm_auto::Expr;
 use pm_list::Listed;
-use pm_node::{Body, Node};
+use pm_node::{Body, Fragment, Node};
 use pm_schema::{AttrSpec, AttrSpecs, MarkSpec, NodeSpec, Schema, SchemaSpec};
 use pm_value::{Text, Value};
 use serde_json::Value as Json;
@@ -195,5 +195,21 @@ fn the_first_fault_is_named(rt: HostRuntime) -> Result<(), Fail> {
     assert!(rt; mark.kind == 0 && mark.attrs.values().len() == 1);
     let json = Json::from_str(alloc, "{\"type\":\"link\"}")?;
     assert!(rt; read_mark(alloc, &schema, &json).err() == Some(DocReadError::Attr));
+    Ok(())
+}
+
+#[test]
+fn content_of_leaves_is_kept_or_refused(rt: HostRuntime) -> Result<(), Fail> {
+    let alloc = rt.alloc();
+    let schema = schema(alloc)?;
+    let text = "{\"type\":\"image\",\"attrs\":{\"src\":1},\"content\":[{\"type\":\"doc\"}]}";
+    let mut items = Vec::new(alloc);
+    items.push(Json::from_str(alloc, text)?)?;
+    let kept = read_nodes(alloc, &schema, LeafContent::Kept, &items)?;
+    assert!(rt; kept.len() == 1 && kept.size() == 4);
+    let refused = read_nodes(alloc, &schema, LeafContent::Refused, &items);
+    assert!(rt; refused.err() == Some(DocReadError::Shape));
+    let none = write_nodes(alloc, &schema, &Fragment::new(alloc))?;
+    assert!(rt; none.is_empty());
     Ok(())
 }

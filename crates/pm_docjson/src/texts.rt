@@ -1,21 +1,20 @@
-//! Nodes as texts.
+//! Nodes and documents as texts.
 ghost use Rattle.std.specs.Prelude.{◌≡◌, ◌≤◌, false, IfOk, Some, string_bytes};
 ghost use Rattle.serde_json.specs.Data.{depth};
 ghost use Rattle.serde_json.specs.Read.{read, max_depth};
 ghost use Rattle.serde_json.specs.Written.{compact_text, has_float};
 ghost use Rattle.pm_docjson.specs.KeyOrder.{HasOrderedKeys};
-ghost use Rattle.pm_docjson.specs.Writable.{IsWritable};
-ghost use Rattle.pm_docjson.specs.Writing.{node_written};
+ghost use Rattle.pm_docjson.specs.Writing.{doc_written, node_written};
 
+use crate::writing_documents::document_json;
 use crate::writing_nodes::write_node;
-use pm_node::Node;
+use pm_node::{Document, Node};
 use pm_schema::Schema;
 use std::alloc::{AllocError, Global};
 
 /// The text of a node: the compact text of its JSON value, which has no float, and in whose objects the keys stand in byte
 /// order. It is read back as that value where the value nests at most 127 levels.
 pub fn node_text(alloc: Global, schema: &Schema, node: &Node) -> Result<String, AllocError>
-    requires { IsWritable schema.now.spec node.now }
     ensures text { IfOk result (λ s. string_bytes s ≡ compact_text (node_written schema.now.spec node.now)) }
     ensures read { IfOk result (λ s. depth (node_written schema.now.spec node.now) ≤ max_depth
         → read (string_bytes s) ≡ Some (node_written schema.now.spec node.now)) }
@@ -23,5 +22,23 @@ pub fn node_text(alloc: Global, schema: &Schema, node: &Node) -> Result<String, 
     ensures whole { has_float (node_written schema.now.spec node.now) ≡ false }
 {
     let value = write_node(alloc, schema, node)?;
+    value.to_string(alloc)
+}
+
+/// The text of a document: the compact text of its JSON value, which is that of its top node with the nodes of its content. It
+/// has no float, and in its objects the keys stand in byte order. It is read back as that value where the value nests at most
+/// 127 levels.
+pub fn document_text(
+    alloc: Global,
+    schema: &Schema,
+    document: &Document,
+) -> Result<String, AllocError>
+    ensures text { IfOk result (λ s. string_bytes s ≡ compact_text (doc_written schema.now.spec document.now)) }
+    ensures read { IfOk result (λ s. depth (doc_written schema.now.spec document.now) ≤ max_depth
+        → read (string_bytes s) ≡ Some (doc_written schema.now.spec document.now)) }
+    ensures ordered { HasOrderedKeys (doc_written schema.now.spec document.now) }
+    ensures whole { has_float (doc_written schema.now.spec document.now) ≡ false }
+{
+    let value = document_json(alloc, schema, document)?;
     value.to_string(alloc)
 }

@@ -3,9 +3,9 @@ ghost use Rattle.std.specs.Prelude.{◌≡◌, true};
 ghost use Rattle.pm_tokens.specs.Faults.{Valid};
 ghost use Rattle.pm_schema.specs.Documents.{documents_of};
 ghost use Rattle.pm_node.specs.Documents.{doc_of};
-ghost use Rattle.pm_docjson.specs.Writable.{has_its_body, IsWritable};
+ghost use Rattle.pm_docjson.specs.Writable.{has_its_body, IsWritable, AreWritable};
 
-use pm_node::{Body, Node};
+use pm_node::{Body, Document, Node};
 use pm_schema::Schema;
 
 /// Whether the node is of a type of the schema that is not the type of texts, and its body is one of that type: a leaf where
@@ -34,4 +34,13 @@ pub fn valid_is_writable(schema: &Schema, top: &Node)
 {
     let _ = schema.node_count();
     let _ = top.kind;
+}
+
+/// The content of a valid document can be written. The call does nothing.
+pub fn valid_content_is_writable(schema: &Schema, document: &Document)
+    requires { Valid (documents_of schema.now.spec) document.now }
+    ensures { AreWritable schema.now.spec document.now.tokens }
+{
+    let _ = schema.node_count();
+    let _ = document.size();
 }

@@ -8,40 +8,58 @@ ghost use Rattle.pm_text.specs.Lone.{HasNoLone};
 ghost use Rattle.serde_json.specs.Data.{string};
 ghost use Rattle.pm_schema.specs.Documents.{documents_of};
 ghost use Rattle.pm_schema.specs.Names.{place_of};
-ghost use Rattle.pm_schema.specs.Types.{names_of_nodes, node_at};
+ghost use Rattle.pm_schema.specs.Types.{fit_attrs, names_of_nodes, node_at};
+ghost use Rattle.pm_docjson.specs.declared.leaves.LeafContent.{LeafContent};
 ghost use Rattle.pm_docjson.specs.Values.{keys};
 ghost use Rattle.pm_docjson.specs.Members.{attrs_field, put_list};
-ghost use Rattle.pm_docjson.specs.Reading.{attrs_read, mark_of, node_of};
-ghost use Rattle.pm_docjson.specs.Writing.{mark_written, text_written, branch_written, node_written, as_read};
-ghost use Rattle.pm_docjson.specs.Writable.{marks_fit, type_fits, IsWritable};
+ghost use Rattle.pm_docjson.specs.Reading.{attrs_read, mark_of, node_of, node_list};
+ghost use Rattle.pm_docjson.specs.Writing.{mark_written, text_written, branch_written, node_written, nodes_written, as_read};
+ghost use Rattle.pm_docjson.specs.Writable.{mark_fits, IsWritable, AreWritable};
 
-use crate::types::text_type;
+use crate::types::{node_name, text_type};
 use crate::writing_attrs::put_attrs;
 use crate::writing_marks::{typed, write_marks};
 use pm_attrs::Attrs;
 use pm_auto::TypeId;
 use pm_marks::Mark;
-use pm_node::{Body, Node, Units};
+use pm_node::{Body, Fragment, Node, Units};
 use pm_schema::{AnyType, Schema};
 use pm_text::{TextError, text_of};
 use serde_json::{Map, Value as Json, put};
 use std::alloc::{AllocError, Global};
 use std::sync::Arc;
 
-/// The JSON value of a node, which is read back as the same node; a text is read back as one of the type of texts.
+/// The JSON value of a node. Where the node can be written, it is read back as the same node, and a text as one of the type of
+/// texts. Else it is written all the same: a unit of no pair as U+FFFD, a type beyond the last without name and attributes, and
+/// as many attributes as are declared and have values.
 pub fn write_node(alloc: Global, schema: &Schema, node: &Node) -> Result<Json, AllocError>
-    requires writable { IsWritable schema.now.spec node.now }
     ensures written { IfOk result (λ j. view j ≡ node_written schema.now.spec node.now) }
-    ensures again { IfOk result (λ j. node_of schema.now.spec (view j) ≡ Ok (as_read schema.now.spec node.now)) }
+    ensures again { IfOk result (λ j. IsWritable schema.now.spec node.now
+        → (l : LeafContent) → node_of schema.now.spec l (view j) ≡ Ok (as_read schema.now.spec node.now)) }
 {
     node_json(alloc, schema, node)
 }
 
+/// The JSON values of a content, which are read back as the same content where it can be written.
+pub fn write_nodes(
+    alloc: Global,
+    schema: &Schema,
+    content: &Fragment,
+) -> Result<Vec<Json>, AllocError>
+    ensures written { IfOk result (λ v. items_view v.items ≡ nodes_written schema.now.spec content.now) }
+    ensures again { OnOk result (AreWritable schema.now.spec content.now
+        → (l : LeafContent) → node_list schema.now.spec l (nodes_written schema.now.spec content.now) ≡ Ok content.now) }
+{
+    let _ = content.size();
+    let items = nodes_json(alloc, schema, content.children())?;
+    Ok(items)
+}
+
 #[cycle(write)]
 fn node_json(alloc: Global, schema: &Schema, node: &Node) -> Result<Json, AllocError>
-    requires writable { IsWritable schema.now.spec node.now }
     ensures written { IfOk result (λ j. view j ≡ node_written schema.now.spec node.now) }
-    ensures again { OnOk result (node_of schema.now.spec (node_written schema.now.spec node.now) ≡ Ok (as_read schema.now.spec node.now)) }
+    ensures again { OnOk result (IsWritable schema.now.spec node.now
+        → (l : LeafContent) → node_of schema.now.spec l (node_written schema.now.spec node.now) ≡ Ok (as_read schema.now.spec node.now)) }
 {
     let marks = node.marks.marks();
     match &node.body {
@@ -70,9 +88,9 @@ fn nodes_json(
     schema: &Schema,
     nodes: &[Arc<Node, Global>],
 ) -> Result<Vec<Json>, AllocError>
-    requires each { AllByRecursion (λ x. IsWritable schema.now.spec (arc_value x)) nodes.now }
     ensures written { IfOk result (λ v. items_view v.items ≡ items_of (map (λ x. node_written schema.now.spec (arc_value x)) nodes.now)) }
-    ensures again { OnOk result (AllByRecursion (λ x. node_of schema.now.spec (node_written schema.now.spec (arc_value x)) ≡ Ok (as_read schema.now.spec (arc_value x))) nodes.now) }
+    ensures again { OnOk result (AllByRecursion (λ x. IsWritable schema.now.spec (arc_value x)
+        → (l : LeafContent) → node_of schema.now.spec l (node_written schema.now.spec (arc_value x)) ≡ Ok (as_read schema.now.spec (arc_value x))) nodes.now) }
 {
     let mut items = Vec::new(alloc);
     for node in nodes {
@@ -83,20 +101,19 @@ fn nodes_json(
 
 /// The JSON value of a text of these units and marks.
 #[tactic(auto, using(crate::proofs::ObjectLaws::puts))]
-fn text_json(
+pub(crate) fn text_json(
     alloc: Global,
     schema: &Schema,
     units: &Units,
     marks: &[Mark<Attrs>],
 ) -> Result<Json, AllocError>
-    requires marks { marks_fit schema.now.spec marks.now ≡ true }
-    requires whole { HasNoLone units.now }
     ensures written { IfOk result (λ j. view j ≡ text_written schema.now.spec units.now marks.now) }
     ensures named { OnOk result (place_of (node_at schema.now.spec (documents_of schema.now.spec).text).name
         (names_of_nodes schema.now.spec) ≡ Some (documents_of schema.now.spec).text) }
     ensures plain { OnOk result ((node_at schema.now.spec (documents_of schema.now.spec).text).attrs ≡ []) }
-    ensures units { OnOk result (utf16 (utf8 units.now) ≡ units.now) }
-    ensures again { OnOk result (AllByRecursion (λ m. mark_of schema.now.spec (mark_written schema.now.spec m) ≡ Ok m) marks.now) }
+    ensures units { OnOk result (HasNoLone units.now → utf16 (utf8 units.now) ≡ units.now) }
+    ensures again { OnOk result (AllByRecursion (λ m. mark_fits schema.now.spec m ≡ true
+        → mark_of schema.now.spec (mark_written schema.now.spec m) ≡ Ok m) marks.now) }
 {
     let name = schema.node_name(text_type(schema));
     let mut map = typed(alloc, name)?;
@@ -107,22 +124,25 @@ fn text_json(
     Ok(Json::Object(map))
 }
 
-/// The text that the units spell.
+/// The text that the units spell, with U+FFFD for each unit of no pair.
+#[tactic(auto, unfolding(pm_text::specs::Units::utf8))]
 fn text_value(alloc: Global, units: &Units) -> Result<Json, AllocError>
-    requires { HasNoLone units.now }
     ensures written { IfOk result (λ j. view j ≡ string (utf8 units.now)) }
-    ensures units { OnOk result (utf16 (utf8 units.now) ≡ units.now) }
+    ensures units { OnOk result (HasNoLone units.now → utf16 (utf8 units.now) ≡ units.now) }
 {
     match text_of(alloc, units.as_slice()) {
         Ok(text) => Ok(Json::try_from_str(alloc, text.as_str())?),
         Err(TextError::NoMemory) => Err(AllocError),
-        Err(TextError::Lone { at: _ }) => unreachable!(),
+        Err(TextError::Lone { at: _ }) => {
+            let text = String::from_utf16_lossy(alloc, units.as_slice())?;
+            Ok(Json::try_from_str(alloc, text.as_str())?)
+        }
     }
 }
 
 /// The JSON value of a node that is no text, with the JSON values of its children.
 #[tactic(auto, using(crate::proofs::ObjectLaws::puts))]
-fn branch_json(
+pub(crate) fn branch_json(
     alloc: Global,
     schema: &Schema,
     kind: TypeId,
@@ -130,16 +150,16 @@ fn branch_json(
     marks: &[Mark<Attrs>],
     content: Vec<Json>,
 ) -> Result<Json, AllocError>
-    requires fits { type_fits schema.now.spec kind attrs.now ≡ true }
-    requires marks { marks_fit schema.now.spec marks.now ≡ true }
     ensures written { IfOk result (λ j. view j
         ≡ branch_written schema.now.spec kind attrs.now marks.now (items_view content.items)) }
-    ensures named { OnOk result (place_of (node_at schema.now.spec kind).name (names_of_nodes schema.now.spec) ≡ Some kind) }
-    ensures attrs { OnOk result (attrs_read (node_at schema.now.spec kind).attrs
-        (attrs_field (keys (node_at schema.now.spec kind).attrs) attrs.now) ≡ Ok attrs.now) }
-    ensures again { OnOk result (AllByRecursion (λ m. mark_of schema.now.spec (mark_written schema.now.spec m) ≡ Ok m) marks.now) }
+    ensures named { OnOk result (kind < length schema.now.spec.nodes
+        → place_of (node_at schema.now.spec kind).name (names_of_nodes schema.now.spec) ≡ Some kind) }
+    ensures attrs { OnOk result (fit_attrs (node_at schema.now.spec kind).attrs attrs.now ≡ true
+        → attrs_read (node_at schema.now.spec kind).attrs (attrs_field (keys (node_at schema.now.spec kind).attrs) attrs.now) ≡ Ok attrs.now) }
+    ensures again { OnOk result (AllByRecursion (λ m. mark_fits schema.now.spec m ≡ true
+        → mark_of schema.now.spec (mark_written schema.now.spec m) ≡ Ok m) marks.now) }
 {
-    let name = schema.node_name(kind);
+    let name = node_name(schema, kind);
     let mut map = typed(alloc, name)?;
     let marks = write_marks(alloc, schema, marks)?;
     put_list(&mut map, alloc, "marks", marks)?;

@@ -15,6 +15,7 @@ use Rattle.pm_node.specs.Trees.{node_tokens}
 use Rattle.pm_node.specs.Documents.{doc_of}
 use Rattle.pm_node.specs.Filled.{Filling, CanBeMade, IsFillFault}
 use Rattle.pm_docjson.specs.declared.fault.DocReadError.{DocReadError}
+use Rattle.pm_docjson.specs.declared.leaves.LeafContent.TheVariants.{Kept}
 use Rattle.pm_docjson.specs.Reading.{node_of}
 use Rattle.pm_head.specs.Codes.{node_code, fill_code}
 use Rattle.pm_head.specs.Lines.{json_line}
@@ -43,11 +44,11 @@ FilledTop s (Err code) = NotFilled s code
 -- why the value writes no node
 pub record NotRead (s : Schema) (d : Data) (code : ℕ) : Type 0 where
   pub error : DocReadError
-  pub fault : node_of s.spec d ≡ Err error
+  pub fault : node_of s.spec Kept d ≡ Err error
   pub has_code : node_code error ≡ Some code
 
 abbrev pub ReadTop : Schema → Data → Result Node ℕ → Type 0
-ReadTop s d (Ok n) = node_of s.spec d ≡ Ok n
+ReadTop s d (Ok n) = node_of s.spec Kept d ≡ Ok n
 ReadTop s d (Err code) = NotRead s d code
 
 -- the top node, or the code of its fault: it is the one that the value writes, and for null the top type filled

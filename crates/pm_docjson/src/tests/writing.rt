@@ -1,17 +1,15 @@
 //! Texts of what is written, with ample memory. Of a row's two texts the first is read, and the second is its text again: keys
 //! stand in byte order, no blank is written, and an attribute that is not given is written with its default.
-ghost use Rattle.std.specs.Prelude.{◌≡◌, true, IsTrue};
-ghost use Rattle.pm_docjson.specs.Writable.{mark_fits};
-
 use super::schema;
 use crate::{
-    has_its_body, node_text, read_mark, read_node, valid_is_writable, write_mark, write_node,
+    document_text, has_its_body, node_text, read_mark, read_node, valid_is_writable, write_mark,
+    write_node,
 };
 use pm_attrs::Attrs;
-use pm_marks::Mark;
-use pm_node::Document;
-use pm_schema::{AnyType, Schema};
-use pm_value::Value;
+use pm_auto::TypeId;
+use pm_marks::MarkSet;
+use pm_node::{Body, Document, Node, Units};
+use pm_schema::Schema;
 use serde_json::Value as Json;
 use std::alloc::Global;
 use std::process::Abort;
@@ -36,7 +34,7 @@ const ROWS: [(&str, &str); 4] = [
     ),
 ];
 
-/// The text of a document that is read from a text: by way of its JSON value, and at once.
+/// The text of a document that is read from a text: by way of its JSON value, and at once. Both are the text of its top node.
 fn texts(
     rt: &impl Abort,
     alloc: Global,
@@ -50,7 +48,9 @@ fn texts(
     assert!(rt; has_its_body(schema, top));
     valid_is_writable(schema, top);
     let value = write_node(alloc, schema, top)?;
-    Ok((value.to_string(alloc)?, node_text(alloc, schema, top)?))
+    let text = document_text(alloc, schema, &document)?;
+    assert!(rt; text.as_str() == node_text(alloc, schema, top)?.as_str());
+    Ok((value.to_string(alloc)?, text))
 }
 
 #[test]
@@ -70,28 +70,46 @@ fn documents_are_written_in_full(rt: HostRuntime) -> Result<(), Fail> {
     Ok(())
 }
 
-/// Whether the mark is of a type with one attribute, and has a number as its value. Such a mark can be written.
-fn has_one_number(schema: &Schema, mark: &Mark<Attrs>) -> bool
-    ensures { IsTrue result → mark_fits schema.now.spec mark.now ≡ true }
-{
-    let kind = mark.kind;
-    if kind >= schema.mark_count() {
-        return false;
-    }
-    match mark.attrs.values() {
-        [Value::Int(_)] => schema.attr_count(AnyType::Mark(kind)) == 1,
-        _ => false,
-    }
-}
-
 #[test]
 fn a_mark_is_written_with_its_attributes(rt: HostRuntime) -> Result<(), Fail> {
     let alloc = rt.alloc();
     let schema = schema(alloc)?;
     let json = Json::from_str(alloc, r#"{"type":"link","attrs":{"href":7}}"#)?;
     let mark = read_mark(alloc, &schema, &json)?;
-    assert!(rt; has_one_number(&schema, &mark));
     let text = write_mark(alloc, &schema, &mark)?.to_string(alloc)?;
     assert!(rt; text.as_str() == r#"{"attrs":{"href":7},"type":"link"}"#);
+    Ok(())
+}
+
+/// The text of a node without attributes and marks.
+fn bare(
+    alloc: Global,
+    schema: &Schema,
+    kind: TypeId,
+    body: Body,
+) -> Result<String, Fail> {
+    let node = Node {
+        kind,
+        attrs: Attrs::new(Vec::new(alloc)),
+        marks: MarkSet::empty(alloc),
+        body,
+    };
+    Ok(node_text(alloc, schema, &node)?)
+}
+
+#[test]
+fn what_is_not_read_again_is_written_all_the_same(rt: HostRuntime) -> Result<(), Fail> {
+    let alloc = rt.alloc();
+    let schema = schema(alloc)?;
+    // a surrogate of no pair, as the replacement character
+    let units = Units::new(vec![in alloc; 0x0061, 0xD83D, 0x0062]?);
+    let text = bare(alloc, &schema, 4, Body::Text(units))?;
+    assert!(rt; text.as_str() == "{\"text\":\"a\u{FFFD}b\",\"type\":\"text\"}", "{text}");
+    // a type beyond the last
+    let text = bare(alloc, &schema, 5, Body::Leaf)?;
+    assert!(rt; text.as_str() == r#"{"type":""}"#, "{text}");
+    // an attribute without a value
+    let text = bare(alloc, &schema, 2, Body::Leaf)?;
+    assert!(rt; text.as_str() == r#"{"attrs":{},"type":"heading"}"#, "{text}");
     Ok(())
 }

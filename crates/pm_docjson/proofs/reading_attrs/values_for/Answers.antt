@@ -1,4 +1,4 @@
-use Rattle.std.proofs.Common.{◌≡◌, ap, subst, Ok}
+use Rattle.std.proofs.Common.{ap, subst}
 use Rattle.pm_list.specs.Readings.{or_fault}
 use Rattle.pm_schema.specs.Attrs.{attrs_of, pairs_of, IsAttrFault}
 use Rattle.pm_schema.specs.declared.error.AttrError.{AttrError}

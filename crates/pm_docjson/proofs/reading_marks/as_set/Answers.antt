@@ -1,4 +1,4 @@
-use Rattle.std.proofs.Common.{◌≡◌, ap, ◌∙◌, sym, subst, List, Bool, Ok, Err}
+use Rattle.std.proofs.Common.{ap, ◌∙◌, sym, subst, List, Bool, Ok, Err}
 use Rattle.pm_attrs.specs.Attrs.{same_attrs}
 use Rattle.pm_marks.specs.Sets.{IsSet}
 use Rattle.pm_docjson.proofs.SetLaws.{as_set-yes, as_set-no}

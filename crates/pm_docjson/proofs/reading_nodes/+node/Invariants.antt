@@ -6,17 +6,20 @@ use Rattle.pm_docjson.proofs.TokenFronts.{with_tokens}
 use Rattle.pm_docjson.specs.Reading.{node_list}
 use Rattle.pm_docjson.proofs.reading_nodes.+node.Given as goal
 
-abbrev pub decreases-read_node : goal.decreases-read_node
-decreases-read_node l = 4 * depth (view l.json.now) + 3
+abbrev pub decreases-node_of : goal.decreases-node_of
+decreases-node_of l = 5 * depth (view l.json.now) + 4
 
 abbrev pub decreases-branch_from : goal.decreases-branch_from
-decreases-branch_from l = 4 * depth (view l.json.now) + 2
+decreases-branch_from l = 5 * depth (view l.json.now) + 3
+
+abbrev pub decreases-content_for : goal.decreases-content_for
+decreases-content_for l = 5 * depth (view l.json.now) + 2
 
 abbrev pub decreases-content_of : goal.decreases-content_of
-decreases-content_of l = 4 * depth (view l.json.now) + 1
+decreases-content_of l = 5 * depth (view l.json.now) + 1
 
 abbrev pub decreases-node_list : goal.decreases-node_list
-decreases-node_list l = 4 * items_depth (items_view l.items.now) + 4
+decreases-node_list l = 5 * items_depth (items_view l.items.now) + 5
 
 abbrev pub invariant-node_list-loop-item : goal.invariant-node_list-loop-item
-invariant-node_list-loop-item l = with_tokens (nodes_tokens l.nodes.items) (node_list l.schema.spec (items_view (drop l.item-index l.items))) ≡ node_list l.schema.spec (items_view l.items)
+invariant-node_list-loop-item l = with_tokens (nodes_tokens l.nodes.items) (node_list l.schema.spec l.leaves (items_view (drop l.item-index l.items))) ≡ node_list l.schema.spec l.leaves (items_view l.items)

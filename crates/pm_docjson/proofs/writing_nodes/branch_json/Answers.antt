@@ -13,4 +13,4 @@ returns-clause-written c =
     c.node_name-name.ensures.name c.in_ok-map.ensures c.in_ok-marks.ensures.written c.in_ok-put_list.ensures c.in_ok-put_list-2.ensures c.in_ok-put_attrs.ensures.put (view-Object c.put_attrs.new.map)
 
 pub returns-clause-named : goal.returns-clause-named
-returns-clause-named c = subst (λ (n : List ℕ). place_of n (names_of_nodes c.args.schema.now.spec) ≡ Some c.args.kind) c.node_name-name.ensures.name c.node_name-name.ensures.found
+returns-clause-named c = λ inside. subst (λ (n : List ℕ). place_of n (names_of_nodes c.args.schema.now.spec) ≡ Some c.args.kind) c.node_name-name.ensures.name (c.node_name-name.ensures.found inside)

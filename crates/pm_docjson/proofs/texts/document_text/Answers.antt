@@ -1,0 +1,37 @@
+use Rattle.serde_json.specs.View.{view}
+use Rattle.pm_node.specs.declared.node.Body.TheVariants.{Children}
+use Rattle.pm_node.specs.declared.node.Node.{Node}
+use Rattle.pm_docjson.specs.Writing.{doc_written}
+use Rattle.pm_tokens.specs.Tokens.{Doc}
+use Rattle.pm_docjson.proofs.KeyOrder.{node-ordered}
+use Rattle.pm_docjson.proofs.NoFloat.{node-whole}
+use Rattle.pm_docjson.proofs.WholeTexts.{text-is, text-reads}
+use Rattle.pm_docjson.proofs.texts.document_text.Goals as goal
+
+-- the top node whose content are these tokens, which is written as the document is
+abbrev top : Doc → Node
+top d = record { kind = d.kind; attrs = d.attrs; marks = d.marks; body = Children d.tokens }
+
+pub returns-clause-text : goal.returns-clause-text
+returns-clause-text c =
+    let s = c.args.schema.now.spec in
+    let d = c.args.document.now in
+    text-is (view c.in_ok-value.value) (doc_written s d) c.to_string.result c.in_ok-value.ensures (node-whole s (top d)) c.to_string.ensures.text
+
+pub returns-clause-read : goal.returns-clause-read
+returns-clause-read c =
+    let s = c.args.schema.now.spec in
+    let d = c.args.document.now in
+    text-reads (view c.in_ok-value.value) (doc_written s d) c.to_string.result c.in_ok-value.ensures c.to_string.ensures.reads_back
+
+pub returns-clause-ordered : goal.returns-clause-ordered
+returns-clause-ordered c = node-ordered c.args.schema.now.spec (top c.args.document.now)
+
+pub returns-clause-whole : goal.returns-clause-whole
+returns-clause-whole c = node-whole c.args.schema.now.spec (top c.args.document.now)
+
+pub returns-in_err-value-clause-ordered : goal.returns-in_err-value-clause-ordered
+returns-in_err-value-clause-ordered c = node-ordered c.args.schema.now.spec (top c.args.document.now)
+
+pub returns-in_err-value-clause-whole : goal.returns-in_err-value-clause-whole
+returns-in_err-value-clause-whole c = node-whole c.args.schema.now.spec (top c.args.document.now)

@@ -1,0 +1,13 @@
+//! Slices as JSON values.
+#![tactic(auto)]
+
+mod numbers;
+mod reading;
+mod writing;
+
+pub use numbers::{as_count, count_at};
+pub use reading::read_slice;
+pub use writing::write_slice;
+
+#[cfg(test)]
+mod tests;

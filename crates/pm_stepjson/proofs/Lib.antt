@@ -1,0 +1,4 @@
+pub mod FaultLaws
+pub mod ObjectLaws
+pub mod Again
+pub mod NoFloat

@@ -1,0 +1,27 @@
+-- What can be written and is read again.
+use Rattle.std.specs.Prelude.{◌≡◌, ℕ, ◌<◌, ◌^◌, true}
+use Rattle.pm_schema.specs.declared.spec.SchemaSpec.{SchemaSpec}
+use Rattle.pm_docjson.specs.Writable.{mark_fits, AreWritable}
+use Rattle.pm_meaning.specs.Steps.{Step, Replace, ReplaceAround, AddMark, RemoveMark, AddNodeMark, RemoveNodeMark}
+
+-- the step's mark can be written, or the content of its slice
+abbrev pub CanBeWritten : SchemaSpec → Step → Type 0
+CanBeWritten s (Replace from to sl structure) = AreWritable s sl.content
+CanBeWritten s (ReplaceAround from to gap_from gap_to sl insert structure) = AreWritable s sl.content
+CanBeWritten s (AddMark from to mark) = mark_fits s mark ≡ true
+CanBeWritten s (RemoveMark from to mark) = mark_fits s mark ≡ true
+CanBeWritten s (AddNodeMark pos mark) = mark_fits s mark ≡ true
+CanBeWritten s (RemoveNodeMark pos mark) = mark_fits s mark ≡ true
+
+-- a number that is read
+abbrev pub IsCount : ℕ → Type 0
+IsCount n = n < 2 ^ 32
+
+-- the step's numbers are read: each is 4,294,967,295 at most
+abbrev pub HasCounts : Step → Type 0
+HasCounts (Replace from to sl structure) = IsCount from × IsCount to
+HasCounts (ReplaceAround from to gap_from gap_to sl insert structure) = IsCount from × IsCount to × IsCount gap_from × IsCount gap_to × IsCount insert
+HasCounts (AddMark from to mark) = IsCount from × IsCount to
+HasCounts (RemoveMark from to mark) = IsCount from × IsCount to
+HasCounts (AddNodeMark pos mark) = IsCount pos
+HasCounts (RemoveNodeMark pos mark) = IsCount pos

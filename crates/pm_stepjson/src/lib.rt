@@ -1,0 +1,17 @@
+//! Steps as JSON values.
+#![tactic(auto)]
+
+mod fault;
+mod fields;
+mod kind;
+mod reading;
+mod texts;
+mod writing;
+
+pub use fault::StepReadError;
+pub use reading::read_step;
+pub use texts::step_text;
+pub use writing::write_step;
+
+#[cfg(test)]
+mod tests;

@@ -1,0 +1,24 @@
+//! Steps as texts.
+ghost use Rattle.std.specs.Prelude.{◌≡◌, ◌≤◌, false, IfOk, Some, string_bytes};
+ghost use Rattle.serde_json.specs.Data.{depth};
+ghost use Rattle.serde_json.specs.Read.{read, max_depth};
+ghost use Rattle.serde_json.specs.Written.{compact_text, has_float};
+ghost use Rattle.pm_step.specs.Steps.{step_of};
+ghost use Rattle.pm_stepjson.specs.Writing.{step_written};
+
+use crate::writing::write_step;
+use pm_schema::Schema;
+use pm_step::Step;
+use std::alloc::{AllocError, Global};
+
+/// The text of a step: the compact text of its JSON value, which has no float. It is read back as that value where the value
+/// nests at most 127 levels.
+pub fn step_text(alloc: Global, schema: &Schema, step: &Step) -> Result<String, AllocError>
+    ensures text { IfOk result (λ s. string_bytes s ≡ compact_text (step_written schema.now.spec (step_of step.now))) }
+    ensures read { IfOk result (λ s. depth (step_written schema.now.spec (step_of step.now)) ≤ max_depth
+        → read (string_bytes s) ≡ Some (step_written schema.now.spec (step_of step.now))) }
+    ensures whole { has_float (step_written schema.now.spec (step_of step.now)) ≡ false }
+{
+    let value = write_step(alloc, schema, step)?;
+    value.to_string(alloc)
+}
