@@ -3,6 +3,7 @@ use Rattle.std.specs.Prelude.{◌≡◌, ◌⊎◌, ◌≤◌, ℕ, ◌==◌, Bo
 use Rattle.serde_json.specs.Data.{Data}
 use Rattle.serde_json.specs.Find.{as_null}
 use Rattle.pm_tokens.specs.Tokens.{Doc}
+use Rattle.pm_tokens.specs.Scan.{is_whole}
 use Rattle.pm_tokens.specs.Faults.{fault}
 use Rattle.pm_schema.specs.declared.schema.Schema.{Schema}
 use Rattle.pm_schema.specs.declared.spec.SchemaSpec.{SchemaSpec}
@@ -55,9 +56,9 @@ ReadTop s d (Err code) = NotRead s d code
 abbrev pub TopNode : Schema → Data → Result Node ℕ → Type 0
 TopNode s d r = MatchBool (is_some (as_null d)) (FilledTop s r) (ReadTop s d r)
 
--- a node of the top type whose document is valid may be the first document's
+-- A node of the top type whose document is valid may be the first document's. The tokens of a node are always whole.
 abbrev pub may_be_first : Schema → Node → Bool
-may_be_first s n = (n.kind == top_of s.spec) && is_none (fault (documents_of s.spec) (doc_of n))
+may_be_first s n = (n.kind == top_of s.spec) && (is_whole (doc_of n).tokens && is_none (fault (documents_of s.spec) (doc_of n)))
 
 -- the first document, or the code of its fault: last of all that it is not valid or not of the top type
 abbrev pub DocIs : Schema → Data → Result Doc ℕ → Type 0

@@ -47,7 +47,7 @@ pub(crate) fn schema_code(error: SchemaReadError) -> Option<u32>
 }
 
 /// The code of a value that is no node; `None` for want of memory.
-pub(crate) fn node_code(error: DocReadError) -> Option<u32>
+pub fn node_code(error: DocReadError) -> Option<u32>
     ensures { result ≡ code_of_node error }
 {
     match error {

@@ -19,10 +19,11 @@ pub enum HeadError {
 
 /// Why one line is refused.
 #[derive(Clone, Copy, Debug, PartialEq, Eq, Error)]
-pub(crate) enum LineError {
+pub enum LineError {
     /// The code of its first fault.
     #[error("code {0}")]
     Code(u32),
+    /// There was no memory.
     #[error("no memory")]
     NoMemory,
 }

@@ -11,8 +11,9 @@ mod reading;
 mod schema;
 
 pub use clients::{ClientEntry, editor_names};
-pub use fault::HeadError;
-pub use lines::{after_head, first_line, json_of};
+pub use codes::node_code;
+pub use fault::{HeadError, LineError};
+pub use lines::{after_head, first_line, json_line, json_of};
 pub use names::is_name;
 pub use reading::{Head, read_head};
 

@@ -67,7 +67,7 @@ pub fn json_of(alloc: Global, text: &[u8]) -> Result<Option<Value>, AllocError>
 
 /// The JSON value of a line: code 3 where the line passes 1,048,576 bytes, code 5 where it is not UTF-8 or no JSON.
 #[tactic(auto, unfolding(crate::specs::Lines::json_line))]
-pub(crate) fn json_line(alloc: Global, line: &[u8]) -> Result<Value, LineError>
+pub fn json_line(alloc: Global, line: &[u8]) -> Result<Value, LineError>
     ensures { Gives view result (json_line line.now) }
 {
     if line.len() > MAX_LINE {
