@@ -1,9 +1,8 @@
 //! A client over a number that may not pass a limit, through the bound of a change.
-ghost use Rattle.std.specs.Prelude.{◌≤◌, nat_lt, Ok, Err, Some, if◌then◌else◌, [], ◌∷◌, refl, IfOk};
+ghost use Rattle.std.specs.Prelude.{◌≤◌, nat_lt, Ok, Err, Some, if◌then◌else◌, [], ◌∷◌, refl};
 ghost use Rattle.std.proofs.Common.{rules, inl};
-ghost use Rattle.pm_client.specs.Kins.{Stands};
 
-use crate::{Client, CursorError, EditError, Kind, UndoError};
+use crate::{Client, CursorError, EditError, Kind};
 use pm_authority::{Answer, Message, Name};
 use pm_change::{Change, Failed};
 use pm_map::{Mapping, StepMap};
@@ -11,12 +10,12 @@ use std::alloc::{AllocError, Global};
 
 /// Puts another number in place of the one that is there.
 #[derive(Drop, Debug)]
-struct Set {
+pub(crate) struct Set {
     to: u64,
 }
 
 #[derive(Clone, Copy, Debug, PartialEq, Eq)]
-enum Reason {
+pub(crate) enum Reason {
     Over,
 }
 
@@ -87,7 +86,7 @@ impl Change for Set {
     }
 }
 
-fn steps(alloc: Global, numbers: &[u64]) -> Result<Vec<Set>, AllocError> {
+pub(crate) fn steps(alloc: Global, numbers: &[u64]) -> Result<Vec<Set>, AllocError> {
     let mut steps = Vec::new(alloc);
     for number in numbers {
         steps.push(Set { to: *number })?;
@@ -184,78 +183,5 @@ fn a_cursor_is_set_within_the_document(rt: HostRuntime) -> Result<(), AllocError
     assert_eq!(rt; client.set_cursor(2, 1), Err(CursorError::Range));
     assert!(rt; client.set_cursor(0, -1).is_ok());
     assert!(rt; client.cursors() == [(1, 1), (0, -1)].as_slice());
-    Ok(())
-}
-
-/// A client with this document, which stands to the empty log.
-fn start<C: Change>(alloc: Global, rules: &C::Rules, doc: C::Doc) -> Result<Client<C>, AllocError>
-    requires { C.means.is_good rules.now doc }
-    ensures { IfOk result (Stands C.means rules.now) }
-{
-    let _ = rules;
-    Client::new(alloc, 7, doc)
-}
-
-/// Whether the client made these steps.
-fn add<C: Change>(
-    alloc: Global,
-    rules: &C::Rules,
-    client: &mut Client<C>,
-    steps: Vec<C>,
-    event: Option<u32>,
-) -> bool
-    requires { Stands C.means rules.now client.old }
-    ensures { Stands C.means rules.now client.new }
-{
-    client.edit(alloc, rules, steps, event).is_ok()
-}
-
-/// The client undoes its last event.
-fn undo<C: Change>(
-    alloc: Global,
-    rules: &C::Rules,
-    client: &mut Client<C>,
-) -> Result<u64, UndoError>
-    requires { Stands C.means rules.now client.old }
-    ensures { Stands C.means rules.now client.new }
-{
-    client.undo(alloc, rules)
-}
-
-/// The client redoes the last event undone.
-fn redo<C: Change>(
-    alloc: Global,
-    rules: &C::Rules,
-    client: &mut Client<C>,
-) -> Result<u64, UndoError>
-    requires { Stands C.means rules.now client.old }
-    ensures { Stands C.means rules.now client.new }
-{
-    client.redo(alloc, rules)
-}
-
-#[test]
-fn events_are_undone_and_redone(rt: HostRuntime) -> Result<(), AllocError> {
-    let alloc = rt.alloc();
-    let limit = 100;
-    let mut client: Client<Set> = start(alloc, &limit, 40)?;
-    assert_eq!(rt;
-        undo(alloc, &limit, &mut client),
-        Err(UndoError::NothingToUndo)
-    );
-    assert!(rt; add(alloc, &limit, &mut client, steps(alloc, &[50, 5])?, Some(1)));
-    assert!(rt; add(alloc, &limit, &mut client, steps(alloc, &[6])?, Some(1)));
-    assert!(rt; add(alloc, &limit, &mut client, steps(alloc, &[7])?, None));
-    assert_eq!(rt; undo(alloc, &limit, &mut client), Ok(1));
-    assert_eq!(rt; undo(alloc, &limit, &mut client), Ok(3));
-    assert_eq!(rt; *client.doc(), 40);
-    assert_eq!(rt; redo(alloc, &limit, &mut client), Ok(3));
-    assert_eq!(rt; (*client.doc(), client.pending().len()), (6, 11));
-    assert!(rt; add(alloc, &limit, &mut client, steps(alloc, &[8])?, Some(1)));
-    assert_eq!(rt;
-        redo(alloc, &limit, &mut client),
-        Err(UndoError::NothingToUndo)
-    );
-    assert!(rt; client.history().undo_events().len() == 2);
     Ok(())
 }

@@ -1,4 +1,4 @@
-use Rattle.pm_client.proofs.tests.redo.Goals as goal
+use Rattle.pm_client.proofs.undo_tests.redo.Goals as goal
 
 pub returns : goal.returns
 returns g c =

@@ -1,4 +1,4 @@
-use Rattle.pm_client.proofs.tests.undo.Goals as goal
+use Rattle.pm_client.proofs.undo_tests.undo.Goals as goal
 
 pub returns : goal.returns
 returns g c =
