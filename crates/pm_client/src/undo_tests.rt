@@ -126,7 +126,13 @@ fn an_undo_keeps_what_another_did_before(rt: HostRuntime) -> Result<(), AllocErr
     let limit = 100;
     let (mut authority, mut client): (Authority<Set>, Client<Set>) = start(alloc, &limit, 40)?;
     assert!(rt; add(alloc, &limit, &mut client, steps(alloc, &[50])?, None));
-    let taken = hear(alloc, &limit, &mut authority, &mut client, steps(alloc, &[60])?)?;
+    let taken = hear(
+        alloc,
+        &limit,
+        &mut authority,
+        &mut client,
+        steps(alloc, &[60])?,
+    )?;
     assert_eq!(rt;
         taken,
         Taken::Rebased {
