@@ -86,6 +86,8 @@ impl<C: Change> Client<C> {
     /// redo, with the number of the event undone. No event is open then. `NothingToUndo` comes exactly where there is no
     /// event to undo. Then, and for want of memory, the client is as it was, the open event included.
     ///
+    /// An undo maps each inverse step's positions over a copy of the later maps, which is made once per inverse step.
+    ///
     /// Under the rules that are lent the client must stand to a log. Each call keeps this.
     pub fn undo(&mut self, alloc: Global, rules: &C::Rules) -> Result<u64, UndoError>
         requires { Stands C.means rules.now self.old }
@@ -105,7 +107,8 @@ impl<C: Change> Client<C> {
         self.turn(alloc, rules, false)
     }
 
-    /// Redoes the last event that was undone, as `undo` undoes one, with the events to undo and to redo exchanged.
+    /// Redoes the last event that was undone, as `undo` undoes one, with the events to undo and to redo exchanged. It costs the
+    /// same: each inverse step's positions are mapped over a copy of the later maps, which is made once per inverse step.
     pub fn redo(&mut self, alloc: Global, rules: &C::Rules) -> Result<u64, UndoError>
         requires { Stands C.means rules.now self.old }
         ensures redone { IfOk result (λ n. redone_last C.means rules.now self.old ≡ Some (n, self.new)) }

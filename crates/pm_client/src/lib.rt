@@ -14,6 +14,8 @@ pub mod taken;
 pub mod taking;
 #[cfg(test)]
 mod tests;
+#[cfg(test)]
+mod undo_tests;
 
 pub use client::Client;
 pub use failing::{CursorError, EditError, UndoError};

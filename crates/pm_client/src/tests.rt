@@ -10,12 +10,12 @@ use std::alloc::{AllocError, Global};
 
 /// Puts another number in place of the one that is there.
 #[derive(Drop, Debug)]
-struct Set {
+pub(crate) struct Set {
     to: u64,
 }
 
 #[derive(Clone, Copy, Debug, PartialEq, Eq)]
-enum Reason {
+pub(crate) enum Reason {
     Over,
 }
 
@@ -86,7 +86,7 @@ impl Change for Set {
     }
 }
 
-fn steps(alloc: Global, numbers: &[u64]) -> Result<Vec<Set>, AllocError> {
+pub(crate) fn steps(alloc: Global, numbers: &[u64]) -> Result<Vec<Set>, AllocError> {
     let mut steps = Vec::new(alloc);
     for number in numbers {
         steps.push(Set { to: *number })?;

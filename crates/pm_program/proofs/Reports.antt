@@ -13,6 +13,7 @@ use Rattle.pm_session.proofs.Playing.{session-sound, suit-front}
 use Rattle.pm_session.proofs.Turns.{settled-sound}
 use Rattle.pm_session.proofs.Settling.{settled-caught}
 use Rattle.pm_session.proofs.LogNames.{sound-names}
+use Rattle.pm_session.proofs.Restorings.{session-restores}
 use Rattle.pm_session.proofs.Rooms.{all-named, session-stays}
 use Rattle.pm_session.proofs.Unrefused.{messages-none, session-none}
 use Rattle.pm_flat.specs.declared.flat.Replace.{Replace}
@@ -58,6 +59,7 @@ rooms-sound s suited =
       tokens_played = λ k. all-named meaning tt laws (room_after s k) (played k);
       tokens = all-named meaning tt laws (room_settled s) end;
       cursors = λ k. session-stays meaning tt laws (makes tt) room s.lines sound all k;
+      restores = λ k line at. session-restores meaning tt laws (makes tt) room s.lines k line at;
       caught_up = settled-caught meaning tt laws (playing s).1 (session-sound meaning tt laws (makes tt) room s.lines sound all);
     }
 

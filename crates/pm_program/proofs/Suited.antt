@@ -7,7 +7,7 @@ use Rattle.serde_json.specs.Data.{Data}
 use Rattle.pm_list.specs.Readings.{◌>>=◌, or_fault}
 use Rattle.pm_session.specs.declared.line.Line.{Line}
 use Rattle.pm_session.specs.declared.line.Act.{Act}
-use Rattle.pm_session.specs.declared.line.Act.TheVariants.{Edit, Cursor, Submit, Ask, Present, Take, Push, Pull}
+use Rattle.pm_session.specs.declared.line.Act.TheVariants.{Edit, Undo, Redo, Cursor, Submit, Ask, Present, Take, Push, Pull}
 use Rattle.pm_session.specs.Suits.{NamesOneOf, composed_by, answered_by, Suits, AllSuit}
 use Rattle.pm_flat.specs.declared.flat.Replace.{Replace}
 use Rattle.pm_program.specs.Forms.{doc_in, text_at}
@@ -55,7 +55,9 @@ names-one : (messages answers : ℕ) (act : Act Replace) → names_one_of messag
 names-one messages answers (Present j) h = let b = both-true (nat_lt 0 j) (nat_le j messages) h in (ltb-true 0 j b.0, leb-true j messages b.1)
 names-one messages answers (Take n) h = let b = both-true (nat_lt 0 n) (nat_le n answers) h in (ltb-true 0 n b.0, leb-true n answers b.1)
 names-one messages answers (Cursor p side) h = side_is side h
-names-one messages answers (Edit step) h = tt
+names-one messages answers (Edit step event) h = tt
+names-one messages answers Undo h = tt
+names-one messages answers Redo h = tt
 names-one messages answers Submit h = tt
 names-one messages answers Ask h = tt
 names-one messages answers (Push lost) h = tt

@@ -124,6 +124,14 @@ lost_of (Some d) = if is_some (as_null d) then Some false else as_bool d
 abbrev pub lost_at : Data → Option Bool
 lost_at d = lost_of (get (codes "lost") d)
 
+-- the number of an event: a whole number below 2^32, or none where it is absent or null
+abbrev pub event_of : Option Data → Option (Option ℕ)
+event_of None = Some None
+event_of (Some d) = if is_some (as_null d) then Some None else option_map Some (option_and_then small (option_and_then as_u64 (as_number d)))
+
+abbrev pub event_at : Data → Option (Option ℕ)
+event_at d = event_of (get (codes "event") d)
+
 -- 1 or -1
 abbrev pub is_side : ℤ → Bool
 is_side (pos n) = n == 1

@@ -5,12 +5,12 @@ use Rattle.serde_json.specs.Data.{Data}
 use Rattle.serde_json.specs.Find.{get}
 use Rattle.pm_list.specs.Readings.{◌>>=◌, or_fault}
 use Rattle.pm_session.specs.declared.line.Act.{Act}
-use Rattle.pm_session.specs.declared.line.Act.TheVariants.{Edit, Cursor, Submit, Ask, Present, Take, Push, Pull}
+use Rattle.pm_session.specs.declared.line.Act.TheVariants.{Edit, Undo, Redo, Cursor, Submit, Ask, Present, Take, Push, Pull}
 use Rattle.pm_session.specs.declared.line.Line.{Line}
 use Rattle.pm_session.specs.Suits.{done_by, composed_by, answered_by}
 use Rattle.pm_flat.specs.declared.flat.Replace.{Replace}
 use Rattle.pm_program.specs.declared.schema_line.TheConstants.{SCHEMA_LINE}
-use Rattle.pm_program.specs.Forms.{has_members, has_text, text_at, position_at, doc_in, clients_in, step_in, lost_at, is_side, side_at}
+use Rattle.pm_program.specs.Forms.{has_text, text_at, position_at, doc_in, clients_in, step_in, lost_at, is_side, side_at, event_at}
 use Rattle.pm_head.specs.Lines.{lines_of}
 use Rattle.pm_program.specs.Lines.{value_of}
 
@@ -58,7 +58,9 @@ clients_line line = option_and_then clients_in (value_of line)
 
 -- the text that an act puts in
 abbrev pub letters_of : Act Replace → List ℕ
-letters_of (Edit step) = step.text
+letters_of (Edit step event) = step.text
+letters_of Undo = []
+letters_of Redo = []
 letters_of (Cursor p side) = []
 letters_of Submit = []
 letters_of Ask = []
@@ -82,15 +84,17 @@ exchange_in d =
 abbrev pub cursor_in : Data → Option (Act Replace)
 cursor_in d = option_and_then (λ p. option_map (Cursor p) (side_at d)) (position_at (codes "pos") d)
 
--- an op line that makes a step; it has no members beside `c`, `op` and `step`
+-- an op line that makes a step, which has an event number or none; further members are ignored
 abbrev pub edit_in : Data → Option (Act Replace)
-edit_in d = if has_members 3 d then option_map Edit (option_and_then step_in (get (codes "step") d)) else None
+edit_in d = option_and_then (λ event. option_map (λ step. Edit step event) (option_and_then step_in (get (codes "step") d))) (event_at d)
 
 -- what an op line does, by its `op`
 abbrev pub act_in : Data → Option (Act Replace)
 act_in d =
     if has_text (codes "op") (codes "step") d then edit_in d
-    else (if has_text (codes "op") (codes "cursor") d then cursor_in d else exchange_in d)
+    else (if has_text (codes "op") (codes "cursor") d then cursor_in d
+    else (if has_text (codes "op") (codes "undo") d then Some Undo
+    else (if has_text (codes "op") (codes "redo") d then Some Redo else exchange_in d)))
 
 -- the place of the client's name
 abbrev pub client_at : List (List ℕ) → Data → Option ℕ
@@ -101,7 +105,9 @@ client_at names d = option_and_then (λ name. position (pointwise nat_eq name) n
 abbrev pub names_one_of : ℕ → ℕ → Act Replace → Bool
 names_one_of messages answers (Present j) = nat_lt 0 j && nat_le j messages
 names_one_of messages answers (Take n) = nat_lt 0 n && nat_le n answers
-names_one_of messages answers (Edit step) = true
+names_one_of messages answers (Edit step event) = true
+names_one_of messages answers Undo = true
+names_one_of messages answers Redo = true
 names_one_of messages answers (Cursor p side) = is_side side
 names_one_of messages answers Submit = true
 names_one_of messages answers Ask = true
@@ -111,7 +117,9 @@ names_one_of messages answers (Pull lost) = true
 -- a line that sets a cursor
 abbrev pub sets_one : Act Replace → Bool
 sets_one (Cursor p side) = true
-sets_one (Edit step) = false
+sets_one (Edit step event) = false
+sets_one Undo = false
+sets_one Redo = false
 sets_one Submit = false
 sets_one Ask = false
 sets_one (Present j) = false

@@ -10,7 +10,7 @@ use Rattle.pm_session.specs.declared.outcome.Told.TheVariants.{Accepted, Version
 use Rattle.pm_client.specs.declared.taken.Taken.{Taken}
 use Rattle.pm_client.specs.declared.taken.Taken.TheVariants.{Confirmed, Rebased, Stale, Refused as TakenRefused}
 use Rattle.pm_session.specs.declared.outcome.Outcome.{Outcome}
-use Rattle.pm_session.specs.declared.outcome.Outcome.TheVariants.{Made, NoRange, NoPlace, NoFit, Refused, CursorAt, Composed, Answered, Took, Exchanged}
+use Rattle.pm_session.specs.declared.outcome.Outcome.TheVariants.{Made, Nothing, NoRange, NoPlace, NoFit, Refused, CursorAt, Composed, Answered, Took, Exchanged}
 use Rattle.pm_session.specs.Events.{State}
 use Rattle.pm_session.specs.Sessions.{opened, session, settled}
 use Rattle.pm_flat.specs.declared.flat.Replace.{Replace}
@@ -73,6 +73,7 @@ end_text (Some taken) = taken_text taken
 
 abbrev pub outcome_text : Outcome Replace (Unit {0}) (List ℕ) Reason → List ℕ
 outcome_text (Made count) = codes "made" & decimal count
+outcome_text Nothing = codes "nothing"
 outcome_text NoRange = codes "no range"
 outcome_text NoPlace = codes "no place"
 outcome_text NoFit = codes "no fit"

@@ -102,7 +102,9 @@ fn composes_one(act: &Act<Replace>) -> bool
 {
     match act {
         Act::Submit | Act::Ask | Act::Push { lost: _ } | Act::Pull { lost: _ } => true,
-        Act::Edit { op: _ }
+        Act::Edit { op: _, event: _ }
+        | Act::Undo
+        | Act::Redo
         | Act::Cursor { pos: _, side: _ }
         | Act::Present { message: _ }
         | Act::Take { answer: _ } => false,
@@ -115,7 +117,9 @@ fn gets_one(act: &Act<Replace>) -> bool
 {
     match act {
         Act::Present { message: _ } | Act::Push { lost: _ } | Act::Pull { lost: _ } => true,
-        Act::Edit { op: _ }
+        Act::Edit { op: _, event: _ }
+        | Act::Undo
+        | Act::Redo
         | Act::Cursor { pos: _, side: _ }
         | Act::Submit
         | Act::Ask
@@ -129,7 +133,9 @@ pub fn sets_one(act: &Act<Replace>) -> bool
 {
     match act {
         Act::Cursor { pos: _, side: _ } => true,
-        Act::Edit { op: _ }
+        Act::Edit { op: _, event: _ }
+        | Act::Undo
+        | Act::Redo
         | Act::Submit
         | Act::Ask
         | Act::Present { message: _ }

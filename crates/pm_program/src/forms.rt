@@ -1,11 +1,11 @@
 //! The JSON values of a session's lines, and what each holds.
-ghost use Rattle.std.specs.Prelude.{◌≡◌, ◌++◌, ◌∷◌, [], codes, map, nat_eq, option_map, option_and_then, string_bytes, true, IfSome, IfOk, OnOk};
+ghost use Rattle.std.specs.Prelude.{◌≡◌, ◌++◌, ◌∷◌, [], codes, map, nat_eq, option_map, option_and_then, string_bytes, true, Some, IfSome, IfOk, OnOk};
 ghost use Rattle.std.specs.Cmp.Lexicographic.{pointwise};
-ghost use Rattle.serde_json.specs.Find.{as_str};
+ghost use Rattle.serde_json.specs.Find.{as_str, as_u64};
 ghost use Rattle.serde_json.specs.View.{view, items_view};
 ghost use Rattle.pm_program.specs.NameViews.{names_view};
 ghost use Rattle.pm_flat.specs.Letters.{all_printable};
-ghost use Rattle.pm_program.specs.Forms.{has_members, has_text, text_at, single, only_item, only_child, some_letters, text_in, paragraph_in, doc_in, position_at, slice_in, inserted, step_in, as_name, names_in, all_differ, clients_in, lost_at, is_side, side_at};
+ghost use Rattle.pm_program.specs.Forms.{has_members, has_text, text_at, single, only_item, only_child, some_letters, text_in, paragraph_in, doc_in, position_at, slice_in, inserted, step_in, as_name, names_in, all_differ, clients_in, lost_at, is_side, side_at, event_at};
 
 use pm_flat::all_printable;
 use pm_head::is_name;
@@ -298,6 +298,32 @@ pub fn lost_at(json: &Value) -> Option<bool>
         } else {
             value.as_bool()
         },
+    }
+}
+
+/// The number of an event: a whole number below 2^32, or none where it is absent or null.
+pub fn event_at(json: &Value) -> Option<Option<u32>>
+    ensures { result ≡ event_at (view json.now) }
+{
+    match json.get("event") {
+        None => Some(None),
+        Some(value) => if value.is_null() {
+            Some(None)
+        } else {
+            event_in(value)
+        },
+    }
+}
+
+fn event_in(json: &Value) -> Option<Option<u32>>
+    ensures { result ≡ option_map Some (option_and_then small (option_and_then as_u64 (as_number (view json.now)))) }
+{
+    match json.as_u64() {
+        Some(number) => match small(number) {
+            Some(event) => Some(Some(event)),
+            None => None,
+        },
+        None => None,
     }
 }
 

@@ -23,6 +23,8 @@ mod several_tests;
 mod tests;
 #[cfg(test)]
 mod three_clients_tests;
+#[cfg(test)]
+mod undo_tests;
 mod words;
 mod written;
 

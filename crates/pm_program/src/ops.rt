@@ -10,9 +10,7 @@ ghost use Rattle.pm_program.specs.Reading.{letters_of, act_in, edit_in, cursor_i
 
 use crate::earlier::{Earlier, sets_one};
 use crate::fault::{SessionError, not_built};
-use crate::forms::{
-    has_members, has_text, is_side, lost_at, position_at, side_at, step_in, text_at,
-};
+use crate::forms::{event_at, has_text, is_side, lost_at, position_at, side_at, step_in, text_at};
 use crate::lines::value_of;
 use pm_flat::{Letters, Replace};
 use pm_session::{Act, Line};
@@ -36,6 +34,10 @@ fn act_in(alloc: Global, json: &Value) -> Result<Option<Act<Replace>>, AllocErro
         edit_in(alloc, json)
     } else if has_text(json, "op", "cursor") {
         Ok(cursor_in(json))
+    } else if has_text(json, "op", "undo") {
+        Ok(Some(Act::Undo))
+    } else if has_text(json, "op", "redo") {
+        Ok(Some(Act::Redo))
     } else {
         Ok(exchange_in(json))
     }
@@ -50,22 +52,26 @@ fn cursor_in(json: &Value) -> Option<Act<Replace>>
     Some(Act::Cursor { pos, side })
 }
 
-/// An op line that makes a step.
+/// An op line that makes a step, which has an event number or none.
 fn edit_in(alloc: Global, json: &Value) -> Result<Option<Act<Replace>>, AllocError>
     ensures { IfOk result (λ o. o ≡ edit_in (view json.now)) }
 {
-    if !has_members(json, 3) {
+    let Some(event) = event_at(json) else {
         return Ok(None);
-    }
+    };
     match json.get("step") {
-        Some(step) => edit_of(alloc, step),
+        Some(step) => edit_of(alloc, step, event),
         None => Ok(None),
     }
 }
 
-/// The edit that makes a step.
-fn edit_of(alloc: Global, json: &Value) -> Result<Option<Act<Replace>>, AllocError>
-    ensures { IfOk result (λ o. o ≡ option_map Edit (step_in (view json.now))) }
+/// The edit that makes a step, with this event number.
+fn edit_of(
+    alloc: Global,
+    json: &Value,
+    event: Option<u32>,
+) -> Result<Option<Act<Replace>>, AllocError>
+    ensures { IfOk result (λ o. o ≡ option_map (λ step. Edit step event) (step_in (view json.now))) }
 {
     match step_in(json) {
         Some(form) => {
@@ -75,7 +81,7 @@ fn edit_of(alloc: Global, json: &Value) -> Result<Option<Act<Replace>>, AllocErr
                 to: form.to,
                 text,
             };
-            Ok(Some(Act::Edit { op }))
+            Ok(Some(Act::Edit { op, event }))
         }
         None => Ok(None),
     }
@@ -132,7 +138,9 @@ fn names_one_of(messages: u64, answers: u64, act: &Act<Replace>) -> bool
         Act::Present { message } => 0 < *message && *message <= messages,
         Act::Take { answer } => 0 < *answer && *answer <= answers,
         Act::Cursor { pos: _, side } => is_side(i64::from(*side)),
-        Act::Edit { op: _ }
+        Act::Edit { op: _, event: _ }
+        | Act::Undo
+        | Act::Redo
         | Act::Submit
         | Act::Ask
         | Act::Push { lost: _ }
@@ -185,8 +193,10 @@ pub fn letters_of(act: &Act<Replace>) -> usize
     ensures { result ≡ length (letters_of act.now) }
 {
     match act {
-        Act::Edit { op } => op.text.len(),
-        Act::Cursor { pos: _, side: _ }
+        Act::Edit { op, event: _ } => op.text.len(),
+        Act::Undo
+        | Act::Redo
+        | Act::Cursor { pos: _, side: _ }
         | Act::Submit
         | Act::Ask
         | Act::Present { message: _ }

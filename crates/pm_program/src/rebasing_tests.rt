@@ -62,7 +62,10 @@ fn op_line(alloc: Global, text: &str) -> Result<String, Fail> {
     let rest = match (op, words.next()) {
         ("step", Some(step)) => {
             let step = word(alloc, step)?;
-            format!(in alloc; ",\"step\":{step}")?
+            match words.next() {
+                Some(event) => format!(in alloc; ",\"step\":{step},\"event\":{event}")?,
+                None => format!(in alloc; ",\"step\":{step}")?,
+            }
         }
         ("cursor", Some(pos)) => match words.next() {
             Some(side) => format!(in alloc; ",\"pos\":{pos},\"side\":{side}")?,

@@ -242,6 +242,7 @@ fn outcome_text(alloc: Global, outcome: &Outcome<Replace>) -> Result<String, All
 {
     match outcome {
         Outcome::Made { count } => format!(in alloc; "made {count}"),
+        Outcome::Nothing => String::from_str(alloc, "nothing"),
         Outcome::NoRange => String::from_str(alloc, "no range"),
         Outcome::NoPlace => String::from_str(alloc, "no place"),
         Outcome::NoFit => String::from_str(alloc, "no fit"),

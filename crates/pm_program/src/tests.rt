@@ -157,7 +157,7 @@ fn inputs_of_another_form_are_refused(rt: HostRuntime) -> Result<(), Fail> {
         assert_eq!(rt; written.as_str(), want);
     }
     for (line, want) in [
-        ("{\"c\":\"a\",\"op\":\"undo\"}\n", "refused 4 99\n"),
+        ("{\"c\":\"a\",\"op\":\"undone\"}\n", "refused 4 99\n"),
         ("{\"c\":\"z\",\"op\":\"push\"}\n", "refused 4 99\n"),
         (
             "{\"c\":\"a\",\"op\":\"push\",\"lost\":1}\n",

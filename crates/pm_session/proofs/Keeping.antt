@@ -7,13 +7,14 @@ use Rattle.pm_authority.specs.declared.running.Refusal.{Refusal}
 use Rattle.pm_authority.specs.declared.message.Answer.{Answer}
 use Rattle.pm_authority.specs.declared.message.Answer.TheVariants.{Accepted, WrongVersion, StepRefused, Entries}
 use Rattle.pm_authority.specs.Runs.{run}
+use Rattle.pm_history.specs.declared.branch.Event.{Event}
 use Rattle.pm_history.specs.declared.branches.Branches.{Branches}
 use Rattle.pm_history.specs.declared.branches.Side.TheVariants.{Edit}
 use Rattle.pm_history.specs.Histories.{noted_all}
 use Rattle.pm_history.specs.Timelines.{items_from}
 use Rattle.pm_client.specs.declared.client.Client.{Client}
 use Rattle.pm_client.specs.declared.taken.Taken.{Taken}
-use Rattle.pm_client.specs.Clients.{named, own_run, gone_on, edited, tried, given, kept, answer_at, confirmed, brought, carried, confirmed_first, rest_taken, taken, taken_if, taken_at}
+use Rattle.pm_client.specs.Clients.{named, own_run, gone_on, event_turned, edited, tried, given, kept, answer_at, confirmed, brought, carried, confirmed_first, rest_taken, taken, taken_if, taken_at}
 use Rattle.pm_client.specs.Timelines.{edit_steps}
 
 -- the same name, and the same messages and answers
@@ -45,6 +46,10 @@ module _ {Rules Doc Reason C : Type 0} (m : Meaning Rules Doc Reason C) (rules :
         messages = sym (ap (λ (x : Client C Rules Doc Reason). x.messages) same);
         answers = sym (ap (λ (x : Client C Rules Doc Reason). x.answers) same);
       }
+
+  -- an event that was undone or redone
+  pub turned-keeps : (redo : Bool) (e : Event) → KeepsBox c (event_turned m rules c redo e).1
+  turned-keeps redo e = record { name = refl; messages = refl; answers = refl }
 
   -- What holds of the client, of the client with some pending steps confirmed, and of it with the later ones carried over
   -- others' steps holds of it once it took an answer.

@@ -11,7 +11,7 @@ use Rattle.pm_client.specs.declared.taken.Kind.TheVariants.{Submit as Submission
 use Rattle.pm_client.specs.Clients.{message_at}
 use Rattle.pm_client.specs.Kins.{Kin}
 use Rattle.pm_session.specs.declared.line.Act.{Act}
-use Rattle.pm_session.specs.declared.line.Act.TheVariants.{Edit, Cursor, Submit, Ask, Present, Take, Push, Pull}
+use Rattle.pm_session.specs.declared.line.Act.TheVariants.{Edit, Undo, Redo, Cursor, Submit, Ask, Present, Take, Push, Pull}
 use Rattle.pm_session.specs.declared.maker.NoSteps.{NoSteps}
 use Rattle.pm_session.specs.declared.outcome.Outcome.{Outcome}
 use Rattle.pm_session.specs.Events.{State, placed, exchanges, acted}
@@ -43,7 +43,9 @@ module _ {Rules Doc Reason C : Type 0} (m : Meaning Rules Doc Reason C) (rules :
     exchanging kind p (inr (inr (inr e))) = subst Moves (sym e) (true, true, given-moved m rules laws a stood c kin kind)
 
     pub left-moved : {Op : Type 0} (act : Act Op) (p : Authority C Rules Doc Reason × Client C Rules Doc Reason) → LeftBy m rules a c act p → Moves p
-    left-moved (Edit op) p h = as-was p h
+    left-moved (Edit op event) p h = as-was p h
+    left-moved Undo p h = as-was p h
+    left-moved Redo p h = as-was p h
     left-moved (Cursor pos side) p h = as-was p h
     left-moved Submit p h = as-was p h
     left-moved Ask p h = as-was p h

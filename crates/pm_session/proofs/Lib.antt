@@ -12,3 +12,4 @@ pub mod Namings
 pub mod Stays
 pub mod Rooms
 pub mod Settling
+pub mod Restorings

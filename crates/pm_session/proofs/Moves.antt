@@ -5,6 +5,8 @@ use Rattle.std.proofs.Common.{cond, sym, ap, ◌∙◌, subst, arith, append-nil
 use Rattle.std.proofs.lemmas.Bool.{ltb-false}
 use Rattle.pm_map.specs.Moves.{IsSide}
 use Rattle.pm_change.specs.Changes.{Meaning, Laws}
+use Rattle.pm_history.specs.declared.branch.Event.{Event}
+use Rattle.pm_history.specs.Histories.{last_of}
 use Rattle.pm_authority.specs.declared.authority.Authority.{Authority}
 use Rattle.pm_authority.specs.declared.named.Named.{Named}
 use Rattle.pm_authority.specs.declared.running.Refusal.{Refusal}
@@ -14,21 +16,22 @@ use Rattle.pm_authority.specs.Presents.{presented}
 use Rattle.pm_client.specs.declared.client.Client.{Client}
 use Rattle.pm_client.specs.declared.taken.Kind.{Kind}
 use Rattle.pm_client.specs.declared.taken.Kind.TheVariants.{Submit as Submission, Ask as Asking}
-use Rattle.pm_client.specs.Clients.{edited, cursor_set, message_of, composed, kept, taken, taken_at, message_at}
+use Rattle.pm_client.specs.Clients.{edited, event_turned, last_turned, cursor_set, message_of, composed, kept, taken, taken_at, message_at}
 use Rattle.pm_client.specs.Kins.{IsOwn, MessageStands, Kin}
 use Rattle.pm_client.specs.Takings.{kin-taken_at}
 use Rattle.pm_client.specs.Keeps.{kin-edited, kin-cursor, kin-composed}
+use Rattle.pm_client.proofs.Turns.{kin-turned}
 use Rattle.pm_client.specs.Answering.{After, presented-kept, presented-only}
 use Rattle.pm_session.specs.declared.line.Act.{Act}
-use Rattle.pm_session.specs.declared.line.Act.TheVariants.{Edit, Cursor, Submit, Ask, Present, Take, Push, Pull}
+use Rattle.pm_session.specs.declared.line.Act.TheVariants.{Edit, Undo, Redo, Cursor, Submit, Ask, Present, Take, Push, Pull}
 use Rattle.pm_session.specs.declared.maker.NoSteps.{NoSteps}
 use Rattle.pm_session.specs.declared.maker.NoSteps.TheVariants.{Range, NotThere, NoFit as FitsNowhere, NoMemory}
-use Rattle.pm_session.specs.Events.{edits, sets, made, presents, exchanges, acted}
+use Rattle.pm_session.specs.Events.{edits, turns, sets, made, presents, exchanges, acted}
 use Rattle.pm_session.specs.declared.outcome.Outcome.{Outcome}
 use Rattle.pm_session.specs.declared.outcome.Outcome.TheVariants.{NoRange, CursorAt}
 use Rattle.pm_session.specs.Suits.{composes_one, gets_one, NamesOneOf}
 use Rattle.pm_session.proofs.SoundLaws.{message-stands, new-stands, presented-own}
-use Rattle.pm_session.proofs.Keeping.{KeepsBox, edited-keeps, taken-keeps, taken_at-keeps, taken-last}
+use Rattle.pm_session.proofs.Keeping.{KeepsBox, edited-keeps, turned-keeps, taken-keeps, taken_at-keeps, taken-last}
 
 module _ {Rules Doc Reason C : Type 0} (m : Meaning Rules Doc Reason C) (rules : Rules) where
   -- Client c became the next one, and the authority became the new one. `composes` and `gets` say whether the client has
@@ -65,16 +68,24 @@ module _ {Rules Doc Reason C : Type 0} (m : Meaning Rules Doc Reason C) (rules :
   pub unmoved : Moved m rules a c false false a c
   unmoved = moved-box c (record { name = refl; messages = refl; answers = refl }) kin
 
-  pub edits-moved : (r : Result (List C) NoSteps) → Moved m rules a c false false a (edits m rules c r).1
-  edits-moved (Err Range) = unmoved
-  edits-moved (Err NotThere) = unmoved
-  edits-moved (Err FitsNowhere) = unmoved
-  edits-moved (Err NoMemory) = unmoved
-  edits-moved (Ok steps) = from (edited m rules c steps None) refl
+  pub edits-moved : (event : Option ℕ) (r : Result (List C) NoSteps) → Moved m rules a c false false a (edits m rules c event r).1
+  edits-moved event (Err Range) = unmoved
+  edits-moved event (Err NotThere) = unmoved
+  edits-moved event (Err FitsNowhere) = unmoved
+  edits-moved event (Err NoMemory) = unmoved
+  edits-moved event (Ok steps) = from (edited m rules c steps event) refl
     where
-      from : (r : Result (Client C Rules Doc Reason) (Refusal Reason)) → edited m rules c steps None ≡ r → Moved m rules a c false false a (made c steps r).1
-      from (Ok next) e = moved-box next (edited-keeps m rules c steps None next e) (kin-edited m rules a.first a.log c kin laws steps None next e)
+      from : (r : Result (Client C Rules Doc Reason) (Refusal Reason)) → edited m rules c steps event ≡ r → Moved m rules a c false false a (made c steps r).1
+      from (Ok next) e = moved-box next (edited-keeps m rules c steps event next e) (kin-edited m rules a.first a.log c kin laws steps event next e)
       from (Err r) e = unmoved
+
+  pub turns-moved : (redo : Bool) → Moved m rules a c false false a (turns c (last_turned m rules c redo (last_of redo c.history))).1
+  turns-moved redo = from (last_of redo c.history) refl
+    where
+      from : (o : Option Event) → last_of redo c.history ≡ o → Moved m rules a c false false a (turns c (last_turned m rules c redo o)).1
+      from None e = unmoved
+      from (Some event) e =
+          moved-box (event_turned m rules c redo event).1 (turned-keeps m rules c redo event) (kin-turned m rules laws a.first a.log c kin redo event e)
 
   pub sets-moved : (p : ℕ) (side : ℤ) → IsSide side → Moved m rules a c false false a (sets m c p side).1
   sets-moved p side is_side = from (nat_lt (m.size c.doc) p) refl
@@ -184,7 +195,9 @@ module _ {Rules Doc Reason C : Type 0} (m : Meaning Rules Doc Reason C) (rules :
     -- an act that suits the client
     pub acted-moved : (act : Act Op) → NamesOneOf (length c.messages) (length c.answers) act
         → Moved m rules a c (composes_one act) (gets_one act) (acted m rules makes a act c).1 (acted m rules makes a act c).2
-    acted-moved (Edit op) h = edits-moved m rules laws a stood c kin (makes c.doc op)
+    acted-moved (Edit op event) h = edits-moved m rules laws a stood c kin event (makes c.doc op)
+    acted-moved Undo h = turns-moved m rules laws a stood c kin false
+    acted-moved Redo h = turns-moved m rules laws a stood c kin true
     acted-moved (Cursor p side) h = sets-moved m rules laws a stood c kin p side h
     acted-moved Submit h = composes-moved m rules laws a stood c kin Submission
     acted-moved Ask h = composes-moved m rules laws a stood c kin Asking

@@ -4,6 +4,8 @@ use Rattle.std.proofs.Common.{sym, ap, ◌∙◌, subst, inl, inr, arith, append
 use Rattle.std.proofs.Math.Seq.{take-append-add, take-append_seam}
 use Rattle.std.proofs.lemmas.List.{take-append-drop}
 use Rattle.pm_change.specs.Changes.{Meaning, Laws}
+use Rattle.pm_history.specs.declared.branch.Event.{Event}
+use Rattle.pm_history.specs.Histories.{last_of}
 use Rattle.pm_change.specs.Folds.{fold-good}
 use Rattle.pm_authority.specs.declared.named.Named.{Named}
 use Rattle.pm_authority.specs.declared.authority.Authority.{Authority}
@@ -18,19 +20,20 @@ use Rattle.pm_authority.specs.Presents.{tried, presented}
 use Rattle.pm_client.specs.declared.client.Client.{Client}
 use Rattle.pm_client.specs.declared.taken.Kind.{Kind}
 use Rattle.pm_client.specs.declared.taken.Kind.TheVariants.{Submit as Submission, Ask as Asking}
-use Rattle.pm_client.specs.Clients.{edited, cursor_set, message_of, message_at, composed, kept, taken, taken_at, taken_if, answer_at}
+use Rattle.pm_client.specs.Clients.{edited, event_turned, last_turned, cursor_set, message_of, message_at, composed, kept, taken, taken_at, taken_if, answer_at}
 use Rattle.pm_client.specs.Kins.{Kin}
 use Rattle.pm_client.specs.Serials.{serials_of, own_serials}
 use Rattle.pm_client.specs.TokenNames.{Token, Has, first_names, names_after, AllDiffer, passed, MayName, KeepsTokens}
 use Rattle.pm_client.proofs.TokenLeads.{names-append}
 use Rattle.pm_client.proofs.TokenKeeps.{edited-keeps, taken-keeps}
+use Rattle.pm_client.proofs.Turns.{turned-keeps}
 use Rattle.pm_session.specs.declared.line.Act.{Act}
-use Rattle.pm_session.specs.declared.line.Act.TheVariants.{Edit, Cursor, Submit, Ask, Present, Take, Push, Pull}
+use Rattle.pm_session.specs.declared.line.Act.TheVariants.{Edit, Undo, Redo, Cursor, Submit, Ask, Present, Take, Push, Pull}
 use Rattle.pm_session.specs.declared.maker.NoSteps.{NoSteps}
 use Rattle.pm_session.specs.declared.maker.NoSteps.TheVariants.{Range, NotThere, NoFit as FitsNowhere, NoMemory}
 use Rattle.pm_session.specs.declared.outcome.Outcome.{Outcome}
 use Rattle.pm_session.specs.declared.outcome.Outcome.TheVariants.{NoRange, CursorAt}
-use Rattle.pm_session.specs.Events.{edits, sets, made, presents, exchanges, acted}
+use Rattle.pm_session.specs.Events.{edits, turns, sets, made, presents, exchanges, acted}
 use Rattle.pm_session.specs.Left.{LeftAsWas, LeftPresenting, LeftExchanging, LeftBy}
 use Rattle.pm_session.specs.Standing.{tokens_of, AreNamed, NonePinched}
 use Rattle.pm_session.proofs.Keeping.{edited-on, taken-one, taken-last}
@@ -178,21 +181,28 @@ module _ {Rules Doc Reason C : Type 0} (m : Meaning Rules Doc Reason C) (rules :
     unmoved : Stayed a c
     unmoved = same-stayed a c (record { version = refl; pending = refl; cursors = λ i p h. h }) refl
 
-    edits-stayed : (r : Result (List C) NoSteps) → Stayed a (edits m rules c r).1
-    edits-stayed (Err Range) = unmoved
-    edits-stayed (Err NotThere) = unmoved
-    edits-stayed (Err FitsNowhere) = unmoved
-    edits-stayed (Err NoMemory) = unmoved
-    edits-stayed (Ok steps) = from (edited m rules c steps None) refl
+    edits-stayed : (event : Option ℕ) (r : Result (List C) NoSteps) → Stayed a (edits m rules c event r).1
+    edits-stayed event (Err Range) = unmoved
+    edits-stayed event (Err NotThere) = unmoved
+    edits-stayed event (Err FitsNowhere) = unmoved
+    edits-stayed event (Err NoMemory) = unmoved
+    edits-stayed event (Ok steps) = from (edited m rules c steps event) refl
       where
-        version : (next : Client C Rules Doc Reason) → edited m rules c steps None ≡ Ok next → c.version ≤ next.version
+        version : (next : Client C Rules Doc Reason) → edited m rules c steps event ≡ Ok next → c.version ≤ next.version
         version next h =
-            let e : c.version ≡ next.version = ap (λ (x : Client C Rules Doc Reason). x.version) (edited-on m rules c steps None next h).2 in
+            let e : c.version ≡ next.version = ap (λ (x : Client C Rules Doc Reason). x.version) (edited-on m rules c steps event next h).2 in
             omega (arith, e)
 
-        from : (r : Result (Client C Rules Doc Reason) (Refusal Reason)) → edited m rules c steps None ≡ r → Stayed a (made c steps r).1
-        from (Ok next) e = record { keeps = edited-keeps m rules laws a.first a.log c kin steps None next e; rises = version next e; first = refl }
+        from : (r : Result (Client C Rules Doc Reason) (Refusal Reason)) → edited m rules c steps event ≡ r → Stayed a (made c steps r).1
+        from (Ok next) e = record { keeps = edited-keeps m rules laws a.first a.log c kin steps event next e; rises = version next e; first = refl }
         from (Err r) e = unmoved
+
+    turns-stayed : (redo : Bool) → Stayed a (turns c (last_turned m rules c redo (last_of redo c.history))).1
+    turns-stayed redo = from (last_of redo c.history) refl
+      where
+        from : (o : Option Event) → last_of redo c.history ≡ o → Stayed a (turns c (last_turned m rules c redo o)).1
+        from None e = unmoved
+        from (Some event) e = record { keeps = turned-keeps m rules laws a.first a.log c kin redo event e; rises = omega arith; first = refl }
 
     sets-stayed : (p : ℕ) (side : ℤ) → Stayed a (sets m c p side).1
     sets-stayed p side = from (nat_lt (m.size c.doc) p)
@@ -283,7 +293,9 @@ module _ {Rules Doc Reason C : Type 0} (m : Meaning Rules Doc Reason C) (rules :
 
     module _ {Op : Type 0} where
       pub acted-stayed : (makes : Doc → Op → Result (List C) NoSteps) (act : Act Op) → Stayed (acted m rules makes a act c).1 (acted m rules makes a act c).2
-      acted-stayed makes (Edit op) = edits-stayed (makes c.doc op)
+      acted-stayed makes (Edit op event) = edits-stayed event (makes c.doc op)
+      acted-stayed makes Undo = turns-stayed false
+      acted-stayed makes Redo = turns-stayed true
       acted-stayed makes (Cursor p side) = sets-stayed p side
       acted-stayed makes Submit = composed-stayed Submission
       acted-stayed makes Ask = composed-stayed Asking
@@ -294,7 +306,9 @@ module _ {Rules Doc Reason C : Type 0} (m : Meaning Rules Doc Reason C) (rules :
 
       -- and so it is where an act ran out of memory
       pub left-stayed : (act : Act Op) (p : Authority C Rules Doc Reason × Client C Rules Doc Reason) → LeftBy m rules a c act p → Stayed p.0 p.1
-      left-stayed (Edit op) p h = as-was p h
+      left-stayed (Edit op event) p h = as-was p h
+      left-stayed Undo p h = as-was p h
+      left-stayed Redo p h = as-was p h
       left-stayed (Cursor place side) p h = as-was p h
       left-stayed Submit p h = as-was p h
       left-stayed Ask p h = as-was p h

@@ -12,17 +12,17 @@ use Rattle.pm_authority.specs.Presents.{presented}
 use Rattle.pm_client.specs.declared.client.Client.{Client}
 use Rattle.pm_client.specs.declared.taken.Kind.{Kind}
 use Rattle.pm_client.specs.declared.taken.Kind.TheVariants.{Submit as Submission, Ask as Asking}
-use Rattle.pm_client.specs.Clients.{edited, cursor_set, message_of, message_at, composed, kept}
+use Rattle.pm_client.specs.Clients.{edited, undone_last, redone_last, cursor_set, message_of, message_at, composed, kept}
 use Rattle.pm_client.specs.Kins.{Kin}
 use Rattle.pm_client.specs.Keeps.{kin-composed}
 use Rattle.pm_session.specs.declared.line.Line.{Line}
 use Rattle.pm_session.specs.declared.line.Act.{Act}
-use Rattle.pm_session.specs.declared.line.Act.TheVariants.{Edit, Cursor, Submit, Ask, Present, Take, Push, Pull}
+use Rattle.pm_session.specs.declared.line.Act.TheVariants.{Edit, Undo, Redo, Cursor, Submit, Ask, Present, Take, Push, Pull}
 use Rattle.pm_session.specs.declared.maker.NoSteps.{NoSteps}
 use Rattle.pm_session.specs.declared.maker.NoSteps.TheVariants.{Range, NotThere, NoFit as FitsNowhere, NoMemory}
 use Rattle.pm_session.specs.declared.outcome.Outcome.{Outcome}
 use Rattle.pm_session.specs.declared.outcome.Outcome.TheVariants.{NoRange, CursorAt}
-use Rattle.pm_session.specs.Events.{State, told, made, edits, sets, presents, ends, exchanges, acted, played}
+use Rattle.pm_session.specs.Events.{State, told, made, edits, turns, sets, presents, ends, exchanges, acted, played}
 use Rattle.pm_session.specs.Sessions.{session}
 use Rattle.pm_session.specs.Sounds.{Sound}
 use Rattle.pm_session.specs.Suits.{SuitsRoom, LinesSuit}
@@ -43,14 +43,18 @@ module _ {Rules Doc Reason C : Type 0} where
   made-none c steps (Ok next) = tt
   made-none c steps (Err e) = tt
 
+  turns-none : (c : Client C Rules Doc Reason) (o : Option (ℕ × Client C Rules Doc Reason)) → GetsNoRefusal (turns c o).0
+  turns-none c None = tt
+  turns-none c (Some p) = tt
+
 module _ {Rules Doc Reason C : Type 0} (m : Meaning Rules Doc Reason C) (rules : Rules) (laws : Laws m) (a : Authority C Rules Doc Reason) (stood : IsKept m rules a)
     (c : Client C Rules Doc Reason) (kin : Kin m rules a.first a.log c) where
-  edits-none : (r : Result (List C) NoSteps) → GetsNoRefusal (edits m rules c r).0
-  edits-none (Ok steps) = made-none c steps (edited m rules c steps None)
-  edits-none (Err Range) = tt
-  edits-none (Err NotThere) = tt
-  edits-none (Err FitsNowhere) = tt
-  edits-none (Err NoMemory) = tt
+  edits-none : (event : Option ℕ) (r : Result (List C) NoSteps) → GetsNoRefusal (edits m rules c event r).0
+  edits-none event (Ok steps) = made-none c steps (edited m rules c steps event)
+  edits-none event (Err Range) = tt
+  edits-none event (Err NotThere) = tt
+  edits-none event (Err FitsNowhere) = tt
+  edits-none event (Err NoMemory) = tt
 
   sets-none : (p : ℕ) (side : ℤ) → GetsNoRefusal (sets m c p side).0
   sets-none p side = from (nat_lt (m.size c.doc) p)
@@ -85,7 +89,9 @@ module _ {Rules Doc Reason C : Type 0} (m : Meaning Rules Doc Reason C) (rules :
       from (Some message) e = told-none (presented m rules a message).0 (composed-none j message e)
 
   pub acted-none : {Op : Type 0} (makes : Doc → Op → Result (List C) NoSteps) (act : Act Op) → GetsNoRefusal (acted m rules makes a act c).0
-  acted-none makes (Edit op) = edits-none (makes c.doc op)
+  acted-none makes (Edit op event) = edits-none event (makes c.doc op)
+  acted-none makes Undo = turns-none c (undone_last m rules c)
+  acted-none makes Redo = turns-none c (redone_last m rules c)
   acted-none makes (Cursor p side) = sets-none p side
   acted-none makes Submit = tt
   acted-none makes Ask = tt

@@ -10,16 +10,16 @@ use Rattle.pm_authority.specs.Presents.{presented}
 use Rattle.pm_client.specs.declared.client.Client.{Client}
 use Rattle.pm_client.specs.declared.taken.Kind.{Kind}
 use Rattle.pm_client.specs.declared.taken.Kind.TheVariants.{Submit as Submission, Ask as Asking}
-use Rattle.pm_client.specs.Clients.{edited, cursor_set, message_of, message_at, composed, kept, taken, taken_at}
+use Rattle.pm_client.specs.Clients.{edited, undone_last, redone_last, cursor_set, message_of, message_at, composed, kept, taken, taken_at}
 use Rattle.pm_session.specs.declared.line.Line.{Line}
 use Rattle.pm_session.specs.declared.line.Act.{Act}
-use Rattle.pm_session.specs.declared.line.Act.TheVariants.{Edit, Cursor, Submit, Ask, Present, Take, Push, Pull}
+use Rattle.pm_session.specs.declared.line.Act.TheVariants.{Edit, Undo, Redo, Cursor, Submit, Ask, Present, Take, Push, Pull}
 use Rattle.pm_session.specs.declared.maker.NoSteps.{NoSteps}
 use Rattle.pm_session.specs.declared.maker.NoSteps.TheVariants.{Range, NotThere, NoFit as FitsNowhere, NoMemory}
 use Rattle.pm_session.specs.declared.outcome.Told.{Told}
 use Rattle.pm_session.specs.declared.outcome.Told.TheVariants.{Accepted as ToldAccepted, Version, Refused as ToldRefused, Entries as ToldEntries}
 use Rattle.pm_session.specs.declared.outcome.Outcome.{Outcome}
-use Rattle.pm_session.specs.declared.outcome.Outcome.TheVariants.{Made, NoRange, NoPlace, NoFit, Refused, CursorAt, Composed, Answered, Took, Exchanged}
+use Rattle.pm_session.specs.declared.outcome.Outcome.TheVariants.{Made, Nothing, NoRange, NoPlace, NoFit, Refused, CursorAt, Composed, Answered, Took, Exchanged}
 use Rattle.pm_session.specs.declared.room.Room.{Room}
 
 -- A room, without where its clients lie in memory: the authority, and client i at place i.
@@ -61,6 +61,11 @@ module _ {Rules Doc Reason C : Type 0} where
   made c steps (Ok next) = (Made (length steps), next)
   made c steps (Err e) = (Refused e.index e.reason, c)
 
+  -- an event is undone or redone by so many steps, or there is none
+  abbrev pub turns : Client C Rules Doc Reason → Option (ℕ × Client C Rules Doc Reason) → Outcome C Rules Doc Reason × Client C Rules Doc Reason
+  turns c None = (Nothing, c)
+  turns c (Some p) = (Made p.0, p.1)
+
   -- a message is composed
   abbrev pub composes : Client C Rules Doc Reason → Kind → Outcome C Rules Doc Reason × Client C Rules Doc Reason
   composes c kind = (Composed (length c.messages + 1), composed c kind)
@@ -76,13 +81,14 @@ module _ {Rules Doc Reason C : Type 0} (m : Meaning Rules Doc Reason C) where
   sets c p side = if nat_lt (m.size c.doc) p then (NoRange, c) else (CursorAt p, cursor_set c p side)
 
 module _ {Rules Doc Reason C : Type 0} (m : Meaning Rules Doc Reason C) (rules : Rules) where
-  -- an op's steps are made, or the outcome says why there are none; want of memory is no meaning of an op
-  abbrev pub edits : Client C Rules Doc Reason → Result (List C) NoSteps → Outcome C Rules Doc Reason × Client C Rules Doc Reason
-  edits c (Ok steps) = made c steps (edited m rules c steps None)
-  edits c (Err Range) = (NoRange, c)
-  edits c (Err NotThere) = (NoPlace, c)
-  edits c (Err FitsNowhere) = (NoFit, c)
-  edits c (Err NoMemory) = (NoFit, c)
+  -- An op's steps are made, with this event number, or the outcome says why there are none. Want of memory is no meaning of
+  -- an op.
+  abbrev pub edits : Client C Rules Doc Reason → Option ℕ → Result (List C) NoSteps → Outcome C Rules Doc Reason × Client C Rules Doc Reason
+  edits c event (Ok steps) = made c steps (edited m rules c steps event)
+  edits c event (Err Range) = (NoRange, c)
+  edits c event (Err NotThere) = (NoPlace, c)
+  edits c event (Err FitsNowhere) = (NoFit, c)
+  edits c event (Err NoMemory) = (NoFit, c)
 
   -- the answer of a number is taken
   abbrev pub takes : Client C Rules Doc Reason → ℕ → Outcome C Rules Doc Reason × Client C Rules Doc Reason
@@ -113,7 +119,9 @@ module _ {Rules Doc Reason C : Type 0} (m : Meaning Rules Doc Reason C) (rules :
     -- what a client does by this act
     abbrev pub acted : Authority C Rules Doc Reason → Act Op → Client C Rules Doc Reason
         → Outcome C Rules Doc Reason × Authority C Rules Doc Reason × Client C Rules Doc Reason
-    acted a (Edit op) c = local a (edits c (makes c.doc op))
+    acted a (Edit op event) c = local a (edits c event (makes c.doc op))
+    acted a Undo c = local a (turns c (undone_last m rules c))
+    acted a Redo c = local a (turns c (redone_last m rules c))
     acted a (Cursor p side) c = local a (sets m c p side)
     acted a Submit c = local a (composes c Submission)
     acted a Ask c = local a (composes c Asking)

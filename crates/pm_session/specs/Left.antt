@@ -9,7 +9,7 @@ use Rattle.pm_client.specs.declared.taken.Kind.{Kind}
 use Rattle.pm_client.specs.declared.taken.Kind.TheVariants.{Submit as Submission, Ask as Asking}
 use Rattle.pm_client.specs.Clients.{composed, kept, message_of, message_at}
 use Rattle.pm_session.specs.declared.line.Act.{Act}
-use Rattle.pm_session.specs.declared.line.Act.TheVariants.{Edit, Cursor, Submit, Ask, Present, Take, Push, Pull}
+use Rattle.pm_session.specs.declared.line.Act.TheVariants.{Edit, Undo, Redo, Cursor, Submit, Ask, Present, Take, Push, Pull}
 use Rattle.pm_session.specs.declared.line.Line.{Line}
 use Rattle.pm_session.specs.Events.{State, placed}
 
@@ -29,7 +29,9 @@ module _ {Rules Doc Reason C : Type 0} (m : Meaning Rules Doc Reason C) (rules :
       (p ≡ (a, c)) ⊎ ((p ≡ (a, composed c kind)) ⊎ ((p ≡ (q.1, composed c kind)) ⊎ (p ≡ (q.1, kept (composed c kind) q.0))))
 
   abbrev pub LeftBy : {Op : Type 0} → Act Op → Authority C Rules Doc Reason × Client C Rules Doc Reason → Type 0
-  LeftBy (Edit op) p = LeftAsWas p
+  LeftBy (Edit op event) p = LeftAsWas p
+  LeftBy Undo p = LeftAsWas p
+  LeftBy Redo p = LeftAsWas p
   LeftBy (Cursor pos side) p = LeftAsWas p
   LeftBy Submit p = LeftAsWas p
   LeftBy Ask p = LeftAsWas p

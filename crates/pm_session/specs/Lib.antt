@@ -6,4 +6,5 @@ pub mod Sessions
 pub mod Suits
 pub mod Sounds
 pub mod Standing
+pub mod Restoring
 pub mod Openings

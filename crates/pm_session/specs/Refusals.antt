@@ -10,7 +10,7 @@ use Rattle.pm_client.specs.Clients.{message_at}
 use Rattle.pm_session.specs.declared.outcome.Told.{Told}
 use Rattle.pm_session.specs.declared.outcome.Told.TheVariants.{Accepted as ToldAccepted, Version, Refused as ToldRefused, Entries as ToldEntries}
 use Rattle.pm_session.specs.declared.outcome.Outcome.{Outcome}
-use Rattle.pm_session.specs.declared.outcome.Outcome.TheVariants.{Made, NoRange, NoPlace, NoFit, Refused, CursorAt, Composed, Answered, Took, Exchanged}
+use Rattle.pm_session.specs.declared.outcome.Outcome.TheVariants.{Made, Nothing, NoRange, NoPlace, NoFit, Refused, CursorAt, Composed, Answered, Took, Exchanged}
 use Rattle.pm_session.specs.Events.{State}
 
 module _ {Rules Doc Reason C : Type 0} where
@@ -34,6 +34,7 @@ module _ {Rules Doc Reason C : Type 0} where
   GetsNoRefusal (Answered told) = TellsNoRefusal told
   GetsNoRefusal (Exchanged told taken) = TellsNoRefusal told
   GetsNoRefusal (Made count) = Unit {0}
+  GetsNoRefusal Nothing = Unit {0}
   GetsNoRefusal NoRange = Unit {0}
   GetsNoRefusal NoPlace = Unit {0}
   GetsNoRefusal NoFit = Unit {0}

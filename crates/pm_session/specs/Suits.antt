@@ -4,7 +4,7 @@ use Rattle.std.specs.Prelude.{◌≡◌, ℕ, ◌≤◌, ◌<◌, ◌==◌, ◌&
 use Rattle.pm_client.specs.declared.client.Client.{Client}
 use Rattle.pm_session.specs.declared.line.Line.{Line}
 use Rattle.pm_session.specs.declared.line.Act.{Act}
-use Rattle.pm_session.specs.declared.line.Act.TheVariants.{Edit, Cursor, Submit, Ask, Present, Take, Push, Pull}
+use Rattle.pm_session.specs.declared.line.Act.TheVariants.{Edit, Undo, Redo, Cursor, Submit, Ask, Present, Take, Push, Pull}
 use Rattle.pm_session.specs.Events.{State}
 
 module _ {Op : Type 0} where
@@ -14,7 +14,9 @@ module _ {Op : Type 0} where
   composes_one Ask = true
   composes_one (Push lost) = true
   composes_one (Pull lost) = true
-  composes_one (Edit op) = false
+  composes_one (Edit op event) = false
+  composes_one Undo = false
+  composes_one Redo = false
   composes_one (Cursor p side) = false
   composes_one (Present j) = false
   composes_one (Take n) = false
@@ -26,7 +28,9 @@ module _ {Op : Type 0} where
   gets_one (Pull lost) = true
   gets_one Submit = false
   gets_one Ask = false
-  gets_one (Edit op) = false
+  gets_one (Edit op event) = false
+  gets_one Undo = false
+  gets_one Redo = false
   gets_one (Cursor p side) = false
   gets_one (Take n) = false
 
@@ -46,7 +50,9 @@ module _ {Op : Type 0} where
   abbrev pub NamesOneOf : ℕ → ℕ → Act Op → Type 0
   NamesOneOf messages answers (Present j) = (0 < j) × (j ≤ messages)
   NamesOneOf messages answers (Take n) = (0 < n) × (n ≤ answers)
-  NamesOneOf messages answers (Edit op) = Unit {0}
+  NamesOneOf messages answers (Edit op event) = Unit {0}
+  NamesOneOf messages answers Undo = Unit {0}
+  NamesOneOf messages answers Redo = Unit {0}
   NamesOneOf messages answers (Cursor p side) = IsSide side
   NamesOneOf messages answers Submit = Unit {0}
   NamesOneOf messages answers Ask = Unit {0}

@@ -8,7 +8,7 @@ ghost use Rattle.pm_session.specs.Suits.{NamesOneOf};
 
 use crate::exchange::{exchange, present};
 use crate::line::Act;
-use crate::local::{compose, edit, set_cursor, take};
+use crate::local::{compose, edit, redo, set_cursor, take, undo};
 use crate::maker::Maker;
 use crate::outcome::Outcome;
 use pm_authority::Authority;
@@ -33,7 +33,9 @@ pub fn act<C: Change, K: Maker<C>>(
     ensures left { OnErr result (LeftBy C.means rules.now authority.old client.old act.now (authority.new, client.new)) }
 {
     match act {
-        Act::Edit { op } => edit(alloc, rules, maker, client, op),
+        Act::Edit { op, event } => edit(alloc, rules, maker, client, op, *event),
+        Act::Undo => undo(alloc, rules, authority, client),
+        Act::Redo => redo(alloc, rules, authority, client),
         Act::Cursor { pos, side } => set_cursor(client, *pos, *side),
         Act::Submit => compose(alloc, client, Kind::Submit),
         Act::Ask => compose(alloc, client, Kind::Ask),

@@ -3,8 +3,13 @@
 /// What a line does.
 #[derive(Debug, Drop)]
 pub enum Act<O> {
-    /// Makes the steps of this op.
-    Edit { op: O },
+    /// Makes the steps of this op. They join the last event to undo where that is open and has this number; else they are a
+    /// new event.
+    Edit { op: O, event: Option<u32> },
+    /// Undoes the client's last event that can be undone.
+    Undo,
+    /// Redoes the client's last event that was undone.
+    Redo,
     /// Sets a cursor at this position of the client's document, in tokens, with this side, 1 or -1.
     Cursor { pos: u64, side: i8 },
     /// Composes a submission of all pending steps.

@@ -1,28 +1,30 @@
 //! Acts that are local to a client.
 ghost use Rattle.std.specs.Prelude.{◌≡◌, ◌<◌, ◌≤◌, ◌^◌, length, IfOk, OnErr};
 ghost use Rattle.pm_map.specs.Moves.{IsSide};
+ghost use Rattle.pm_client.specs.Clients.{undone_last, redone_last};
 ghost use Rattle.pm_client.specs.Cursors.{AreWithin};
 ghost use Rattle.pm_client.specs.Kins.{Kin};
-ghost use Rattle.pm_session.specs.Events.{edits, sets, composes, takes};
+ghost use Rattle.pm_session.specs.Events.{edits, turns, sets, composes, takes};
 
 use crate::maker::{Maker, NoSteps};
 use crate::outcome::Outcome;
 use pm_authority::Authority;
 use pm_change::Change;
-use pm_client::{Client, CursorError, EditError, Kind};
+use pm_client::{Client, CursorError, EditError, Kind, UndoError};
 use std::alloc::{AllocError, Global};
 
-/// The client makes the steps of an op. Want of memory leaves it as it was.
+/// The client makes the steps of an op, as part of an event of this number. Want of memory leaves it as it was.
 pub fn edit<C: Change, K: Maker<C>>(
     alloc: Global,
     rules: &C::Rules,
     maker: &K,
     client: &mut Client<C>,
     op: &K::Op,
+    event: Option<u32>,
 ) -> Result<Outcome<C>, AllocError>
     requires good { C.means.is_good rules.now client.old.doc }
     requires cursors { AreWithin (C.means.size client.old.doc) client.old.cursors }
-    ensures edits { IfOk result (λ o. (o, client.new) ≡ edits C.means rules.now client.old (K.makes maker.now rules.now client.old.doc op.now)) }
+    ensures edits { IfOk result (λ o. (o, client.new) ≡ edits C.means rules.now client.old event (K.makes maker.now rules.now client.old.doc op.now)) }
     ensures err { OnErr result (client.new ≡ client.old) }
 {
     let steps = match maker.steps(alloc, rules, client.doc(), op) {
@@ -32,10 +34,51 @@ pub fn edit<C: Change, K: Maker<C>>(
         Err(NoSteps::NoFit) => return Ok(Outcome::NoFit),
         Err(NoSteps::NoMemory) => return Err(AllocError),
     };
-    match client.edit(alloc, rules, steps, None) {
+    match client.edit(alloc, rules, steps, event) {
         Ok(count) => Ok(Outcome::Made { count }),
         Err(EditError::Refused { index, reason }) => Ok(Outcome::Refused { index, reason }),
         Err(EditError::NoMemory) => Err(AllocError),
+    }
+}
+
+/// The client undoes the last event that it can undo, or tells that there is none. Want of memory leaves it as it was. The
+/// client must stand to the log of the authority, which is read and stays.
+pub fn undo<C: Change>(
+    alloc: Global,
+    rules: &C::Rules,
+    authority: &Authority<C>,
+    client: &mut Client<C>,
+) -> Result<Outcome<C>, AllocError>
+    requires stands { Kin C.means rules.now authority.now.first authority.now.log client.old }
+    ensures undoes { IfOk result (λ o. (o, client.new) ≡ turns client.old (undone_last C.means rules.now client.old)) }
+    ensures err { OnErr result (client.new ≡ client.old) }
+{
+    // A log that is held has a length of 64 bits.
+    let _length = authority.log().len();
+    match client.undo(alloc, rules) {
+        Ok(count) => Ok(Outcome::Made { count }),
+        Err(UndoError::NothingToUndo) => Ok(Outcome::Nothing),
+        Err(UndoError::NoMemory) => Err(AllocError),
+    }
+}
+
+/// The client redoes the last event that was undone, as `undo` undoes one.
+pub fn redo<C: Change>(
+    alloc: Global,
+    rules: &C::Rules,
+    authority: &Authority<C>,
+    client: &mut Client<C>,
+) -> Result<Outcome<C>, AllocError>
+    requires stands { Kin C.means rules.now authority.now.first authority.now.log client.old }
+    ensures redoes { IfOk result (λ o. (o, client.new) ≡ turns client.old (redone_last C.means rules.now client.old)) }
+    ensures err { OnErr result (client.new ≡ client.old) }
+{
+    // A log that is held has a length of 64 bits.
+    let _length = authority.log().len();
+    match client.redo(alloc, rules) {
+        Ok(count) => Ok(Outcome::Made { count }),
+        Err(UndoError::NothingToUndo) => Ok(Outcome::Nothing),
+        Err(UndoError::NoMemory) => Err(AllocError),
     }
 }
 

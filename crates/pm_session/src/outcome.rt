@@ -18,8 +18,11 @@ pub enum Told<C: Change> {
 /// What became of a line.
 #[derive(Drop)]
 pub enum Outcome<C: Change> {
-    /// The op made `count` steps, which are pending.
+    /// An op, an undo or a redo made `count` steps, which are pending. An undo or a redo made 0 where nothing was left to
+    /// apply.
     Made { count: u64 },
+    /// There was no event to undo or to redo. Nothing changed.
+    Nothing,
     /// The op's positions are not in order within the document, or the cursor's passes its size. Nothing changed.
     NoRange,
     /// What the op names is not there. Nothing changed.

@@ -1,13 +1,15 @@
 //! A room: an authority and its clients.
-ghost use Rattle.std.specs.Prelude.{◌≡◌, ◌≤◌, ◌<◌, ◌+◌, ℕ, false, length, take, vec_len, All, IfOk, OnErr, OnOk};
+ghost use Rattle.std.specs.Prelude.{◌≡◌, ◌≤◌, ◌<◌, ◌+◌, ℕ, false, length, slice_get, take, vec_len, Some, All, IfOk, OnErr, OnOk};
 ghost use Rattle.std.specs.List.{AllByRecursion as Each};
 ghost use Rattle.pm_client.specs.declared.taken.Kind.TheVariants.{Ask};
 ghost use Rattle.pm_session.specs.Events.{state_of, played};
 ghost use Rattle.pm_session.specs.Left.{LeftByLine};
+ghost use Rattle.pm_session.specs.Restoring.{Restores};
 ghost use Rattle.pm_session.specs.Sessions.{opened, session, exchanged, brought_up, in_turn, settled};
 ghost use Rattle.pm_session.specs.Refusals.{GetsNoRefusal};
 ghost use Rattle.pm_session.specs.Sounds.{Sound, AllCaughtUp, NamesDiffer};
 ghost use Rattle.pm_session.specs.Standing.{CursorsStay};
+ghost use Rattle.pm_session.specs.declared.line.Line.{Line};
 ghost use Rattle.pm_session.specs.Suits.{SuitsRoom, LinesSuit};
 
 use crate::act::act;
@@ -87,6 +89,8 @@ impl<C: Change> Room<C> {
         ensures names { NamesDiffer self.new.authority.log }
         // Each cursor with side 1 stays before its token.
         ensures cursors { CursorsStay C.means (state_of self.old) (state_of self.new) }
+        // An undo or a redo with nothing changed since gives the earlier document back.
+        ensures restores { OnOk result (Restores C.means rules.now (state_of self.old) line.now (state_of self.new)) }
     {
         let client = &mut self.clients[line.client as usize];
         act(alloc, rules, maker, &mut self.authority, client, &line.act)
@@ -112,6 +116,9 @@ impl<C: Change> Room<C> {
         // So it is from the room after each number of lines to the next.
         ensures cursors { OnOk result ((k : ℕ) → CursorsStay C.means
             (session C.means rules.now (K.makes maker.now rules.now) (state_of self.old) (take k lines.now)).1
+            (session C.means rules.now (K.makes maker.now rules.now) (state_of self.old) (take (k + 1) lines.now)).1) }
+        ensures restores { OnOk result ((k : ℕ) (line : Line K.Op) → slice_get lines.now k ≡ Some line → Restores C.means rules.now
+            (session C.means rules.now (K.makes maker.now rules.now) (state_of self.old) (take k lines.now)).1 line
             (session C.means rules.now (K.makes maker.now rules.now) (state_of self.old) (take (k + 1) lines.now)).1) }
     {
         let mut outcomes = Vec::new(alloc);

@@ -6,6 +6,7 @@ use Rattle.pm_session.specs.Left.{LeftBy}
 use Rattle.pm_session.specs.Refusals.{GetsNoRefusal}
 use Rattle.pm_session.proofs.Lefts.{act-sound}
 use Rattle.pm_session.proofs.LogNames.{sound-names}
+use Rattle.pm_session.proofs.Restorings.{act-restores}
 use Rattle.pm_session.proofs.Rooms.{act-stays}
 use Rattle.pm_session.proofs.Unrefused.{acted-none}
 use Rattle.pm_session.proofs.room.Room.play.Goals as goal
@@ -63,3 +64,10 @@ returns-clause-cursors g c =
     act-stays g.C.Change.means c.args.rules.now g.met.C.Change.laws (state_of c.args.self.now) c.requires.sound c.args.line.now.client suits.client suits.at
     (g.K.Maker.makes c.args.maker.now c.args.rules.now) c.args.line.now.act suits.named c.index_mut-client.result.now read c.act.result c.act.new.authority c.act.new.client
     c.act.ensures.acts c.act.ensures.left
+
+pub returns-clause-restores : goal.returns-clause-restores
+returns-clause-restores g c =
+    let suits = c.requires.suits in
+    let read = c.index_mut-client.ensures.value ∙ (get-index c.args.self.now.clients.items c.args.line.now.client suits.client suits.at).1 _ in
+    act-restores g.C.Change.means c.args.rules.now g.met.C.Change.laws (g.K.Maker.makes c.args.maker.now c.args.rules.now) (state_of c.args.self.now) c.args.line.now
+    suits.client suits.at c.index_mut-client.result.now read c.act.result c.act.new.authority c.act.new.client c.act.ensures.acts

@@ -7,6 +7,7 @@ use Rattle.pm_session.specs.Suits.{LinesSuit}
 use Rattle.pm_session.specs.Refusals.{GetsNoRefusal}
 use Rattle.pm_session.proofs.LogNames.{sound-names}
 use Rattle.pm_session.proofs.Playing.{suits-first, suits-rest, session-more}
+use Rattle.pm_session.proofs.Restorings.{session-restores}
 use Rattle.pm_session.proofs.Rooms.{session-stays}
 use Rattle.pm_session.proofs.room.Room.play_all.Goals as goal
 
@@ -51,3 +52,8 @@ pub returns-clause-cursors : goal.returns-clause-cursors
 returns-clause-cursors g c k =
     session-stays g.C.Change.means c.args.rules.now g.met.C.Change.laws (g.K.Maker.makes c.args.maker.now c.args.rules.now) (state_of c.args.self.now) c.args.lines.now
     c.requires.sound c.requires.suit k
+
+pub returns-clause-restores : goal.returns-clause-restores
+returns-clause-restores g c k line at =
+    session-restores g.C.Change.means c.args.rules.now g.met.C.Change.laws (g.K.Maker.makes c.args.maker.now c.args.rules.now) (state_of c.args.self.now) c.args.lines.now
+    k line at
