@@ -39,6 +39,6 @@ pub fn document_text(
     ensures ordered { HasOrderedKeys (doc_written schema.now.spec document.now) }
     ensures whole { has_float (doc_written schema.now.spec document.now) ≡ false }
 {
-    let value = document_json(alloc, schema, document)?;
-    value.to_string(alloc)
+    let json = document_json(alloc, schema, document)?;
+    json.to_string(alloc)
 }

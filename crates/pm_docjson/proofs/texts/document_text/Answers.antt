@@ -16,13 +16,13 @@ pub returns-clause-text : goal.returns-clause-text
 returns-clause-text c =
     let s = c.args.schema.now.spec in
     let d = c.args.document.now in
-    text-is (view c.in_ok-value.value) (doc_written s d) c.to_string.result c.in_ok-value.ensures (node-whole s (top d)) c.to_string.ensures.text
+    text-is (view c.in_ok-json.json) (doc_written s d) c.to_string.result c.in_ok-json.ensures (node-whole s (top d)) c.to_string.ensures.text
 
 pub returns-clause-read : goal.returns-clause-read
 returns-clause-read c =
     let s = c.args.schema.now.spec in
     let d = c.args.document.now in
-    text-reads (view c.in_ok-value.value) (doc_written s d) c.to_string.result c.in_ok-value.ensures c.to_string.ensures.reads_back
+    text-reads (view c.in_ok-json.json) (doc_written s d) c.to_string.result c.in_ok-json.ensures c.to_string.ensures.reads_back
 
 pub returns-clause-ordered : goal.returns-clause-ordered
 returns-clause-ordered c = node-ordered c.args.schema.now.spec (top c.args.document.now)
@@ -30,8 +30,8 @@ returns-clause-ordered c = node-ordered c.args.schema.now.spec (top c.args.docum
 pub returns-clause-whole : goal.returns-clause-whole
 returns-clause-whole c = node-whole c.args.schema.now.spec (top c.args.document.now)
 
-pub returns-in_err-value-clause-ordered : goal.returns-in_err-value-clause-ordered
-returns-in_err-value-clause-ordered c = node-ordered c.args.schema.now.spec (top c.args.document.now)
+pub returns-in_err-json-clause-ordered : goal.returns-in_err-json-clause-ordered
+returns-in_err-json-clause-ordered c = node-ordered c.args.schema.now.spec (top c.args.document.now)
 
-pub returns-in_err-value-clause-whole : goal.returns-in_err-value-clause-whole
-returns-in_err-value-clause-whole c = node-whole c.args.schema.now.spec (top c.args.document.now)
+pub returns-in_err-json-clause-whole : goal.returns-in_err-json-clause-whole
+returns-in_err-json-clause-whole c = node-whole c.args.schema.now.spec (top c.args.document.now)
