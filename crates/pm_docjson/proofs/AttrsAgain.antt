@@ -95,10 +95,10 @@ object-more fit ns vs i j k v d ms new size order within named next name value w
       named = omega arith;
       wrote = is ∙ (more-members k v (drop (i + 1) ns) (drop (i + 1) vs) ∙ ap₂ attr_members (sym nk) (sym nv));
       read = λ h.
-        let g = size h in
-        let rest : given_in (attr_members (drop (i + 1) ns) (drop (i + 1) vs)) ≡ Ok (paired (drop (i + 1) ns) (drop (i + 1) vs)) = subst (λ m. given_in m ≡ Ok (paired (drop (i + 1) ns) (drop (i + 1) vs))) behind (subst (λ n. given_in ms ≡ Ok (paired (drop n ns) (drop n vs))) next (o.read h)) in
-        let sizes : length (drop (i + 1) vs) ≡ length (drop (i + 1) ns) = omega (arith, g, length-drop (i + 1) vs, length-drop (i + 1) ns) in
-        ap given_in is ∙ (more-read k v (drop (i + 1) ns) (drop (i + 1) vs) sizes ordered (subst (λ x. value_of x ≡ Ok v) wrote (again h)) rest ∙ ap₂ (λ a b. Ok (paired a b)) (sym nk) (sym nv));
+          let g = size h in
+          let rest : given_in (attr_members (drop (i + 1) ns) (drop (i + 1) vs)) ≡ Ok (paired (drop (i + 1) ns) (drop (i + 1) vs)) = subst (λ m. given_in m ≡ Ok (paired (drop (i + 1) ns) (drop (i + 1) vs))) behind (subst (λ n. given_in ms ≡ Ok (paired (drop n ns) (drop n vs))) next (o.read h)) in
+          let sizes : length (drop (i + 1) vs) ≡ length (drop (i + 1) ns) = omega (arith, g, length-drop (i + 1) vs, length-drop (i + 1) ns) in
+          ap given_in is ∙ (more-read k v (drop (i + 1) ns) (drop (i + 1) vs) sizes ordered (subst (λ x. value_of x ≡ Ok v) wrote (again h)) rest ∙ ap₂ (λ a b. Ok (paired a b)) (sym nk) (sym nv));
     }
 
 -- ---- the field `attrs`

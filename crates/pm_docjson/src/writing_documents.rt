@@ -23,7 +23,14 @@ pub fn document_json(
 {
     let top = document.top();
     let items = content_json(alloc, schema, top)?;
-    let json = branch_json(alloc, schema, top.kind, &top.attrs, top.marks.marks(), items)?;
+    let json = branch_json(
+        alloc,
+        schema,
+        top.kind,
+        &top.attrs,
+        top.marks.marks(),
+        items,
+    )?;
     Ok(json)
 }
 

@@ -135,7 +135,8 @@ fn the_first_fault_of_a_step_is_named(rt: HostRuntime) -> Result<(), Fail> {
 }
 
 /// A step's JSON, and the JSON that is written of it. Keys stand in byte order.
-const WRITTEN: &str = r#"{"to":4,"stepType":"replace","structure":false,"from":1,"slice":null} {"from":1,"stepType":"replace","to":4}
+const WRITTEN: &str =
+    r#"{"to":4,"stepType":"replace","structure":false,"from":1,"slice":null} {"from":1,"stepType":"replace","to":4}
 {"to":4,"stepType":"replace","structure":true,"from":1,"slice":{"content":[{"type":"rule"}]}} {"from":1,"slice":{"content":[{"type":"rule"}]},"stepType":"replace","structure":true,"to":4}
 {"to":21,"stepType":"replace","structure":true,"from":21,"slice":{"openStart":1,"openEnd":1,"content":[{"type":"paragraph"},{"type":"paragraph"}]}} {"from":21,"slice":{"content":[{"type":"paragraph"},{"type":"paragraph"}],"openEnd":1,"openStart":1},"stepType":"replace","structure":true,"to":21}
 {"stepType":"replaceAround","from":0,"to":8,"gapFrom":1,"gapTo":7,"insert":1,"slice":{"content":[{"type":"paragraph"}]},"structure":true} {"from":0,"gapFrom":1,"gapTo":7,"insert":1,"slice":{"content":[{"type":"paragraph"}]},"stepType":"replaceAround","structure":true,"to":8}

@@ -82,12 +82,7 @@ fn a_mark_is_written_with_its_attributes(rt: HostRuntime) -> Result<(), Fail> {
 }
 
 /// The text of a node without attributes and marks.
-fn bare(
-    alloc: Global,
-    schema: &Schema,
-    kind: TypeId,
-    body: Body,
-) -> Result<String, Fail> {
+fn bare(alloc: Global, schema: &Schema, kind: TypeId, body: Body) -> Result<String, Fail> {
     let node = Node {
         kind,
         attrs: Attrs::new(Vec::new(alloc)),
@@ -104,12 +99,18 @@ fn what_is_not_read_again_is_written_all_the_same(rt: HostRuntime) -> Result<(),
     // a surrogate of no pair, as the replacement character
     let units = Units::new(vec![in alloc; 0x0061, 0xD83D, 0x0062]?);
     let text = bare(alloc, &schema, 4, Body::Text(units))?;
-    assert!(rt; text.as_str() == "{\"text\":\"a\u{FFFD}b\",\"type\":\"text\"}", "{text}");
+    assert!(rt;
+        text.as_str() == "{\"text\":\"a\u{FFFD}b\",\"type\":\"text\"}",
+        "{text}"
+    );
     // a type beyond the last
     let text = bare(alloc, &schema, 5, Body::Leaf)?;
     assert!(rt; text.as_str() == r#"{"type":""}"#, "{text}");
     // an attribute without a value
     let text = bare(alloc, &schema, 2, Body::Leaf)?;
-    assert!(rt; text.as_str() == r#"{"attrs":{},"type":"heading"}"#, "{text}");
+    assert!(rt;
+        text.as_str() == r#"{"attrs":{},"type":"heading"}"#,
+        "{text}"
+    );
     Ok(())
 }

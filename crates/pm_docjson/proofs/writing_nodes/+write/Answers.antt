@@ -17,9 +17,9 @@ node_json-returns-in_ok-json-in-Text-clause-again t c =
     let n = c.args.node.now in
     let w = c.in_ok-json-in-Text.ensures in
     λ can l.
-      let p = text-parts s n c.in-Text.units c.in-Text.is can in
-      let marks = marks-read s n.marks (subst (MarksIf s) c.marks-marks.ensures w.again) (marks-of s n.marks p.marks) in
-      text-node-again s l n c.in-Text.units w.named w.plain c.in-Text.is can (w.units p.whole) marks
+    let p = text-parts s n c.in-Text.units c.in-Text.is can in
+    let marks = marks-read s n.marks (subst (MarksIf s) c.marks-marks.ensures w.again) (marks-of s n.marks p.marks) in
+    text-node-again s l n c.in-Text.units w.named w.plain c.in-Text.is can (w.units p.whole) marks
 
 pub node_json-returns-in_ok-json-in-Leaf-clause-again : goal.node_json-returns-in_ok-json-in-Leaf-clause-again
 node_json-returns-in_ok-json-in-Leaf-clause-again t c =
@@ -27,10 +27,10 @@ node_json-returns-in_ok-json-in-Leaf-clause-again t c =
     let n = c.args.node.now in
     let w = c.in_ok-json-in-Leaf.ensures in
     λ can l.
-      let p = leaf-parts s n c.in-Leaf.is can in
-      let k = type-parts s n.kind n.attrs p.fits in
-      let marks = marks-read s n.marks (subst (MarksIf s) c.marks-marks.ensures w.again) (marks-of s n.marks p.marks) in
-      leaf-node-again s l n (w.named k.inside) c.in-Leaf.is can (w.attrs k.attrs) marks
+    let p = leaf-parts s n c.in-Leaf.is can in
+    let k = type-parts s n.kind n.attrs p.fits in
+    let marks = marks-read s n.marks (subst (MarksIf s) c.marks-marks.ensures w.again) (marks-of s n.marks p.marks) in
+    leaf-node-again s l n (w.named k.inside) c.in-Leaf.is can (w.attrs k.attrs) marks
 
 pub node_json-returns-in_ok-json-in-Children-clause-written : goal.node_json-returns-in_ok-json-in-Children-clause-written
 node_json-returns-in_ok-json-in-Children-clause-written t c =
@@ -46,11 +46,11 @@ node_json-returns-in_ok-json-in-Children-clause-again t c =
     let w = c.in_ok-json-in-Children.ensures in
     let bound : length ts < 4294967296 = omega (arith, c.size.ensures.size, c.size.ensures.bound) in
     λ can l.
-      let p = branch-parts s n ts c.in-Children.is can in
-      let k = type-parts s n.kind n.attrs p.fits in
-      let marks = marks-read s n.marks (subst (MarksIf s) c.marks-marks.ensures w.again) (marks-of s n.marks p.marks) in
-      let inner = nodes-read s xs c.in_ok-items-in-Children.ensures.again (inside-writable s n ts xs c.in-Children.is c.children.ensures.tokens c.children.ensures.normal can) in
-      branch-node-again s l n ts xs (w.named k.inside) c.in-Children.is can (w.attrs k.attrs) marks bound c.children.ensures.tokens c.children.ensures.normal c.children.ensures.each inner
+    let p = branch-parts s n ts c.in-Children.is can in
+    let k = type-parts s n.kind n.attrs p.fits in
+    let marks = marks-read s n.marks (subst (MarksIf s) c.marks-marks.ensures w.again) (marks-of s n.marks p.marks) in
+    let inner = nodes-read s xs c.in_ok-items-in-Children.ensures.again (inside-writable s n ts xs c.in-Children.is c.children.ensures.tokens c.children.ensures.normal can) in
+    branch-node-again s l n ts xs (w.named k.inside) c.in-Children.is can (w.attrs k.attrs) marks bound c.children.ensures.tokens c.children.ensures.normal c.children.ensures.each inner
 
 pub nodes_json-node_json-requires : goal.nodes_json-node_json-requires
 nodes_json-node_json-requires t c =

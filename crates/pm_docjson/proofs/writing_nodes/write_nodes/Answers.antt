@@ -14,5 +14,5 @@ returns-clause-again c =
     let ts = c.args.content.now in
     let xs = c.children.result.now in
     λ can l.
-      let inner = nodes-read s xs c.in_ok-items.ensures.again (content-writable s ts xs c.children.ensures.tokens c.children.ensures.normal can) in
-      nodes-again s l ts xs c.children.ensures.tokens c.children.ensures.normal c.children.ensures.each inner
+    let inner = nodes-read s xs c.in_ok-items.ensures.again (content-writable s ts xs c.children.ensures.tokens c.children.ensures.normal can) in
+    nodes-again s l ts xs c.children.ensures.tokens c.children.ensures.normal c.children.ensures.each inner

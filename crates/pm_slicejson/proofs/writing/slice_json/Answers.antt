@@ -19,7 +19,7 @@ returns-clause-again c =
     let bound : length c.content-nodes.result.now < 2 ^ 32 = omega (arith, c.size-2.ensures.size, c.size-2.ensures.bound) in
     let within : length sl.content < 2 ^ 32 = subst (λ (ts : List Token). length ts < 2 ^ 32) c.content-nodes.ensures bound in
     λ can.
-      let inner : AreWritable s c.content-nodes.result.now = subst (AreWritable s) (sym c.content-nodes.ensures) can in
-      let again : node_list s Refused (nodes_written s sl.content) ≡ Ok sl.content =
-      subst (λ (ts : List Token). node_list s Refused (nodes_written s ts) ≡ Ok ts) c.content-nodes.ensures (c.in_ok-content.ensures.again inner Refused) in
-      filled-again s sl c.size.ensures.slice c.size.ensures.one within again (λ h. c.if-size-eq0.false (c.size.ensures.size ∙ h))
+    let inner : AreWritable s c.content-nodes.result.now = subst (AreWritable s) (sym c.content-nodes.ensures) can in
+    let again : node_list s Refused (nodes_written s sl.content) ≡ Ok sl.content =
+    subst (λ (ts : List Token). node_list s Refused (nodes_written s ts) ≡ Ok ts) c.content-nodes.ensures (c.in_ok-content.ensures.again inner Refused) in
+    filled-again s sl c.size.ensures.slice c.size.ensures.one within again (λ h. c.if-size-eq0.false (c.size.ensures.size ∙ h))
