@@ -1,4 +1,8 @@
 pub mod MarkedLaws
+pub mod SameTokens
+pub mod TwiceLaws
+pub mod DueLaws
+pub mod BackLaws
 pub mod MarkedWalk
 pub mod MarkedNodes
 pub mod NodeMarkLaws
