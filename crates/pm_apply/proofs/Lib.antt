@@ -3,6 +3,8 @@ pub mod SameTokens
 pub mod TwiceLaws
 pub mod DueLaws
 pub mod BackLaws
+pub mod NodeBackLaws
+pub mod AroundBackLaws
 pub mod MarkedWalk
 pub mod MarkedNodes
 pub mod NodeMarkLaws
