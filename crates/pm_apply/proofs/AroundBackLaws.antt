@@ -6,15 +6,16 @@ use Rattle.std.proofs.lemmas.List.{length-reverse}
 use Rattle.pm_tokens.specs.Tokens.{Token, Close}
 use Rattle.pm_tokens.specs.Scan.{Balanced, unclosed, unmet, is_whole, owned, plain, joins, part, depth_at, around}
 use Rattle.pm_tokens.specs.Schemas.{Schema, compatible}
-use Rattle.pm_tokens.specs.Slices.{Slice, is_slice, slice_size, spliced, cut, cut_around, closed_over, depths_fit}
+use Rattle.pm_tokens.specs.Slices.{Slice, is_slice, content_end, slice_size, slice_tokens, spliced, cut, cut_around, closed_over, depths_fit}
 use Rattle.pm_tokens.proofs.ScanLaws.{Whole, whole-of, unmet-append, unclosed-append, unmet-from, unclosed-whole, owned-append, plain-owned}
 use Rattle.pm_tokens.proofs.BalanceLaws.{balanced-whole, whole-balanced, joins-balanced}
 use Rattle.pm_tokens.proofs.SchemaLaws.{compatible-itself}
 use Rattle.pm_tokens.proofs.CutLaws.{around-length}
 use Rattle.pm_tokens.proofs.PartLaws.{Split, split-part, owned-front, owned-back, depth-from, depth-to, slice-is, cut-slice, cut-size, Pieces, pieces-at, pieces-length}
+use Rattle.pm_tokens.proofs.SpliceLaws.{part-front, part-rest}
 use Rattle.pm_tokens.proofs.Restored.{cut-within, Stands, stands}
 use Rattle.pm_meaning.proofs.ReplaceLaws.{of-depths}
-use Rattle.pm_slice.specs.Sides.{no_slice, or_none}
+use Rattle.pm_slice.specs.Sides.{sides, no_slice, or_none}
 
 no-tokens : (xs : List Token) → length xs ≡ 0 → xs ≡ []
 no-tokens [] h = refl
@@ -154,3 +155,57 @@ module _ (ts : List Token) (from gf gt to : ℕ) (b : Balanced ts) (h : from ≤
 
   pub around-one : cut_around ts from to gf gt ≡ or_none (cut_around ts from to gf gt)
   around-one = cut-one a (x ++ y) around-within
+
+  -- ---- the same for a slice that is the whole part
+
+  module _ (sl : Slice) (q : sl ≡ cut ts from to) (os oe : ℕ) (inner : List Token) (eo : os ≡ sl.open_start) (ee : oe ≡ sl.open_end) (ei : inner ≡ sl.content) where
+    as-whole : sl ≡ around_whole
+    as-whole = q ∙ whole-is
+
+    start-is : os ≡ n
+    start-is = eo ∙ ap (λ z. z.open_start) as-whole
+
+    end-is : oe ≡ e
+    end-is = ee ∙ ap (λ z. z.open_end) as-whole
+
+    inner-is : inner ≡ c
+    inner-is = ei ∙ ap (λ z. z.content) as-whole
+
+    pub out-within : (os + (gf - from)) + (gt - gf) ≤ length inner
+    out-within = omega (arith, gap-within, start-is, ap length inner-is)
+
+    pub out-fits : depths_fit inner (os + (gf - from)) ((os + (gf - from)) + (gt - gf)) no_slice ≡ true
+    out-fits =
+        ap (λ z. depths_fit z (os + (gf - from)) ((os + (gf - from)) + (gt - gf)) no_slice) inner-is
+        ∙ (ap (λ z. depths_fit c (z + (gf - from)) ((z + (gf - from)) + (gt - gf)) no_slice) start-is ∙ gap-fits)
+
+    out-piece : spliced inner (os + (gf - from)) ((os + (gf - from)) + (gt - gf)) no_slice ≡ spliced c (n + (gf - from)) (n + (gf - from) + (gt - gf)) no_slice
+    out-piece =
+        ap (λ z. spliced z (os + (gf - from)) ((os + (gf - from)) + (gt - gf)) no_slice) inner-is
+        ∙ ap (λ z. spliced c (z + (gf - from)) ((z + (gf - from)) + (gt - gf)) no_slice) start-is
+
+    pub out-joins : (s : Schema) → joins (compatible s) [] (spliced inner (os + (gf - from)) ((os + (gf - from)) + (gt - gf)) no_slice) ≡ true
+    out-joins s = ap (joins (compatible s) []) out-piece ∙ gap-joins s
+
+    pub out-is : (made : List Token) → made ≡ plain (spliced inner (os + (gf - from)) ((os + (gf - from)) + (gt - gf)) no_slice) → sides made os oe ≡ cut_around ts from to gf gt
+    out-is made k =
+        ap (λ z. sides z os oe) (k ∙ (ap plain out-piece ∙ gap-out))
+        ∙ (ap (λ z. sides piece z oe) start-is ∙ ap (sides piece n) end-is)
+
+    pub out-slice : (made : List Token) → made ≡ plain (spliced inner (os + (gf - from)) ((os + (gf - from)) + (gt - gf)) no_slice) → is_slice (sides made os oe) ≡ true
+    out-slice made k = ap is_slice (out-is made k) ∙ around-slice
+
+    pub out-one : (made : List Token) (made-slice : Slice) → made ≡ plain (spliced inner (os + (gf - from)) ((os + (gf - from)) + (gt - gf)) no_slice) → made-slice ≡ or_none (sides made os oe)
+        → made-slice ≡ cut_around ts from to gf gt
+    out-one made made-slice k h = h ∙ (ap or_none (out-is made k) ∙ sym around-one)
+
+-- ---- the two parts of a slice's own tokens
+
+module _ (sl : Slice) (h : is_slice sl ≡ true) (insert : ℕ) (i : insert ≤ slice_size sl) where
+  pub insert-first : part sl.open_start (sl.open_start + insert) sl.content ≡ take insert (slice_tokens sl)
+  insert-first = sym (part-front insert sl.open_start (content_end sl) sl.content (omega (arith, i, (slice-is sl h).within)))
+
+  pub insert-rest : part (sl.open_start + insert) (sl.open_start + slice_size sl) sl.content ≡ drop insert (slice_tokens sl)
+  insert-rest =
+      let e : sl.open_start + slice_size sl ≡ content_end sl = omega (arith, (slice-is sl h).within) in
+      ap (λ z. part (sl.open_start + insert) z sl.content) e ∙ sym (part-rest insert sl.open_start (content_end sl) sl.content)

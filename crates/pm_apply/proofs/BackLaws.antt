@@ -11,10 +11,12 @@ use Rattle.pm_meaning.specs.Outcomes.{outcome}
 use Rattle.pm_meaning.specs.Runs.{run_steps, close_run}
 use Rattle.pm_apply.specs.declared.marking.Marking.{Marking}
 use Rattle.pm_apply.specs.declared.marking.Marking.TheVariants.{Add, Remove}
+use Rattle.pm_apply.specs.declared.runs.Runs.{Runs}
+use Rattle.pm_apply.specs.declared.runs.Place.TheVariants.{Range, Node}
 use Rattle.pm_apply.specs.declared.marking.Reach.TheVariants.{Inline}
-use Rattle.pm_apply.specs.Markings.{marked_in, new_marks, opposite, range_step}
+use Rattle.pm_apply.specs.Markings.{marked_in, new_marks, opposite, range_step, node_step}
 use Rattle.pm_apply.specs.Backs.{marked_twice}
-use Rattle.pm_apply.specs.Walks.{due_all, run_after}
+use Rattle.pm_apply.specs.Walks.{due_all, run_after, Took, run_of, place_step}
 use Rattle.pm_apply.proofs.MarkedLaws.{read, read-is, read-length}
 use Rattle.pm_apply.proofs.MarkOutcomes.{range-checked}
 use Rattle.pm_apply.proofs.SameTokens.{checked-gives}
@@ -60,3 +62,25 @@ module _ (s : Schema) (m : Marking) (from to : ℕ) (d : Doc) (v : Valid s d) (h
     back-by-runs e =
         let z : 0 + length d.tokens ≡ length d.tokens = omega arith in
         sym (decided false e ∙ (steps-split s 0 None d.tokens after after-length ∙ ap (λ k. due_all s 0 None d.tokens after ++ close_run (run_after s 0 None d.tokens after) k) z))
+
+    -- the same for a walk that took all tokens
+    pub by-runs : same_tokens (marked_twice s m (opposite m) (d.kind ∷ []) from to d.tokens) d.tokens ≡ false
+        → (r₀ r₁ r₂ : Runs) (size : ℕ) → r₀.steps.items ≡ [] → r₀.run ≡ None → Took s 0 d.tokens after r₀ r₁
+        → r₂.steps.items ≡ r₁.steps.items ++ close_run (run_of r₁.run) size → size ≡ length d.tokens → r₂.steps.items ≡ inverse s (range_step m from to) d
+    by-runs e r₀ r₁ r₂ size a b w x n =
+        let none : run_of r₀.run ≡ None = ap run_of b in
+        let steps : r₁.steps.items ≡ due_all s 0 None d.tokens after =
+            w.steps ∙ (ap (λ z. z ++ due_all s 0 (run_of r₀.run) d.tokens after) a ∙ ap (λ z. due_all s 0 z d.tokens after) none) in
+        let run : run_of r₁.run ≡ run_after s 0 None d.tokens after = w.run ∙ ap (λ z. run_after s 0 z d.tokens after) none in
+        x ∙ (ap (λ z. z ++ close_run (run_of r₁.run) size) steps
+        ∙ (ap (λ z. due_all s 0 None d.tokens after ++ close_run z size) run
+        ∙ (ap (λ z. due_all s 0 None d.tokens after ++ close_run (run_after s 0 None d.tokens after) z) n ∙ back-by-runs e)))
+
+-- the step that does this to a range, as the step at a place
+pub place-range : (b : Marking) (from to : ℕ) → place_step (Range from to) b ≡ range_step b from to
+place-range (Add k) from to = refl
+place-range (Remove k) from to = refl
+
+pub place-node : (b : Marking) (pos : ℕ) → place_step (Node pos) b ≡ node_step b pos
+place-node (Add k) pos = refl
+place-node (Remove k) pos = refl

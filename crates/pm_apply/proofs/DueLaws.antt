@@ -136,3 +136,50 @@ module _ (s : Schema) where
         → run_after s p run (text_tokens m us) (text_tokens g us) ≡ next_run (differ m g) true (continues run m g) run p m g
     units-after p run [] h = absurd (omega (arith, h))
     units-after p run (u ∷ us) h = rest-after p run us (differ m g) (continues run m g) refl refl
+
+  -- ---- what a walk took
+
+  -- these are due at the tokens, and this is the run after them
+  pub record Due (p : ℕ) (run last : Option Run) (ts ns : List Token) (before after : List Step) : Type 0 where
+    pub steps : after ≡ before ++ due_all s p run ts ns
+    pub end : last ≡ run_after s p run ts ns
+
+  nil-end : (xs : List Step) → xs ++ [] ≡ xs
+  nil-end [] = refl
+  nil-end (x ∷ xs) = ap (λ z. x ∷ z) (nil-end xs)
+
+  pub due-start : (p : ℕ) (run : Option Run) (a : List Step) → Due p run run [] [] a a
+  due-start p run a = record { steps = sym (nil-end a); end = refl }
+
+  pub due-both : (p q : ℕ) (r₀ r₁ r₂ : Option Run) (xs xs' ys ys' : List Token) (a b c : List Step) → length xs' ≡ length xs → q ≡ p + length xs
+      → Due p r₀ r₁ xs xs' a b → Due q r₁ r₂ ys ys' b c → Due p r₀ r₂ (xs ++ ys) (xs' ++ ys') a c
+  due-both p q r₀ r₁ r₂ xs xs' ys ys' a b c l e v w =
+      let r = run_after s p r₀ xs xs' in
+      let n = p + length xs in
+      record {
+        steps =
+            w.steps ∙ (ap (λ z. z ++ due_all s q r₁ ys ys') v.steps ∙ (ap (λ z. (a ++ due_all s p r₀ xs xs') ++ due_all s z r₁ ys ys') e
+            ∙ (ap (λ z. (a ++ due_all s p r₀ xs xs') ++ due_all s n z ys ys') v.end
+            ∙ (append_assoc a (due_all s p r₀ xs xs') (due_all s n r ys ys') ∙ ap (λ z. a ++ z) (sym (due-append p r₀ xs xs' ys ys' l))))));
+        end = w.end ∙ (ap (λ z. run_after s z r₁ ys ys') e ∙ (ap (λ z. run_after s n z ys ys') v.end ∙ sym (after-append p r₀ xs xs' ys ys' l)));
+      }
+
+  pub due-units : (m g : Marks) (p : ℕ) (run last : Option Run) (us : List ℕ) (a b : List Step) → 0 < length us
+      → b ≡ a ++ due (differ m g) true (continues run m g) run p m g → last ≡ next_run (differ m g) true (continues run m g) run p m g
+      → Due p run last (text_tokens m us) (text_tokens g us) a b
+  due-units m g p run last us a b h e f =
+      record { steps = e ∙ ap (λ z. a ++ z) (sym (units-due m g p run us h)); end = f ∙ sym (units-after m g p run us h) }
+
+  pub due-token : (t n : Token) (takes : Bool) (p : ℕ) (run last : Option Run) (a b : List Step) → takes ≡ takes_marks s t
+      → b ≡ a ++ due (differ (marks_of t) (marks_of n)) takes (continues run (marks_of t) (marks_of n)) run p (marks_of t) (marks_of n)
+      → last ≡ next_run (differ (marks_of t) (marks_of n)) takes (continues run (marks_of t) (marks_of n)) run p (marks_of t) (marks_of n)
+      → Due p run last (t ∷ []) (n ∷ []) a b
+  due-token t n takes p run last a b k e f =
+      let old = marks_of t in
+      let new = marks_of n in
+      record {
+        steps =
+            e ∙ (ap (λ z. a ++ due (differ old new) z (continues run old new) run p old new) k
+            ∙ ap (λ z. a ++ z) (sym (nil-end (due_at p run t n))));
+        end = f ∙ ap (λ z. next_run (differ old new) z (continues run old new) run p old new) k;
+      }

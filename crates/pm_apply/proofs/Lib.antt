@@ -5,6 +5,9 @@ pub mod DueLaws
 pub mod BackLaws
 pub mod NodeBackLaws
 pub mod AroundBackLaws
+pub mod RestoredWalk
+pub mod TakenWalk
+pub mod FirstLost
 pub mod MarkedWalk
 pub mod MarkedNodes
 pub mod NodeMarkLaws

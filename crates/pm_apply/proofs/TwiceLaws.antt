@@ -14,7 +14,7 @@ use Rattle.pm_meaning.specs.Inverses.{same_token, same_tokens}
 use Rattle.pm_apply.specs.declared.marking.Marking.{Marking}
 use Rattle.pm_apply.specs.declared.marking.Reach.TheVariants.{Inline}
 use Rattle.pm_apply.specs.Markings.{marked_in, new_marks}
-use Rattle.pm_apply.specs.Backs.{marked_twice}
+use Rattle.pm_apply.specs.Backs.{marked_twice, twice}
 use Rattle.pm_apply.proofs.MarkedLaws.{read, read-is, read-nodes, read-node, read-length, in_range, remarked}
 use Rattle.pm_apply.proofs.SameTokens.{and-no, and-yes-right, open-same, leaf-same, unit-same, token-itself, tokens-itself, same-append}
 
@@ -77,31 +77,27 @@ module _ (f : ℕ → Token → Marks → Marks) where
 -- ---- one change after another
 
 module _ (s : Schema) (m b : Marking) where
-  -- the marks that come of both changes
-  abbrev pub twice : ℕ → Token → Marks → Marks
-  twice parent t old = new_marks s b Inline parent t (new_marks s m Inline parent t old)
-
-  remarked-twice : (ps : List ℕ) (t : Token) → remarked (new_marks s b Inline) ps (remarked (new_marks s m Inline) ps t) ≡ remarked twice ps t
+  remarked-twice : (ps : List ℕ) (t : Token) → remarked (new_marks s b Inline) ps (remarked (new_marks s m Inline) ps t) ≡ remarked (twice s m b) ps t
   remarked-twice ps (Open k a n) = refl
   remarked-twice ps Close = refl
   remarked-twice ps (Leaf k a n) = refl
   remarked-twice ps (CodeUnit u n) = refl
 
-  in-twice : (from to : ℕ) (ps : List ℕ) (t : Token) → in_range (new_marks s b Inline) from to ps (in_range (new_marks s m Inline) from to ps t) ≡ in_range twice from to ps t
+  in-twice : (from to : ℕ) (ps : List ℕ) (t : Token) → in_range (new_marks s b Inline) from to ps (in_range (new_marks s m Inline) from to ps t) ≡ in_range (twice s m b) from to ps t
   in-twice zero zero ps t = refl
   in-twice zero (suc to) ps t = remarked-twice ps t
   in-twice (suc from) to ps t = refl
 
-  read-twice : (ps : List ℕ) (from to : ℕ) (ts : List Token) → read (new_marks s b Inline) ps from to (read (new_marks s m Inline) ps from to ts) ≡ read twice ps from to ts
+  read-twice : (ps : List ℕ) (from to : ℕ) (ts : List Token) → read (new_marks s b Inline) ps from to (read (new_marks s m Inline) ps from to ts) ≡ read (twice s m b) ps from to ts
   read-twice ps from to [] = refl
   read-twice ps from to (t ∷ ts) =
       let f = new_marks s m Inline in
       let g = new_marks s b Inline in
       ap (λ z. z ∷ read g (under ps (in_range f from to ps t)) (from - 1) (to - 1) (read f (under ps t) (from - 1) (to - 1) ts)) (in-twice from to ps t)
-      ∙ (ap (λ z. in_range twice from to ps t ∷ read g z (from - 1) (to - 1) (read f (under ps t) (from - 1) (to - 1) ts)) (under-in f from to ps ps t)
-      ∙ ap (λ z. in_range twice from to ps t ∷ z) (read-twice (under ps t) (from - 1) (to - 1) ts))
+      ∙ (ap (λ z. in_range (twice s m b) from to ps t ∷ read g z (from - 1) (to - 1) (read f (under ps t) (from - 1) (to - 1) ts)) (under-in f from to ps ps t)
+      ∙ ap (λ z. in_range (twice s m b) from to ps t ∷ z) (read-twice (under ps t) (from - 1) (to - 1) ts))
 
-  pub twice-is : (ps : List ℕ) (from to : ℕ) (ts : List Token) → from ≤ to → marked_twice s m b ps from to ts ≡ read twice ps from to ts
+  pub twice-is : (ps : List ℕ) (from to : ℕ) (ts : List Token) → from ≤ to → marked_twice s m b ps from to ts ≡ read (twice s m b) ps from to ts
   twice-is ps from to ts h =
       let f = new_marks s m Inline in
       let g = new_marks s b Inline in

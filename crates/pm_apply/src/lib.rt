@@ -12,7 +12,9 @@ mod node_back;
 mod range_back;
 mod replace;
 mod replace_back;
+mod restoring;
 mod runs;
 mod sides;
+mod taking;
 
 pub use change::DocChange;

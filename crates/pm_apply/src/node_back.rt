@@ -43,11 +43,12 @@ pub fn node_back(
     let restored = back.change(alloc, schema, &new)?;
     let place = Place::Node { pos };
     let mut steps = Vec::new(alloc);
-    if restored.same(old) {
+    let same = restored.same(old);
+    if same {
         push_step(alloc, &mut steps, place, &back)?;
-    } else {
-        give_back(alloc, &mut steps, place, old, &new)?;
+        return Ok(steps);
     }
+    give_back(alloc, &mut steps, place, old, &new)?;
     Ok(steps)
 }
 

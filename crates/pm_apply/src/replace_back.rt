@@ -1,9 +1,12 @@
 //! The steps that take a replace or a replaceAround back.
-ghost use Rattle.std.specs.Prelude.{◌≡◌, ◌≤◌, ◌&&◌, true, length, take, drop, IfOk};
-ghost use Rattle.pm_tokens.specs.Scan.{closes_then_opens, is_whole, part};
-ghost use Rattle.pm_tokens.specs.Slices.{cut_around, slice_size, slice_tokens};
+ghost use Rattle.std.specs.Prelude.{◌≡◌, ◌≤◌, ◌&&◌, true, [], length, take, drop, IfOk};
+ghost use Rattle.pm_tokens.specs.Scan.{closes_then_opens, is_whole, joins, part, plain};
+ghost use Rattle.pm_tokens.specs.Schemas.{compatible};
+ghost use Rattle.pm_tokens.specs.Slices.{cut_around, depths_fit, slice_size, slice_tokens, spliced};
 ghost use Rattle.pm_meaning.specs.Inverses.{around_back, replace_back};
 ghost use Rattle.pm_node.specs.Documents.{doc_with};
+ghost use Rattle.pm_schema.specs.Documents.{documents_of};
+ghost use Rattle.pm_slice.specs.Sides.{no_slice};
 ghost use Rattle.pm_step.specs.Steps.{step_of};
 ghost use Rattle.pm_apply.specs.Around.{IsPlaced};
 
@@ -103,16 +106,37 @@ fn cut_around(
 {
     let _ = content.size();
     let cut = cut_content(alloc, content, ends.from, ends.to)?;
-    let start = cut.open_start() + (ends.gap_from - ends.from);
+    let open_start = cut.open_start();
+    let open_end = cut.open_end();
+    let start = open_start + (ends.gap_from - ends.from);
     let end = start + (ends.gap_to - ends.gap_from);
-    let none = Slice::empty(alloc);
-    let made = match splice(alloc, schema, cut.content(), start, end, &none) {
-        Ok(made) => made,
-        Err(Refused::NoMemory) => return Err(AllocError),
-        Err(Refused::Join) => unreachable!(),
-    };
-    match Slice::new(alloc, made, cut.open_start(), cut.open_end()) {
+    let inner = cut.content();
+    let made = without(alloc, schema, inner, start, end)?;
+    match Slice::new(alloc, made, open_start, open_end) {
         Ok(slice) => Ok(slice),
         Err(_) => unreachable!(),
+    }
+}
+
+/// A content without the tokens start..end.
+fn without(
+    alloc: Global,
+    schema: &Schema,
+    content: &Fragment,
+    start: usize,
+    end: usize,
+) -> Result<Fragment, AllocError>
+    requires order { start ≤ end }
+    requires within { end ≤ length content.now }
+    requires fits { depths_fit content.now start end no_slice ≡ true }
+    requires joins { joins (compatible (documents_of schema.now.spec)) [] (spliced content.now start end no_slice) ≡ true }
+    ensures { IfOk result (λ f. f ≡ plain (spliced content.now start end no_slice)) }
+{
+    let _ = content.size();
+    let none = Slice::empty(alloc);
+    match splice(alloc, schema, content, start, end, &none) {
+        Ok(made) => Ok(made),
+        Err(Refused::NoMemory) => Err(AllocError),
+        Err(Refused::Join) => unreachable!(),
     }
 }

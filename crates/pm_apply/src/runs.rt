@@ -1,10 +1,12 @@
 //! The steps that give the marks of tokens back, run by run.
-ghost use Rattle.std.specs.Prelude.{◌≡◌, ◌∷◌, ◌++◌, [], not, None, IfOk, OnOk};
+ghost use Rattle.std.specs.Prelude.{◌≡◌, ◌∷◌, ◌++◌, [], not, List, length, None, IfOk, OnOk};
 ghost use Rattle.pm_attrs.specs.Attrs.{same_attrs};
 ghost use Rattle.pm_marks.specs.Sets.{same_marks};
+ghost use Rattle.pm_tokens.specs.Tokens.{Token};
+ghost use Rattle.pm_tokens.specs.Schemas.{Schema};
 ghost use Rattle.pm_meaning.specs.Runs.{close_run, continues, due, next_run};
 ghost use Rattle.pm_step.specs.Steps.{step_of};
-ghost use Rattle.pm_apply.specs.Walks.{given_back, place_step, run_of};
+ghost use Rattle.pm_apply.specs.Walks.{Took, given_back, place_step, run_of};
 
 use crate::change::DocChange;
 use crate::marking::Marking;
@@ -168,6 +170,16 @@ impl Runs {
             }
             None => Ok(()),
         }
+    }
+
+    /// Takes `count` tokens from the position on, which stay as they are: they end the run.
+    pub fn pass(&mut self, alloc: Global, at: usize, count: usize) -> Result<(), AllocError>
+        ensures { OnOk result ((s : Schema) (ts : List Token) → length ts ≡ count → Took s at ts ts self.old self.new) }
+    {
+        if count == 0 {
+            return Ok(());
+        }
+        self.close(alloc, at)
     }
 
     /// Whether a token with these sets goes on the run.

@@ -1,0 +1,83 @@
+use Rattle.std.proofs.Common.{◌≡◌, ℕ, ◌+◌, ◌-◌, ◌*◌, ◌<◌, ◌≤◌, ◌++◌, [], ◌∷◌, length, arith, sym, ap, ◌∙◌, subst, refl, length-append}
+use Rattle.std.specs.Arc.{arc_value}
+use Rattle.std.proofs.lemmas.Result.{on_ok_weaker}
+use Rattle.pm_tokens.specs.Tokens.{Leaf, Close}
+use Rattle.pm_tokens.specs.Scan.{Balanced}
+use Rattle.pm_schema.specs.Documents.{documents_of}
+use Rattle.pm_node.specs.declared.node.Body.TheVariants.{Children}
+use Rattle.pm_node.specs.Trees.{node_tokens}
+use Rattle.pm_node.proofs.TreeLaws.{node_tokens_at}
+use Rattle.pm_node.proofs.WalkLaws.{child-within}
+use Rattle.pm_apply.specs.Markings.{AreKnown}
+use Rattle.pm_apply.proofs.KnownLaws.{known-child, known-inner}
+use Rattle.pm_apply.proofs.MarkedNodes.{sort-is, and-yes}
+use Rattle.pm_apply.proofs.TakenWalk.{taken-start, taken-order, taken-more, taken-room, taken-end, took-none, took-past, took-leaf, took-node, took-text}
+use Rattle.pm_apply.proofs.runs.Runs.+take.Goals as goal
+
+pub take_content-loop-child-init : goal.take_content-loop-child-init
+take_content-loop-child-init t c =
+    taken-start (documents_of c.args.schema.now.spec) c.args.marking.now c.args.parent c.children-child-items.result.now c.args.at c.args.from c.args.to c.args.self.now c.requires.order
+
+pub take_content-take_child-requires : goal.take_content-take_child-requires
+take_content-take_child-requires t c =
+    let s = documents_of c.args.schema.now.spec in
+    let xs = c.children-child-items.result.now in
+    let all = c.children-child-items.ensures.tokens in
+    let count = length c.args.schema.now.spec.nodes in
+    let d : 2 * length c.args.content.now + 1 ≡ t = c.decreases in
+    let w = child-within xs _ c.child-item.result c.loop-child-test.true c.child-item.is in
+    let n = ap (λ m. length (node_tokens m)) c.deref-2.ensures in
+    let g : 2 * length (node_tokens c.deref-2.result.now) < t = omega (arith, d, w, n, ap length all) in
+    let room = taken-room s c.args.marking.now c.args.parent xs c.args.at c.args.from c.args.to c.args.self.now c.requires.order _ _ _ _ c.child-item.result c.loop-child.self c.loop-child.invariant c.loop-child-test.true c.child-item.is in
+    (
+      g,
+      (taken-order s c.args.marking.now c.args.parent xs c.args.at c.args.from c.args.to c.args.self.now c.requires.order _ _ _ _ c.loop-child.self c.loop-child.invariant,
+      (c.requires.parent,
+      (subst (λ m. AreKnown count (node_tokens m)) (sym c.deref-2.ensures)
+      (known-child count xs _ c.child-item.result c.loop-child-test.true c.child-item.is (subst (AreKnown count) (sym all) c.requires.known)),
+      omega (arith, room, n, c.requires.room, ap length all)))),
+    )
+
+pub take_content-overflow_add-place : goal.take_content-overflow_add-place
+take_content-overflow_add-place t c =
+    let s = documents_of c.args.schema.now.spec in
+    let xs = c.children-child-items.result.now in
+    let all = c.children-child-items.ensures.tokens in
+    let room = taken-room s c.args.marking.now c.args.parent xs c.args.at c.args.from c.args.to c.args.self.now c.requires.order _ _ _ _ c.child-item.result c.loop-child.self c.loop-child.invariant c.loop-child-test.true c.child-item.is in
+    omega (arith, room, c.size-size.ensures.size, ap (λ m. length (node_tokens m)) c.deref.ensures, c.requires.room, ap length all)
+
+pub take_content-loop-child-preserved : goal.take_content-loop-child-preserved
+take_content-loop-child-preserved t c =
+    let d = c.deref.ensures in
+    taken-more (documents_of c.args.schema.now.spec) c.args.marking.now c.args.parent c.children-child-items.result.now c.args.at c.args.from c.args.to c.args.self.now c.requires.order
+    _ _ _ _ c.size-size.result _ _ _ c.deref-2.result.now c.child-item.result c.loop-child.self c.take_child.new.self c.loop-child.invariant c.loop-child-test.true c.child-item.is c.deref-2.ensures
+    (subst (λ n. Balanced (node_tokens n)) d c.size-size.ensures.whole) (c.size-size.ensures.size ∙ ap (λ n. length (node_tokens n)) d)
+    c.in_ok-take_child.ensures refl c.saturating_sub-start.ensures c.saturating_sub-end.ensures
+
+pub take_content-returns : goal.take_content-returns
+take_content-returns t c =
+    taken-end (documents_of c.args.schema.now.spec) c.args.marking.now c.args.parent c.children-child-items.result.now c.args.at c.args.from c.args.to c.args.self.now c.requires.order
+    _ _ _ _ c.loop-child.self c.args.content.now c.loop-child.invariant c.loop-child-test.false c.children-child-items.ensures.tokens
+
+pub take_child-returns-then-to-from : goal.take_child-returns-then-to-from
+take_child-returns-then-to-from t c =
+    let s = documents_of c.args.schema.now.spec in
+    let ts = node_tokens c.args.node.now in
+    on_ok_weaker c.pass.result
+    (λ e. took-none s c.args.marking.now c.args.parent c.args.at c.args.from c.args.to c.requires.order ts c.args.self.now c.pass.new.self c.if-to-from.true (e s ts (sym c.size-size.ensures.size)))
+    c.pass.ensures
+
+pub take_child-returns-then-size-from : goal.take_child-returns-then-size-from
+take_child-returns-then-size-from t c = ?
+
+pub take_child-take_content-requires : goal.take_child-take_content-requires
+take_child-take_content-requires t c = ?
+
+pub take_child-returns-in_ok-token-in-Text : goal.take_child-returns-in_ok-token-in-Text
+take_child-returns-in_ok-token-in-Text t c = ?
+
+pub take_child-returns-in_ok-new-in-Leaf : goal.take_child-returns-in_ok-new-in-Leaf
+take_child-returns-in_ok-new-in-Leaf t c = ?
+
+pub take_child-returns-in_ok-take_content-in-Children : goal.take_child-returns-in_ok-take_content-in-Children
+take_child-returns-in_ok-take_content-in-Children t c = ?
