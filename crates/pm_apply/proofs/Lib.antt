@@ -8,6 +8,7 @@ pub mod AroundBackLaws
 pub mod RestoredWalk
 pub mod TakenWalk
 pub mod FirstLost
+pub mod InverseLaws
 pub mod MarkedWalk
 pub mod MarkedNodes
 pub mod NodeMarkLaws

@@ -1,8 +1,8 @@
 -- The inverse of a step that changes the marks of one node: the one step, or the steps that give the marks back.
-use Rattle.std.specs.Prelude.{◌≡◌, ℕ, ◌≤◌, Bool, true, false, cond, ◌&&◌, not, nat_le, List, [], ◌∷◌, ◌++◌, length, take, drop, Some, None, Result, Ok, Err}
-use Rattle.std.proofs.Common.{refl, inl, inr, ap, sym, ◌∙◌, subst, arith, length-append, length-take}
-use Rattle.std.proofs.lemmas.Bool.{le-leb, cases_lt}
-use Rattle.std.proofs.lemmas.List.{take_at, drop_at, drop_all, take-append-drop}
+use Rattle.std.specs.Prelude.{◌≡◌, ℕ, ◌≤◌, Bool, true, false, cond, ◌&&◌, not, nat_le, List, [], ◌∷◌, ◌++◌, length, take, drop, Some, Result, Ok, Err}
+use Rattle.std.proofs.Common.{refl, ap, sym, ◌∙◌, subst, arith, length-append, length-take}
+use Rattle.std.proofs.lemmas.Bool.{le-leb}
+use Rattle.std.proofs.lemmas.List.{take_at, drop_at, take-append-drop}
 use Rattle.pm_attrs.specs.Attrs.{same_attrs}
 use Rattle.pm_marks.specs.Sets.{same_marks}
 use Rattle.pm_tokens.specs.Tokens.{Marks, Token, Open, Close, Leaf, CodeUnit, Doc, with_tokens}
@@ -158,10 +158,3 @@ module _ (s : Schema) (m b : Marking) (pos : ℕ) (d : Doc) (old : Marks) (v : V
 
     pub node-by-marks : same_marks same_attrs (g (f old)) old ≡ false → node_steps pos old (f old) ≡ inverse s (node_step m pos) d
     node-by-marks k = sym (decided false k)
-
--- a node stands within the tokens
-pub stands-within : (ts : List Token) (pos : ℕ) (old : Marks) → marks_first (drop pos ts) ≡ Some old → pos ≤ length ts
-stands-within ts pos old h = elim (cases_lt pos (length ts)) [
-  | inl p ↦ omega (arith, p)
-  | inr q ↦ (let e : marks_first (drop pos ts) ≡ None = ap marks_first (drop_all pos ts q) in absurd (cc))
-]

@@ -1,8 +1,9 @@
 -- A walk over the children of a content that takes their tokens into runs.
-use Rattle.std.specs.Prelude.{◌≡◌, ℕ, ◌+◌, ◌-◌, ◌≤◌, ◌<◌, Bool, true, List, [], ◌∷◌, ◌++◌, length, take, drop, get_or, min}
+use Rattle.std.specs.Prelude.{◌≡◌, ℕ, ◌+◌, ◌-◌, ◌≤◌, ◌<◌, Bool, true, List, [], ◌∷◌, ◌++◌, length, take, drop, get_or, min, None, Result, Ok, Err, OnOk}
 use Rattle.std.specs.declared.sync.Arc.{Arc}
 use Rattle.std.specs.Arc.{arc_value}
-use Rattle.std.proofs.Common.{zero, suc, refl, ap, sym, ◌∙◌, subst, arith, append_assoc, length-append, length-take, length-drop}
+use Rattle.std.proofs.Common.{zero, suc, inl, inr, refl, ap, sym, ◌∙◌, subst, arith, append_assoc, length-append, length-take, length-drop}
+use Rattle.std.proofs.lemmas.Bool.{cases_lt}
 use Rattle.std.proofs.lemmas.List.{take_all, take-append-drop}
 use Rattle.pm_tokens.specs.Tokens.{Marks, Token, Open, Close, Leaf, CodeUnit}
 use Rattle.pm_tokens.specs.Kids.{text_tokens}
@@ -17,7 +18,7 @@ use Rattle.pm_node.specs.Trees.{node_tokens, list_tokens}
 use Rattle.pm_node.proofs.TreeLaws.{node_tokens_at, length-text_tokens, text_tokens-append}
 use Rattle.pm_node.proofs.WalkLaws.{front, front-more, list-split}
 use Rattle.pm_meaning.specs.Marked.{takes_marks}
-use Rattle.pm_meaning.specs.Runs.{continues, due, next_run}
+use Rattle.pm_meaning.specs.Runs.{close_run, continues, due, next_run}
 use Rattle.pm_apply.specs.declared.runs.Runs.{Runs}
 use Rattle.pm_apply.specs.declared.marking.Marking.{Marking}
 use Rattle.pm_apply.specs.declared.marking.Reach.TheVariants.{Inline}
@@ -25,7 +26,12 @@ use Rattle.pm_apply.specs.Markings.{marked_in, new_marks}
 use Rattle.pm_apply.specs.Walks.{Took, run_of}
 use Rattle.pm_apply.proofs.MarkedLaws.{read, read-is, read-nodes, read-node, read-length, in_range}
 use Rattle.pm_apply.proofs.MarkedNodes.{marked-none, marked-past, marked-text, marked-leaf}
-use Rattle.pm_apply.proofs.DueLaws.{differ, Due, due-start, due-both, due-units, due-token}
+use Rattle.pm_apply.proofs.DueLaws.{differ, due-same, after-same, Due, due-start, due-both, due-units, due-token}
+
+-- two facts on an Ok value, together
+pub on-both : {T E P Q R : Type 0} (r : Result T E) → (P → Q → R) → OnOk r P → OnOk r Q → OnOk r R
+on-both (Ok x) f p q = f p q
+on-both (Err e) f p q = p
 
 module _ (s : Schema) where
   abbrev taken : ℕ → List Token → List Token → Runs → Runs → Type 0
@@ -42,6 +48,16 @@ module _ (s : Schema) where
   took-both p q xs xs' ys ys' r₀ r₁ r₂ l e v w =
       of-due p (xs ++ ys) (xs' ++ ys') r₀ r₂
       (due-both s p q (run_of r₀.run) (run_of r₁.run) (run_of r₂.run) xs xs' ys ys' r₀.steps.items r₁.steps.items r₂.steps.items l e (to-due p xs xs' r₀ r₁ v) (to-due q ys ys' r₁ r₂ w))
+
+  -- tokens that stay, and end the run
+  pub passed : (at count : ℕ) (old new : Runs) → (count ≡ 0 → ⊥) → new.steps.items ≡ old.steps.items ++ close_run (run_of old.run) at → new.run ≡ None
+      → (ts : List Token) → length ts ≡ count → Took s at ts ts old new
+  passed at count old new some x y ts n =
+      let l : 0 < length ts = elim (cases_lt 0 (length ts)) [ inl p ↦ p | inr p ↦ absurd (some (omega (arith, p, n))) ] in
+      record {
+        steps = x ∙ ap (λ z. old.steps.items ++ z) (sym (due-same s at (run_of old.run) ts l));
+        run = ap run_of y ∙ sym (after-same s at (run_of old.run) ts l);
+      }
 
   module _ (m : Marking) (parent : ℕ) where
     abbrev f : ℕ → Token → Marks → Marks

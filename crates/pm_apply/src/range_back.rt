@@ -1,7 +1,8 @@
 //! The steps that give the marks of a range back.
-ghost use Rattle.std.specs.Prelude.{◌≡◌, ◌≤◌, false, length, IfOk};
-ghost use Rattle.pm_tokens.specs.Scan.{parts_pair};
+ghost use Rattle.std.specs.Prelude.{◌≡◌, IfOk, Ok};
+ghost use Rattle.pm_tokens.specs.Tokens.{Doc};
 ghost use Rattle.pm_tokens.specs.Faults.{Valid};
+ghost use Rattle.pm_meaning.specs.Outcomes.{outcome};
 ghost use Rattle.pm_meaning.specs.Inverses.{inverse};
 ghost use Rattle.pm_node.specs.Documents.{doc_with};
 ghost use Rattle.pm_schema.specs.Documents.{documents_of};
@@ -27,10 +28,7 @@ pub fn range_back(
     marking: &Marking,
 ) -> Result<Vec<DocChange>, AllocError>
     requires good { Valid (documents_of schema.now.spec) (doc_with top.now content.now) }
-    requires order { from ≤ to }
-    requires within { to ≤ length content.now }
-    requires start { parts_pair content.now from ≡ false }
-    requires end { parts_pair content.now to ≡ false }
+    requires applies { ((next : Doc) × (outcome (documents_of schema.now.spec) (range_step marking.now from to) (doc_with top.now content.now) ≡ Ok next)) }
     ensures { IfOk result (λ v. v.items ≡ inverse (documents_of schema.now.spec) (range_step marking.now from to) (doc_with top.now content.now)) }
 {
     let size = content.size();

@@ -32,13 +32,13 @@ restores-restores_in-requires t c =
     let count = length c.args.schema.now.spec.nodes in
     let d : 2 * length c.args.content.now + 1 ≡ t = c.decreases in
     let w = child-within xs _ c.child-item.result c.loop-child-test.true c.child-item.is in
-    let n = ap (λ m. length (node_tokens m)) c.deref-2.ensures in
-    let g : 2 * length (node_tokens c.deref-2.result.now) < t = omega (arith, d, w, n, ap length all) in
+    let n = ap (λ m. length (node_tokens m)) c.deref-in-loop-child.ensures in
+    let g : 2 * length (node_tokens c.deref-in-loop-child.result.now) < t = omega (arith, d, w, n, ap length all) in
     (
       g,
       (restored-order s c.args.marking.now c.args.back.now c.args.parent xs c.args.from c.args.to c.requires.order _ _ _ c.loop-child.invariant,
       (c.requires.parent,
-      subst (λ m. AreKnown count (node_tokens m)) (sym c.deref-2.ensures)
+      subst (λ m. AreKnown count (node_tokens m)) (sym c.deref-in-loop-child.ensures)
       (known-child count xs _ c.child-item.result c.loop-child-test.true c.child-item.is (subst (AreKnown count) (sym all) c.requires.known)))),
     )
 
@@ -46,7 +46,7 @@ pub restores-loop-child-preserved : goal.restores-loop-child-preserved
 restores-loop-child-preserved t c =
     let d = c.deref.ensures in
     restored-more (documents_of c.args.schema.now.spec) c.args.marking.now c.args.back.now c.args.parent c.children-child-items.result.now c.args.from c.args.to c.requires.order
-    _ _ _ c.size-size.result _ _ c.deref-2.result.now c.child-item.result c.in_ok-kept.kept c.loop-child.invariant c.loop-child-test.true c.child-item.is c.deref-2.ensures
+    _ _ _ c.size-size.result _ _ c.deref-in-loop-child.result.now c.child-item.result c.in_ok-kept.kept c.loop-child.invariant c.loop-child-test.true c.child-item.is c.deref-in-loop-child.ensures
     (subst (λ n. Balanced (node_tokens n)) d c.size-size.ensures.whole) (c.size-size.ensures.size ∙ ap (λ n. length (node_tokens n)) d)
     c.in_ok-kept.ensures c.if-not-kept.false c.saturating_sub-start.ensures c.saturating_sub-end.ensures
 
@@ -54,7 +54,7 @@ pub restores-returns-then-not-kept : goal.restores-returns-then-not-kept
 restores-returns-then-not-kept t c =
     restored-lost (documents_of c.args.schema.now.spec) c.args.marking.now c.args.back.now c.args.parent c.children-child-items.result.now c.args.from c.args.to c.requires.order
     c.args.content.now c.children-child-items.ensures.tokens
-    _ _ _ c.deref-2.result.now c.child-item.result c.in_ok-kept.kept c.loop-child.invariant c.loop-child-test.true c.child-item.is c.deref-2.ensures
+    _ _ _ c.deref-in-loop-child.result.now c.child-item.result c.in_ok-kept.kept c.loop-child.invariant c.loop-child-test.true c.child-item.is c.deref-in-loop-child.ensures
     (subst (λ n. Balanced (node_tokens n)) c.deref.ensures c.size-size.ensures.whole)
     c.in_ok-kept.ensures c.if-not-kept.true
 
@@ -93,20 +93,20 @@ restores_in-returns-in-Leaf t c =
     let both = sort-twice s c.args.marking.now c.args.back.now c.args.parent c.of-sort.result (Leaf n.kind n.attrs n.marks) n.marks
         (c.of-sort.ensures.takes ∙ and-yes (s.is_inline n.kind) (s.is_atom n.kind)) c.of-sort.ensures.inline c.of-sort.ensures.node in
     if_ok-then (λ (k : Bool). k ≡ same_marks same_attrs (sort_marks s b Inline c.of-sort.result c.args.parent (sort_marks s m Inline c.of-sort.result c.args.parent n.marks)) n.marks)
-    (λ (k : Bool). (ps : List ℕ) → k ≡ are_back s m b (c.args.parent ∷ ps) c.args.from c.args.to (node_tokens n)) c.restores_marks.result
+    (λ (k : Bool). (ps : List ℕ) → k ≡ are_back s m b (c.args.parent ∷ ps) c.args.from c.args.to (node_tokens n)) c.restores_marks-in-Leaf.result
     (λ k e. back-leaf s c.args.marking.now c.args.back.now c.args.parent c.args.from c.args.to c.requires.order n k
         c.in-Leaf.is (omega (arith, c.if-to-from.false)) (omega (arith, c.if-size-from.false, c.size-size.ensures.size))
         (e ∙ ap (λ z. same_marks same_attrs z n.marks) both))
-    c.restores_marks.ensures
+    c.restores_marks-in-Leaf.ensures
 
 pub restores_in-returns-then-not-kept : goal.restores_in-returns-then-not-kept
 restores_in-returns-then-not-kept t c =
     let z : c.args.from ≡ 0 = elim (cases_lt 0 c.args.from) [
-      | inl p ↦ (let k = c.in_ok-kept.ensures.inside p in absurd (cc))
+      | inl p ↦ (let k = c.in_ok-kept-in-Children.ensures.inside p in absurd (cc))
       | inr p ↦ omega (arith, p)
     ] in
     back-lost (documents_of c.args.schema.now.spec) c.args.marking.now c.args.back.now c.args.parent c.args.from c.args.to c.requires.order c.args.node.now c.in-Children.inner
-    c.in-Children.is c.size.ensures.whole (omega (arith, c.if-to-from.false)) z (sym (c.in_ok-kept.ensures.start z) ∙ c.if-not-kept.true)
+    c.in-Children.is c.size.ensures.whole (omega (arith, c.if-to-from.false)) z (sym (c.in_ok-kept-in-Children.ensures.start z) ∙ c.if-not-kept.true)
 
 pub restores_in-restores-requires : goal.restores_in-restores-requires
 restores_in-restores-requires t c =
@@ -130,5 +130,5 @@ restores_in-returns-else-not-kept t c =
     (λ (k : Bool). (ps : List ℕ) → k ≡ are_back s m b (c.args.parent ∷ ps) c.args.from c.args.to (node_tokens n)) c.restores.result
     (λ k e. back-inner (documents_of c.args.schema.now.spec) c.args.marking.now c.args.back.now c.args.parent c.args.from c.args.to c.requires.order c.args.node.now c.in-Children.inner
         c.in-Children.is c.size.ensures.whole (omega (arith, c.if-to-from.false)) k c.saturating_sub-start.result _
-        (λ z. sym (c.in_ok-kept.ensures.start z) ∙ c.if-not-kept.false) c.saturating_sub-start.ensures refl e)
+        (λ z. sym (c.in_ok-kept-in-Children.ensures.start z) ∙ c.if-not-kept.false) c.saturating_sub-start.ensures refl e)
     c.restores.ensures
