@@ -1,0 +1,9 @@
+pub mod MarkedLaws
+pub mod MarkedWalk
+pub mod MarkedNodes
+pub mod NodeMarkLaws
+pub mod StructureLaws
+pub mod KnownLaws
+pub mod MarkOutcomes
+pub mod ReplaceOutcomes
+pub mod AroundOutcomes
