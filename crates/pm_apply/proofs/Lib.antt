@@ -7,3 +7,4 @@ pub mod KnownLaws
 pub mod MarkOutcomes
 pub mod ReplaceOutcomes
 pub mod AroundOutcomes
+pub mod FedAround

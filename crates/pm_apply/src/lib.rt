@@ -16,3 +16,8 @@ mod runs;
 mod sides;
 
 pub use change::DocChange;
+
+#[cfg(test)]
+mod sample;
+#[cfg(test)]
+mod tests;
