@@ -8,3 +8,4 @@ pub mod MarkOutcomes
 pub mod ReplaceOutcomes
 pub mod AroundOutcomes
 pub mod FedAround
+pub mod SlicePairs

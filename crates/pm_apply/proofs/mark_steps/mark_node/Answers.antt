@@ -1,4 +1,4 @@
-use Rattle.std.proofs.Common.{◌≡◌, true, false, [], arith, sym, ◌∙◌, subst, ap}
+use Rattle.std.proofs.Common.{◌≡◌, true, false, [], refl, arith, sym, ◌∙◌, subst, ap}
 use Rattle.std.specs.Prelude.{IsSome}
 use Rattle.std.specs.Option.{option_copied}
 use Rattle.pm_change.specs.Failing.{Answers}
@@ -35,6 +35,6 @@ returns c =
     subst (λ z. Answers z c.checked_content.result)
     (sym (node-checked (documents_of c.args.schema.now.spec) c.args.marking.now c.args.pos (doc_with c.args.top.now c.args.content.now)
     (omega (arith, c.if-size-pos.false, c.size-size.ensures.size)) (sym c.parts_pair.ensures ∙ c.if-parts_pair.false)
-    (subst IsSome c.node_marks_at.ensures (subst (λ z. IsSome (option_copied z)) (sym c.in-Some.is) tt))
+    (subst IsSome c.node_marks_at.ensures (subst (λ z. IsSome (option_copied z)) (sym c.in-Some.is) refl))
     c.in_ok-made.made (c.in_ok-made.ensures [])))
     c.checked_content.ensures
