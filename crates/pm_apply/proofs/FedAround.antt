@@ -179,6 +179,10 @@ module _ (c : ℕ → ℕ → Bool) {all p₁ p₂ p₃ p₄ p₅ : List Owned} 
             pub all-crossed : (b₅ : List ℕ) → Crossed c b₄ p₅ b₅ → joins c [] all ≡ true
             all-crossed b₅ x₅ = over-last c all (((p₁ ++ p₂) ++ p₃) ++ p₄) p₅ b₄ b₅ over-4 x₅
 
+-- a part has no more tokens than lie between its ends
+pub part-at-most : {A : Type 0} (f t k : ℕ) (xs : List A) → t ≤ f + k → length (part f t xs) ≤ k
+part-at-most f t k xs h = omega (arith, h, length-part f t xs)
+
 -- what is made has no open node left, and its size is told by those of its parts
 module _ (c : ℕ → ℕ → Bool) (ts : List Token) (ends : Ends) (sl : Slice) (b : Balanced ts) (p : IsPlaced ts ends sl) where
   pub around-ended : (made : List Token) → Appended c [] (around_of ts ends sl) made → unclosed [] made ≡ []

@@ -1,9 +1,6 @@
-use Rattle.std.proofs.Common.{length, arith, ap, ◌∙◌}
+use Rattle.std.proofs.Common.{length, arith, ap}
 use Rattle.std.proofs.lemmas.Result.{err_from_is_err_and}
 use Rattle.pm_tokens.specs.Schemas.{compatible}
-use Rattle.pm_tokens.specs.Scan.{owned, part}
-use Rattle.pm_tokens.proofs.OwnedParts.{length-part}
-use Rattle.pm_tokens.proofs.ScanLaws.{length-owned}
 use Rattle.pm_schema.specs.Documents.{documents_of}
 use Rattle.pm_replace.proofs.FedSplices.{end-is, end-within}
 use Rattle.pm_apply.proofs.FedAround.{around_of, in-five, join_err, stopped-1, stopped-2, stopped-3, stopped-4, stopped-5, all-crossed}

@@ -1,12 +1,10 @@
-use Rattle.std.proofs.Common.{length, arith, ap, ◌∙◌}
+use Rattle.std.proofs.Common.{◌+◌, ◌-◌, [], length, arith, ap, ◌∙◌}
 use Rattle.std.proofs.lemmas.Result.{err_from_is_err_and}
 use Rattle.pm_tokens.specs.Schemas.{compatible}
-use Rattle.pm_tokens.specs.Scan.{owned, part}
-use Rattle.pm_tokens.proofs.OwnedParts.{length-part}
-use Rattle.pm_tokens.proofs.ScanLaws.{length-owned}
+use Rattle.pm_tokens.specs.Scan.{owned}
 use Rattle.pm_schema.specs.Documents.{documents_of}
 use Rattle.pm_replace.proofs.FedSplices.{end-is, end-within}
-use Rattle.pm_apply.proofs.FedAround.{around_of, in-five, splice_err, refused-1, refused-2, refused-3, refused-4, refused-5, length-1, length-2, length-3, length-4, all-fed, around-ended}
+use Rattle.pm_apply.proofs.FedAround.{around_of, in-five, splice_err, refused-1, refused-2, refused-3, refused-4, refused-5, length-1, length-2, length-3, length-4, all-fed, around-ended, part-at-most}
 use Rattle.pm_apply.proofs.around.splice_around.Goals as goal
 
 pub overflow_add-middle : goal.overflow_add-middle
@@ -37,14 +35,9 @@ feed-requires-2 c =
     let r = in-five c.args.content.now c.args.ends c.args.slice.now c.content-inner.result.now c.open_start-start.result c.size-added.result c.size-size.result
     c.size-added.ensures.slice c.requires.placed.insert c.content-inner.ensures c.open_start-start.ensures.side c.size-added.ensures.size c.size-size.ensures.size in
     let own = owned [] c.args.content.now in
-    let mid = owned [] c.content-inner.result.now in
-    let start = c.open_start-start.result in
-    let n₁ = length-part 0 c.args.ends.from own in
-    let n₂ = length-part start (start + c.args.ends.insert) mid in
-    let n₃ = length-part c.args.ends.gap_from c.args.ends.gap_to own in
-    let n₄ = length-part (start + c.args.ends.insert) (start + c.size-added.result) mid in
+    let n₁ = part-at-most 0 c.args.ends.from c.args.ends.from own (omega arith) in
     let l = length-1 k r c.new-builder.result c.new-builder.ensures c.feed.new.self c.in_ok-feed.ensures in
-    omega (arith, l, n₁, length-owned [] c.args.content.now, c.requires.room, c.requires.placed.before, c.requires.placed.gap, c.requires.placed.behind, c.requires.placed.within, c.requires.placed.insert, c.size-added.ensures.size, c.size-size.ensures.size)
+    omega (arith, l, n₁, c.requires.room, c.requires.placed.insert, c.size-added.ensures.size, c.size-size.ensures.size)
 
 pub returns-in_err-feed-2 : goal.returns-in_err-feed-2
 returns-in_err-feed-2 c =
@@ -63,12 +56,10 @@ feed-requires-3 c =
     let own = owned [] c.args.content.now in
     let mid = owned [] c.content-inner.result.now in
     let start = c.open_start-start.result in
-    let n₁ = length-part 0 c.args.ends.from own in
-    let n₂ = length-part start (start + c.args.ends.insert) mid in
-    let n₃ = length-part c.args.ends.gap_from c.args.ends.gap_to own in
-    let n₄ = length-part (start + c.args.ends.insert) (start + c.size-added.result) mid in
+    let n₁ = part-at-most 0 c.args.ends.from c.args.ends.from own (omega arith) in
+    let n₂ = part-at-most start (start + c.args.ends.insert) c.args.ends.insert mid (omega arith) in
     let l = length-2 k r c.new-builder.result c.new-builder.ensures c.feed.new.self c.in_ok-feed.ensures c.feed-2.new.self c.in_ok-feed-2.ensures in
-    omega (arith, l, n₁, n₂, length-owned [] c.args.content.now, c.requires.room, c.requires.placed.before, c.requires.placed.gap, c.requires.placed.behind, c.requires.placed.within, c.requires.placed.insert, c.size-added.ensures.size, c.size-size.ensures.size)
+    omega (arith, l, n₁, n₂, c.requires.room, c.requires.placed.insert, c.size-added.ensures.size, c.size-size.ensures.size)
 
 pub returns-in_err-feed-3 : goal.returns-in_err-feed-3
 returns-in_err-feed-3 c =
@@ -87,12 +78,11 @@ feed-requires-4 c =
     let own = owned [] c.args.content.now in
     let mid = owned [] c.content-inner.result.now in
     let start = c.open_start-start.result in
-    let n₁ = length-part 0 c.args.ends.from own in
-    let n₂ = length-part start (start + c.args.ends.insert) mid in
-    let n₃ = length-part c.args.ends.gap_from c.args.ends.gap_to own in
-    let n₄ = length-part (start + c.args.ends.insert) (start + c.size-added.result) mid in
+    let n₁ = part-at-most 0 c.args.ends.from c.args.ends.from own (omega arith) in
+    let n₂ = part-at-most start (start + c.args.ends.insert) c.args.ends.insert mid (omega arith) in
+    let n₃ = part-at-most c.args.ends.gap_from c.args.ends.gap_to (c.args.ends.gap_to - c.args.ends.gap_from) own (omega arith) in
     let l = length-3 k r c.new-builder.result c.new-builder.ensures c.feed.new.self c.in_ok-feed.ensures c.feed-2.new.self c.in_ok-feed-2.ensures c.feed-3.new.self c.in_ok-feed-3.ensures in
-    omega (arith, l, n₁, n₂, n₃, length-owned [] c.args.content.now, c.requires.room, c.requires.placed.before, c.requires.placed.gap, c.requires.placed.behind, c.requires.placed.within, c.requires.placed.insert, c.size-added.ensures.size, c.size-size.ensures.size)
+    omega (arith, l, n₁, n₂, n₃, c.requires.room, c.requires.placed.insert, c.size-added.ensures.size, c.size-size.ensures.size)
 
 pub returns-in_err-feed-4 : goal.returns-in_err-feed-4
 returns-in_err-feed-4 c =
@@ -111,12 +101,12 @@ feed-requires-5 c =
     let own = owned [] c.args.content.now in
     let mid = owned [] c.content-inner.result.now in
     let start = c.open_start-start.result in
-    let n₁ = length-part 0 c.args.ends.from own in
-    let n₂ = length-part start (start + c.args.ends.insert) mid in
-    let n₃ = length-part c.args.ends.gap_from c.args.ends.gap_to own in
-    let n₄ = length-part (start + c.args.ends.insert) (start + c.size-added.result) mid in
+    let n₁ = part-at-most 0 c.args.ends.from c.args.ends.from own (omega arith) in
+    let n₂ = part-at-most start (start + c.args.ends.insert) c.args.ends.insert mid (omega arith) in
+    let n₃ = part-at-most c.args.ends.gap_from c.args.ends.gap_to (c.args.ends.gap_to - c.args.ends.gap_from) own (omega arith) in
+    let n₄ = part-at-most (start + c.args.ends.insert) (start + c.size-added.result) (c.size-added.result - c.args.ends.insert) mid (omega arith) in
     let l = length-4 k r c.new-builder.result c.new-builder.ensures c.feed.new.self c.in_ok-feed.ensures c.feed-2.new.self c.in_ok-feed-2.ensures c.feed-3.new.self c.in_ok-feed-3.ensures c.feed-4.new.self c.in_ok-feed-4.ensures in
-    omega (arith, l, n₁, n₂, n₃, n₄, length-owned [] c.args.content.now, c.requires.room, c.requires.placed.before, c.requires.placed.gap, c.requires.placed.behind, c.requires.placed.within, c.requires.placed.insert, c.size-added.ensures.size, c.size-size.ensures.size)
+    omega (arith, l, n₁, n₂, n₃, n₄, c.requires.room, c.requires.placed.insert, c.size-added.ensures.size, c.size-size.ensures.size)
 
 pub returns-in_err-feed-5 : goal.returns-in_err-feed-5
 returns-in_err-feed-5 c =
