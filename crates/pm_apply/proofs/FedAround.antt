@@ -30,7 +30,7 @@ around_of ts ends sl = spliced_around ts ends.from ends.to ends.gap_from ends.ga
 pub in-five : (ts : List Token) (ends : Ends) (sl : Slice) (inner : List Token) (start added size : ℕ)
     → is_slice sl ≡ true → ends.insert ≤ slice_size sl → inner ≡ sl.content → start ≡ sl.open_start → added ≡ slice_size sl → size ≡ length ts
     → InFive (around_of ts ends sl) (part 0 ends.from (owned [] ts)) (part start (start + ends.insert) (owned [] inner)) (part ends.gap_from ends.gap_to (owned [] ts))
-        (part (start + ends.insert) (start + added) (owned [] inner)) (part ends.to size (owned [] ts))
+    (part (start + ends.insert) (start + added) (owned [] inner)) (part ends.to size (owned [] ts))
 in-five ts ends sl inner start added size w h e f g k =
     let end : start + added ≡ content_end sl = omega (arith, f, g, end-is sl w) in
     record { is = around-parts ts ends.from ends.to ends.gap_from ends.gap_to sl ends.insert h ∙ sym (rw (end, f, e, k) refl) }
@@ -190,7 +190,7 @@ module _ (c : ℕ → ℕ → Bool) (ts : List Token) (ends : Ends) (sl : Slice)
       let d = depths-of ts ends.from ends.to sl p.depths in
       ap (unclosed []) a.tokens
       ∙ (around-whole c ts ends.from ends.to ends.gap_from ends.gap_to sl ends.insert (balanced-whole b) (slice-is sl p.slice) p.before p.gap p.behind p.within p.insert
-          (whole-of (part ends.gap_from ends.gap_to ts) p.whole) d.0 d.1 a.joined).ended
+      (whole-of (part ends.gap_from ends.gap_to ts) p.whole) d.0 d.1 a.joined).ended
 
   pub large-around : length (plain (around_of ts ends sl)) + ((ends.gap_from - ends.from) + (ends.to - ends.gap_to)) ≡ length ts + slice_size sl
   large-around =

@@ -145,8 +145,8 @@ module _ (s : Schema) (m : Marking) (pos : ℕ) (d : Doc) where
       node-missing v n =
           let none = none-first (drop pos d.tokens) n in
           let same : node_marked (changed s m) pos d ≡ d =
-              ap (λ z. with_tokens d (take pos d.tokens ++ z)) (same-node (changed s m) (drop pos d.tokens) none)
-              ∙ ap (with_tokens d) (take-append-drop pos d.tokens) in
+          ap (λ z. with_tokens d (take pos d.tokens ++ z)) (same-node (changed s m) (drop pos d.tokens) none)
+          ∙ ap (with_tokens d) (take-append-drop pos d.tokens) in
           to-node ∙ (ap (λ z. and_unless (starts_node (drop pos d.tokens)) NoNode (checked s z)) same
           ∙ (ap (and_unless (starts_node (drop pos d.tokens)) NoNode) (valid-checks s d v) ∙ fails (starts_node (drop pos d.tokens)) NoNode (Ok d) none))
 

@@ -78,9 +78,7 @@ fn mark_child(
     if size <= from {
         return push_shared(alloc, node, made);
     }
-    mark_part(
-        alloc, schema, parent, node, from, to, marking, reach, made,
-    )
+    mark_part(alloc, schema, parent, node, from, to, marking, reach, made)
 }
 
 /// Puts the node itself behind the nodes that are made.
@@ -132,7 +130,14 @@ fn mark_part(
             let marks = mark_open(alloc, schema, parent, node, from, marking, reach)?;
             let start = from.saturating_sub(1);
             let inner = mark_content(
-                alloc, schema, node.kind, inner, start, to - 1, marking, reach,
+                alloc,
+                schema,
+                node.kind,
+                inner,
+                start,
+                to - 1,
+                marking,
+                reach,
             )?;
             push_with(alloc, node, marks, Body::Children(inner), made)
         }

@@ -144,12 +144,7 @@ fn opened(letter: u8) -> Option<TypeId> {
     }
 }
 
-fn node(
-    alloc: Global,
-    kind: TypeId,
-    marks: Vec<Mark<Attrs>>,
-    body: Body,
-) -> Result<Node, Fail> {
+fn node(alloc: Global, kind: TypeId, marks: Vec<Mark<Attrs>>, body: Body) -> Result<Node, Fail> {
     Ok(Node {
         kind,
         attrs: Attrs::new(Vec::new(alloc)),

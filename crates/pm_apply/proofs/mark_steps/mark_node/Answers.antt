@@ -19,7 +19,9 @@ returns-then-parts_pair c =
     (omega (arith, c.if-size-pos.false, c.size-size.ensures.size)) (sym c.parts_pair.ensures ∙ c.if-parts_pair.true)
 
 pub returns-in_default : goal.returns-in_default
-returns-in_default c = ?
+returns-in_default c =
+    node-missing (documents_of c.args.schema.now.spec) c.args.marking.now c.args.pos (doc_with c.args.top.now c.args.content.now)
+    (omega (arith, c.if-size-pos.false, c.size-size.ensures.size)) (sym c.parts_pair.ensures ∙ c.if-parts_pair.false) c.requires (sym c.node_marks_at.ensures ∙ ap option_copied c.in_default.is)
 
 pub mark_content-requires : goal.mark_content-requires
 mark_content-requires c = record {
