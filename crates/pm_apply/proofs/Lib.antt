@@ -17,3 +17,5 @@ pub mod KnownLaws
 pub mod MarkOutcomes
 pub mod ReplaceOutcomes
 pub mod AroundOutcomes
+pub mod FedAround
+pub mod SlicePairs

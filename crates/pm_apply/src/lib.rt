@@ -18,3 +18,8 @@ mod sides;
 mod taking;
 
 pub use change::DocChange;
+
+#[cfg(test)]
+mod sample;
+#[cfg(test)]
+mod tests;
