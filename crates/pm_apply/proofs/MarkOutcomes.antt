@@ -8,10 +8,7 @@ use Rattle.pm_tokens.specs.Scan.{unclosed, part, parts_pair}
 use Rattle.pm_tokens.specs.Schemas.{Schema}
 use Rattle.pm_tokens.specs.Faults.{Valid}
 use Rattle.pm_tokens.proofs.ScanLaws.{and-true}
-<<<<<<< HEAD
-=======
 use Rattle.pm_tokens.proofs.ListLaws.{drop-nil}
->>>>>>> 4866aa5e4494e246cf495ebf164ca9a0d492de01
 use Rattle.pm_meaning.specs.declared.reason.Reason.{Reason}
 use Rattle.pm_meaning.specs.declared.reason.Reason.TheVariants.{Range, Pair, NoNode}
 use Rattle.pm_meaning.specs.Steps.{Step}
@@ -81,19 +78,11 @@ node-outcome s (Remove m) pos d = refl
 
 -- a node stands first where its marks do
 stands-first : (ts : List Token) → IsSome (marks_first ts) → starts_node ts ≡ true
-<<<<<<< HEAD
-stands-first [] h = absurd h
-stands-first (Open k a m ∷ ts) h = refl
-stands-first (Close ∷ ts) h = absurd h
-stands-first (Leaf k a m ∷ ts) h = refl
-stands-first (CodeUnit u m ∷ ts) h = absurd h
-=======
 stands-first [] h = absurd (cc)
 stands-first (Open k a m ∷ ts) h = refl
 stands-first (Close ∷ ts) h = absurd (cc)
 stands-first (Leaf k a m ∷ ts) h = refl
 stands-first (CodeUnit u m ∷ ts) h = absurd (cc)
->>>>>>> 4866aa5e4494e246cf495ebf164ca9a0d492de01
 
 none-first : (ts : List Token) → marks_first ts ≡ None → starts_node ts ≡ false
 none-first [] h = refl
@@ -127,11 +116,7 @@ first-marked s (Remove m) ps (CodeUnit u n ∷ ts) = refl
 
 drop-one : (n : ℕ) (ts : List Token) → drop (n + 1) ts ≡ drop 1 (drop n ts)
 drop-one zero ts = refl
-<<<<<<< HEAD
-drop-one (suc n) [] = refl
-=======
 drop-one (suc n) [] = ap (λ z. drop z []) (let e : suc n + 1 ≡ suc (n + 1) = omega arith in e) ∙ sym (drop-nil 1)
->>>>>>> 4866aa5e4494e246cf495ebf164ca9a0d492de01
 drop-one (suc n) (t ∷ ts) = let e : suc n + 1 ≡ suc (n + 1) = omega arith in rw e (drop-one n ts)
 
 pub node-marked : (s : Schema) (m : Marking) (pos : ℕ) (ps : List ℕ) (ts : List Token) → take pos ts ++ with_node_marks (changed s m) (drop pos ts) ≡ marked_in (new_marks s m Nodes) ps pos (pos + 1) ts
@@ -143,11 +128,7 @@ node-marked s m pos ps ts =
 
 module _ (s : Schema) (m : Marking) (pos : ℕ) (d : Doc) where
   pub node-refused : length d.tokens < pos → outcome s (node_step m pos) d ≡ Err Range
-<<<<<<< HEAD
-  node-refused h = node-outcome s m pos d ∙ fails (in_order (pos ∷ []) (length d.tokens)) Range _ (lt-leb (length d.tokens) pos h)
-=======
   node-refused h = node-outcome s m pos d ∙ fails (in_order (pos ∷ []) (length d.tokens)) Range _ (lt-leb pos (length d.tokens) h)
->>>>>>> 4866aa5e4494e246cf495ebf164ca9a0d492de01
 
   module _ (i : pos ≤ length d.tokens) where
     to-pair : outcome s (node_step m pos) d ≡ unless (parts_no_pair d.tokens (pos ∷ [])) Pair (and_unless (starts_node (drop pos d.tokens)) NoNode (checked s (node_marked (changed s m) pos d)))
@@ -164,13 +145,8 @@ module _ (s : Schema) (m : Marking) (pos : ℕ) (d : Doc) where
       node-missing v n =
           let none = none-first (drop pos d.tokens) n in
           let same : node_marked (changed s m) pos d ≡ d =
-<<<<<<< HEAD
-              ap (λ z. with_tokens d (take pos d.tokens ++ z)) (same-node (changed s m) (drop pos d.tokens) none)
-              ∙ ap (with_tokens d) (take-append-drop pos d.tokens) in
-=======
           ap (λ z. with_tokens d (take pos d.tokens ++ z)) (same-node (changed s m) (drop pos d.tokens) none)
           ∙ ap (with_tokens d) (take-append-drop pos d.tokens) in
->>>>>>> 4866aa5e4494e246cf495ebf164ca9a0d492de01
           to-node ∙ (ap (λ z. and_unless (starts_node (drop pos d.tokens)) NoNode (checked s z)) same
           ∙ (ap (and_unless (starts_node (drop pos d.tokens)) NoNode) (valid-checks s d v) ∙ fails (starts_node (drop pos d.tokens)) NoNode (Ok d) none))
 

@@ -117,13 +117,8 @@ module _ (f : ℕ → Token → Marks → Marks) (parent : ℕ) where
         | inr p ↦ (let z : from ≡ 0 = omega (arith, p) in ap (λ x. Open n.kind n.attrs x) (first z) ∙ sym (in-front from to (parent ∷ ps) t z (omega (arith, h))))
       ] in
       let body : made ≡ read f (n.kind ∷ parent ∷ ps) (from - 1) (to - 1) inner =
-<<<<<<< HEAD
-          inside (parent ∷ ps) ∙ (read-is f (n.kind ∷ parent ∷ ps) start end inner (omega (arith, es, ee, h))
-          ∙ (ap (λ x. read f (n.kind ∷ parent ∷ ps) x end inner) es ∙ ap (λ x. read f (n.kind ∷ parent ∷ ps) (from - 1) x inner) ee)) in
-=======
       inside (parent ∷ ps) ∙ (read-is f (n.kind ∷ parent ∷ ps) start end inner (omega (arith, es, ee, h))
       ∙ (ap (λ x. read f (n.kind ∷ parent ∷ ps) x end inner) es ∙ ap (λ x. read f (n.kind ∷ parent ∷ ps) (from - 1) x inner) ee)) in
->>>>>>> 4866aa5e4494e246cf495ebf164ca9a0d492de01
       ap (λ x. x ∷ (made ++ (Close ∷ []))) head
       ∙ (ap (λ x. in_range f from to (parent ∷ ps) t ∷ (x ++ (Close ∷ []))) body
       ∙ (sym (read-node f (parent ∷ ps) from to n.kind n.attrs n.marks inner b)

@@ -16,13 +16,10 @@ abbrev pub back_step : Marking → ℕ → Marks → Marks → Step
 back_step (Add m) pos old new = add_node_back pos m old new
 back_step (Remove m) pos old new = cond (has same_attrs old m) (AddNodeMark pos m) (RemoveNodeMark pos m)
 
-<<<<<<< HEAD
 -- the marks of a token under a parent of the type, changed and changed back
 abbrev pub twice : Schema → Marking → Marking → ℕ → Token → Marks → Marks
 twice s marking back parent t old = new_marks s back Inline parent t (new_marks s marking Inline parent t old)
 
-=======
->>>>>>> 4866aa5e4494e246cf495ebf164ca9a0d492de01
 -- the tokens with the marks in from..to changed, and changed back
 abbrev pub marked_twice : Schema → Marking → Marking → List ℕ → ℕ → ℕ → List Token → List Token
 marked_twice s marking back ps from to ts = marked_in (new_marks s back Inline) ps from to (marked_in (new_marks s marking Inline) ps from to ts)

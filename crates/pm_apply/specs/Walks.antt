@@ -15,11 +15,6 @@ use Rattle.pm_apply.specs.declared.runs.Place.{Place}
 use Rattle.pm_apply.specs.declared.runs.Place.TheVariants.{Range, Node}
 use Rattle.pm_apply.specs.declared.marking.Marking.{Marking}
 use Rattle.pm_apply.specs.declared.marking.Marking.TheVariants.{Add, Remove}
-<<<<<<< HEAD
-=======
-use Rattle.pm_apply.specs.declared.marking.Reach.TheVariants.{Inline}
-use Rattle.pm_apply.specs.Markings.{marked_in, new_marks}
->>>>>>> 4866aa5e4494e246cf495ebf164ca9a0d492de01
 
 -- the step that adds a mark at the place, or removes it
 abbrev pub place_step : Place → Marking → Step
@@ -61,14 +56,7 @@ module _ (s : Schema) where
       let on = continues run old new in
       run_after (p + 1) (next_run changed (takes_marks s t) on run p old new) ts ns
 
-<<<<<<< HEAD
   -- the walk took these tokens from p on, which had the marks of `ts` and have those of `ns`
   pub record Took (p : ℕ) (ts ns : List Token) (old new : Runs) : Type 0 where
     pub steps : new.steps.items ≡ old.steps.items ++ due_all p (run_of old.run) ts ns
     pub run : run_of new.run ≡ run_after p (run_of old.run) ts ns
-=======
-  -- the walk took these tokens from p on, of which those in from..to have the marks that the marking gives them
-  pub record Took (m : Marking) (ps : List ℕ) (p from to : ℕ) (ts : List Token) (old new : Runs) : Type 0 where
-    pub steps : new.steps.items ≡ old.steps.items ++ due_all p (run_of old.run) ts (marked_in (new_marks s m Inline) ps from to ts)
-    pub run : run_of new.run ≡ run_after p (run_of old.run) ts (marked_in (new_marks s m Inline) ps from to ts)
->>>>>>> 4866aa5e4494e246cf495ebf164ca9a0d492de01

@@ -17,16 +17,12 @@ use pm_schema::Schema;
 use pm_step::Step;
 use std::alloc::Global;
 
-<<<<<<< HEAD
-/// The document after a step, or the first reason why the step does not apply.
-=======
 /// The document after a step, or the first reason why the step does not apply. Positions are in tokens. The reasons come in
 /// this order. Range: the positions are not in order or pass the size, or `insert` passes the slice. Structure: a range that a
 /// step with `structure` overwrites is not closes and then opens. Gap: the gap is no whole number of nodes. Depth: the open
 /// sides do not fit the depths of the ends. Pair: a position parts a surrogate pair, in the document or in the slice. Join: an
 /// open node meets a close whose owner's type is not compatible with its own. Large, Deep and Content: the result has too many
 /// tokens, nests too deep, or has a fault, of which the least place is named. NoNode: no node begins at the position.
->>>>>>> 4866aa5e4494e246cf495ebf164ca9a0d492de01
 pub fn apply(
     alloc: Global,
     schema: &Schema,

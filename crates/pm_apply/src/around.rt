@@ -142,14 +142,9 @@ fn put_around(
         (spliced_around content.now ends.from ends.to ends.gap_from ends.gap_to slice.now ends.insert)) result }
 {
     let size = content.size();
-<<<<<<< HEAD
-    let kept = ends.from + (ends.gap_to - ends.gap_from) + (size - ends.to);
-    let total = kept + slice.size();
-=======
     let added = slice.size();
     let kept = ends.from + (ends.gap_to - ends.gap_from) + (size - ends.to);
     let total = kept + added;
->>>>>>> 4866aa5e4494e246cf495ebf164ca9a0d492de01
     if total > MAX_SIZE {
         return match join_around(alloc, schema, content, ends, slice) {
             Ok(()) => Err(Failed::Reason(Reason::Large)),
@@ -180,14 +175,9 @@ fn splice_around(
     let inner = slice.content();
     let _ = inner.size();
     let start = slice.open_start();
-<<<<<<< HEAD
-    let middle = start + ends.insert;
-    let end = start + slice.size();
-=======
     let added = slice.size();
     let middle = start + ends.insert;
     let end = start + added;
->>>>>>> 4866aa5e4494e246cf495ebf164ca9a0d492de01
     let mut builder = Builder::new(alloc);
     builder.feed(alloc, schema, content, 0, ends.from)?;
     builder.feed(alloc, schema, inner, start, middle)?;
@@ -213,14 +203,9 @@ fn join_around(
     let inner = slice.content();
     let _ = inner.size();
     let start = slice.open_start();
-<<<<<<< HEAD
-    let middle = start + ends.insert;
-    let end = start + slice.size();
-=======
     let added = slice.size();
     let middle = start + ends.insert;
     let end = start + added;
->>>>>>> 4866aa5e4494e246cf495ebf164ca9a0d492de01
     let mut open = OpenTypes::new(alloc);
     open.cross(schema, content, 0, ends.from)?;
     open.cross(schema, inner, start, middle)?;

@@ -78,13 +78,7 @@ fn mark_child(
     if size <= from {
         return push_shared(alloc, node, made);
     }
-<<<<<<< HEAD
-    mark_part(
-        alloc, schema, parent, node, from, to, marking, reach, made,
-    )
-=======
     mark_part(alloc, schema, parent, node, from, to, marking, reach, made)
->>>>>>> 4866aa5e4494e246cf495ebf164ca9a0d492de01
 }
 
 /// Puts the node itself behind the nodes that are made.
@@ -136,9 +130,6 @@ fn mark_part(
             let marks = mark_open(alloc, schema, parent, node, from, marking, reach)?;
             let start = from.saturating_sub(1);
             let inner = mark_content(
-<<<<<<< HEAD
-                alloc, schema, node.kind, inner, start, to - 1, marking, reach,
-=======
                 alloc,
                 schema,
                 node.kind,
@@ -147,7 +138,6 @@ fn mark_part(
                 to - 1,
                 marking,
                 reach,
->>>>>>> 4866aa5e4494e246cf495ebf164ca9a0d492de01
             )?;
             push_with(alloc, node, marks, Body::Children(inner), made)
         }

@@ -1,24 +1,13 @@
 //! The steps that give the marks of one node back.
-<<<<<<< HEAD
 ghost use Rattle.std.specs.Prelude.{◌≡◌, ℕ, IfOk, Ok};
 ghost use Rattle.std.specs.Option.{option_copied};
 ghost use Rattle.pm_tokens.specs.Tokens.{Doc};
 ghost use Rattle.pm_tokens.specs.Faults.{Valid};
 ghost use Rattle.pm_meaning.specs.Outcomes.{outcome};
-=======
-ghost use Rattle.std.specs.Prelude.{◌≡◌, ℕ, false, drop, IsSome, IfOk};
-ghost use Rattle.std.specs.Option.{option_copied};
-ghost use Rattle.pm_tokens.specs.Scan.{parts_pair};
-ghost use Rattle.pm_tokens.specs.Faults.{Valid};
->>>>>>> 4866aa5e4494e246cf495ebf164ca9a0d492de01
 ghost use Rattle.pm_meaning.specs.Inverses.{first_lost, inverse};
 ghost use Rattle.pm_node.specs.Documents.{doc_with};
 ghost use Rattle.pm_schema.specs.Documents.{documents_of};
 ghost use Rattle.pm_apply.specs.Markings.{node_step};
-<<<<<<< HEAD
-=======
-ghost use Rattle.pm_apply.specs.Nodes.{marks_first};
->>>>>>> 4866aa5e4494e246cf495ebf164ca9a0d492de01
 ghost use Rattle.pm_apply.specs.Backs.{back_step};
 
 use crate::change::DocChange;
@@ -42,12 +31,7 @@ pub fn node_back(
     marking: &Marking,
 ) -> Result<Vec<DocChange>, AllocError>
     requires good { Valid (documents_of schema.now.spec) (doc_with top.now content.now) }
-<<<<<<< HEAD
     requires applies { ((next : Doc) × (outcome (documents_of schema.now.spec) (node_step marking.now pos) (doc_with top.now content.now) ≡ Ok next)) }
-=======
-    requires there { IsSome (marks_first (drop pos content.now)) }
-    requires whole { parts_pair content.now pos ≡ false }
->>>>>>> 4866aa5e4494e246cf495ebf164ca9a0d492de01
     ensures { IfOk result (λ v. v.items ≡ inverse (documents_of schema.now.spec) (node_step marking.now pos) (doc_with top.now content.now)) }
 {
     let Some(old) = node_marks_at(content, pos) else {
@@ -58,20 +42,12 @@ pub fn node_back(
     let restored = back.change(alloc, schema, &new)?;
     let place = Place::Node { pos };
     let mut steps = Vec::new(alloc);
-<<<<<<< HEAD
     let same = restored.same(old);
     if same {
         push_step(alloc, &mut steps, place, &back)?;
         return Ok(steps);
     }
     give_back(alloc, &mut steps, place, old, &new)?;
-=======
-    if restored.same(old) {
-        push_step(alloc, &mut steps, place, &back)?;
-    } else {
-        give_back(alloc, &mut steps, place, old, &new)?;
-    }
->>>>>>> 4866aa5e4494e246cf495ebf164ca9a0d492de01
     Ok(steps)
 }
 

@@ -1,5 +1,4 @@
 //! The steps that take a replace or a replaceAround back.
-<<<<<<< HEAD
 ghost use Rattle.std.specs.Prelude.{◌≡◌, ◌≤◌, ◌&&◌, true, [], length, take, drop, IfOk};
 ghost use Rattle.pm_tokens.specs.Scan.{closes_then_opens, is_whole, joins, part, plain};
 ghost use Rattle.pm_tokens.specs.Schemas.{compatible};
@@ -8,13 +7,6 @@ ghost use Rattle.pm_meaning.specs.Inverses.{around_back, replace_back};
 ghost use Rattle.pm_node.specs.Documents.{doc_with};
 ghost use Rattle.pm_schema.specs.Documents.{documents_of};
 ghost use Rattle.pm_slice.specs.Sides.{no_slice};
-=======
-ghost use Rattle.std.specs.Prelude.{◌≡◌, ◌≤◌, ◌&&◌, true, length, take, drop, IfOk};
-ghost use Rattle.pm_tokens.specs.Scan.{closes_then_opens, is_whole, part};
-ghost use Rattle.pm_tokens.specs.Slices.{cut_around, slice_size, slice_tokens};
-ghost use Rattle.pm_meaning.specs.Inverses.{around_back, replace_back};
-ghost use Rattle.pm_node.specs.Documents.{doc_with};
->>>>>>> 4866aa5e4494e246cf495ebf164ca9a0d492de01
 ghost use Rattle.pm_step.specs.Steps.{step_of};
 ghost use Rattle.pm_apply.specs.Around.{IsPlaced};
 
@@ -114,7 +106,6 @@ fn cut_around(
 {
     let _ = content.size();
     let cut = cut_content(alloc, content, ends.from, ends.to)?;
-<<<<<<< HEAD
     let open_start = cut.open_start();
     let open_end = cut.open_end();
     let start = open_start + (ends.gap_from - ends.from);
@@ -122,22 +113,10 @@ fn cut_around(
     let inner = cut.content();
     let made = without(alloc, schema, inner, start, end)?;
     match Slice::new(alloc, made, open_start, open_end) {
-=======
-    let start = cut.open_start() + (ends.gap_from - ends.from);
-    let end = start + (ends.gap_to - ends.gap_from);
-    let none = Slice::empty(alloc);
-    let made = match splice(alloc, schema, cut.content(), start, end, &none) {
-        Ok(made) => made,
-        Err(Refused::NoMemory) => return Err(AllocError),
-        Err(Refused::Join) => unreachable!(),
-    };
-    match Slice::new(alloc, made, cut.open_start(), cut.open_end()) {
->>>>>>> 4866aa5e4494e246cf495ebf164ca9a0d492de01
         Ok(slice) => Ok(slice),
         Err(_) => unreachable!(),
     }
 }
-<<<<<<< HEAD
 
 /// A content without the tokens start..end.
 fn without(
@@ -161,5 +140,3 @@ fn without(
         Err(Refused::Join) => unreachable!(),
     }
 }
-=======
->>>>>>> 4866aa5e4494e246cf495ebf164ca9a0d492de01

@@ -30,13 +30,8 @@ returns-then-not-whole c =
     around-gap (documents_of c.args.schema.now.spec) (doc_with c.args.top.now c.args.content.now) c.args.ends c.args.slice.now c.args.structure c.are_ordered-ordered.ensures.slice
     (sym c.are_ordered-ordered.ensures.ordered ∙ c.if-not-ordered.false) (sym c.in_ok-keeps.ensures ∙ c.if-not-keeps.false) (sym c.in_ok-whole.ensures ∙ c.if-not-whole.true)
 
-<<<<<<< HEAD
-pub sides_fit-requires : goal.sides_fit-requires
-sides_fit-requires c =
-=======
 pub sides_fit-fits-requires : goal.sides_fit-fits-requires
 sides_fit-fits-requires c =
->>>>>>> 4866aa5e4494e246cf495ebf164ca9a0d492de01
     let o = is-ordered c.args.ends c.args.slice.now (length c.args.content.now) (sym c.are_ordered-ordered.ensures.ordered ∙ c.if-not-ordered.false) in
     record { start = omega (arith, o.before, o.gap, o.behind, o.within); end = o.within }
 
@@ -46,13 +41,8 @@ returns-then-not-fits c =
     (sym c.are_ordered-ordered.ensures.ordered ∙ c.if-not-ordered.false) (sym c.in_ok-keeps.ensures ∙ c.if-not-keeps.false) (sym c.in_ok-whole.ensures ∙ c.if-not-whole.false)
     (sym c.sides_fit-fits.ensures ∙ c.if-not-fits.true)
 
-<<<<<<< HEAD
-pub part_no_pair-requires : goal.part_no_pair-requires
-part_no_pair-requires c =
-=======
 pub part_no_pair-unparted-requires : goal.part_no_pair-unparted-requires
 part_no_pair-unparted-requires c =
->>>>>>> 4866aa5e4494e246cf495ebf164ca9a0d492de01
     (is-ordered c.args.ends c.args.slice.now (length c.args.content.now) (sym c.are_ordered-ordered.ensures.ordered ∙ c.if-not-ordered.false)).insert
 
 pub returns-then-not-unparted : goal.returns-then-not-unparted

@@ -1,8 +1,4 @@
-<<<<<<< HEAD
-use Rattle.std.proofs.Common.{◌≡◌, true, false, [], arith, sym, ◌∙◌, subst, ap}
-=======
 use Rattle.std.proofs.Common.{◌≡◌, true, false, [], refl, arith, sym, ◌∙◌, subst, ap}
->>>>>>> 4866aa5e4494e246cf495ebf164ca9a0d492de01
 use Rattle.std.specs.Prelude.{IsSome}
 use Rattle.std.specs.Option.{option_copied}
 use Rattle.pm_change.specs.Failing.{Answers}
@@ -22,17 +18,10 @@ returns-then-parts_pair c =
     node-paired (documents_of c.args.schema.now.spec) c.args.marking.now c.args.pos (doc_with c.args.top.now c.args.content.now)
     (omega (arith, c.if-size-pos.false, c.size-size.ensures.size)) (sym c.parts_pair.ensures ∙ c.if-parts_pair.true)
 
-<<<<<<< HEAD
-pub returns-in-None : goal.returns-in-None
-returns-in-None c =
-    node-missing (documents_of c.args.schema.now.spec) c.args.marking.now c.args.pos (doc_with c.args.top.now c.args.content.now)
-    (omega (arith, c.if-size-pos.false, c.size-size.ensures.size)) (sym c.parts_pair.ensures ∙ c.if-parts_pair.false) c.requires (sym c.node_marks_at.ensures ∙ ap option_copied c.in-None.is)
-=======
 pub returns-in_default : goal.returns-in_default
 returns-in_default c =
     node-missing (documents_of c.args.schema.now.spec) c.args.marking.now c.args.pos (doc_with c.args.top.now c.args.content.now)
     (omega (arith, c.if-size-pos.false, c.size-size.ensures.size)) (sym c.parts_pair.ensures ∙ c.if-parts_pair.false) c.requires (sym c.node_marks_at.ensures ∙ ap option_copied c.in_default.is)
->>>>>>> 4866aa5e4494e246cf495ebf164ca9a0d492de01
 
 pub mark_content-requires : goal.mark_content-requires
 mark_content-requires c = record {
@@ -46,10 +35,6 @@ returns c =
     subst (λ z. Answers z c.checked_content.result)
     (sym (node-checked (documents_of c.args.schema.now.spec) c.args.marking.now c.args.pos (doc_with c.args.top.now c.args.content.now)
     (omega (arith, c.if-size-pos.false, c.size-size.ensures.size)) (sym c.parts_pair.ensures ∙ c.if-parts_pair.false)
-<<<<<<< HEAD
-    (subst IsSome c.node_marks_at.ensures (subst (λ z. IsSome (option_copied z)) (sym c.in-Some.is) tt))
-=======
     (subst IsSome c.node_marks_at.ensures (subst (λ z. IsSome (option_copied z)) (sym c.in-Some.is) refl))
->>>>>>> 4866aa5e4494e246cf495ebf164ca9a0d492de01
     c.in_ok-made.made (c.in_ok-made.ensures [])))
     c.checked_content.ensures

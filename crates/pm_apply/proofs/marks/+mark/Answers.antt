@@ -22,15 +22,6 @@ mark_content-mark_child-requires t c =
     let d : 3 * length c.args.content.now + 2 ≡ t = c.decreases in
     let w = child-within xs _ c.child-item.result c.loop-child-test.true c.child-item.is in
     let g : 3 * length (node_tokens (arc_value c.child-item.result)) + 1 < t = omega (arith, d, w, ap length all) in
-<<<<<<< HEAD
-    let room = marked-room f c.args.parent xs c.args.from c.args.to c.requires.order _ _ _ c.child-item.result _ c.loop-child.invariant c.loop-child-test.true c.child-item.is in
-    (
-      g,
-      (marked-order f c.args.parent xs c.args.from c.args.to c.requires.order _ _ _ _ c.loop-child.invariant,
-      (c.requires.parent,
-      (known-child (length c.args.schema.now.spec.nodes) xs _ c.child-item.result c.loop-child-test.true c.child-item.is (subst (AreKnown (length c.args.schema.now.spec.nodes)) (sym all) c.requires.known),
-      omega (arith, room, c.size.ensures.size, c.size.ensures.bound, ap length all)))),
-=======
     let room = marked-room f c.args.parent xs c.args.from c.args.to c.requires.order _ _ _ c.child-item.result _ c.loop-child.invariant c.loop-child-test.true c.child-item.is in (
       g,
       (
@@ -43,7 +34,6 @@ mark_content-mark_child-requires t c =
           ),
         ),
       ),
->>>>>>> 4866aa5e4494e246cf495ebf164ca9a0d492de01
     )
 
 pub mark_content-loop-child-preserved : goal.mark_content-loop-child-preserved
@@ -119,9 +109,5 @@ mark_part-returns-in_ok-inner-in-Children t c =
     let inner = c.in-Children.inner in
     on_ok_weaker c.push_with-in-Children.result
     (λ e ps. e ∙ ap (λ z. c.args.made.now ++ z) (marked-open f c.args.parent ps n inner c.in_ok-inner-in-Children.inner c.in_ok-marks-in-Children.marks c.args.from c.args.to c.saturating_sub-start.result _
-<<<<<<< HEAD
-        c.in-Children.is c.size.ensures.whole c.requires.some c.in_ok-marks-in-Children.ensures.start c.in_ok-marks-in-Children.ensures.inside c.saturating_sub-start.ensures refl c.in_ok-inner-in-Children.ensures))
-=======
     c.in-Children.is c.size.ensures.whole c.requires.some c.in_ok-marks-in-Children.ensures.start c.in_ok-marks-in-Children.ensures.inside c.saturating_sub-start.ensures refl c.in_ok-inner-in-Children.ensures))
->>>>>>> 4866aa5e4494e246cf495ebf164ca9a0d492de01
     c.push_with-in-Children.ensures

@@ -1,8 +1,4 @@
-<<<<<<< HEAD
-use Rattle.std.proofs.Common.{◌≡◌, ◌+◌, ◌-◌, length, arith, ap, sym, ◌∙◌}
-=======
 use Rattle.std.proofs.Common.{◌≡◌, ◌+◌, ◌-◌, [], length, arith, ap, sym, ◌∙◌}
->>>>>>> 4866aa5e4494e246cf495ebf164ca9a0d492de01
 use Rattle.std.specs.Prelude.{◌==◌}
 use Rattle.pm_tokens.specs.Scan.{unmet, unclosed, part}
 use Rattle.pm_tokens.proofs.OwnedParts.{length-part}
