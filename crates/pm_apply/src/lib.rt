@@ -20,6 +20,8 @@ mod taking;
 pub use change::DocChange;
 
 #[cfg(test)]
+mod back_tests;
+#[cfg(test)]
 mod sample;
 #[cfg(test)]
 mod tests;

@@ -18,7 +18,7 @@ use Rattle.pm_apply.proofs.node_back.node_back.Goals as goal
 pub unreachable-requires : goal.unreachable-requires
 unreachable-requires c =
     let r = node-is (documents_of c.args.schema.now.spec) c.args.marking.now c.args.pos (doc_with c.args.top.now c.args.content.now) c.requires.applies.0 c.requires.applies.1 in
-    let k = subst IsSome (sym c.node_marks_at.ensures ∙ ap option_copied c.in-None.is) r.there in
+    let k = subst IsSome (sym c.node_marks_at.ensures ∙ ap option_copied c.in_default.is) r.there in
     cc
 
 pub returns-then-same : goal.returns-then-same

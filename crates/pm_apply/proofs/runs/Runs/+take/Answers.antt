@@ -4,9 +4,9 @@ use Rattle.std.proofs.lemmas.Result.{on_ok_weaker}
 use Rattle.pm_tokens.specs.Tokens.{Leaf, Close}
 use Rattle.pm_tokens.specs.Scan.{Balanced}
 use Rattle.pm_schema.specs.Documents.{documents_of}
-use Rattle.pm_node.specs.declared.node.Body.TheVariants.{Children}
+use Rattle.pm_node.specs.declared.node.Body.TheVariants.{Text, Children}
 use Rattle.pm_node.specs.Trees.{node_tokens}
-use Rattle.pm_node.proofs.TreeLaws.{node_tokens_at}
+use Rattle.pm_node.proofs.TreeLaws.{node_tokens_at, length-text_tokens}
 use Rattle.pm_node.proofs.WalkLaws.{child-within}
 use Rattle.pm_apply.specs.declared.marking.Reach.TheVariants.{Inline}
 use Rattle.pm_apply.specs.Markings.{AreKnown}
@@ -87,6 +87,11 @@ take_child-take_content-requires t c =
     let known = known-inner count n inner c.in-Children.is c.requires.known in
     let g : 2 * length inner + 1 < t = omega (arith, d, size) in
     (g, (omega (arith, c.saturating_sub-start.ensures, c.if-to-from.false), (known.0, (known.1, omega (arith, size, c.requires.room)))))
+
+pub take_child-overflow_add-at-in-Text : goal.take_child-overflow_add-at-in-Text
+take_child-overflow_add-at-in-Text t c =
+    let n = c.args.node.now in
+    omega (arith, c.requires.room, c.min-end.ensures, c.len-len.ensures, ap length (node_tokens_at n (Text c.in-Text.units) c.in-Text.is), length-text_tokens n.marks c.in-Text.units)
 
 pub take_child-returns-in_ok-token-in-Text : goal.take_child-returns-in_ok-token-in-Text
 take_child-returns-in_ok-token-in-Text t c =
