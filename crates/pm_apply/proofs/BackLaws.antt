@@ -70,7 +70,7 @@ module _ (s : Schema) (m : Marking) (from to : ℕ) (d : Doc) (v : Valid s d) (h
     by-runs e r₀ r₁ r₂ size a b w x n =
         let none : run_of r₀.run ≡ None = ap run_of b in
         let steps : r₁.steps.items ≡ due_all s 0 None d.tokens after =
-            w.steps ∙ (ap (λ z. z ++ due_all s 0 (run_of r₀.run) d.tokens after) a ∙ ap (λ z. due_all s 0 z d.tokens after) none) in
+        w.steps ∙ (ap (λ z. z ++ due_all s 0 (run_of r₀.run) d.tokens after) a ∙ ap (λ z. due_all s 0 z d.tokens after) none) in
         let run : run_of r₁.run ≡ run_after s 0 None d.tokens after = w.run ∙ ap (λ z. run_after s 0 z d.tokens after) none in
         x ∙ (ap (λ z. z ++ close_run (run_of r₁.run) size) steps
         ∙ (ap (λ z. due_all s 0 None d.tokens after ++ close_run z size) run

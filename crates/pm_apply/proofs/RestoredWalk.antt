@@ -87,8 +87,8 @@ module _ (s : Schema) (m b : Marking) where
             → ((ps : List ℕ) → k ≡ are_back (parent ∷ ps) st e (node_tokens n)) → k ≡ false → (ps : List ℕ) → false ≡ are_back (parent ∷ ps) from to content
         restored-lost i st e n x k w l r q bal f t = decided false
             (λ ps.
-                ap (kept (twice s m b) (parent ∷ ps) from to) (list-split xs i x l r)
-                ∙ lost-part (twice s m b) (parent ∷ ps) from to (front xs i) (node_tokens (arc_value x)) (list_tokens (drop (i + 1) xs)) w.whole bal (found i st e n x k w q f ps ∙ t))
+            ap (kept (twice s m b) (parent ∷ ps) from to) (list-split xs i x l r)
+            ∙ lost-part (twice s m b) (parent ∷ ps) from to (front xs i) (node_tokens (arc_value x)) (list_tokens (drop (i + 1) xs)) w.whole bal (found i st e n x k w q f ps ∙ t))
 
         pub restored-end : (i st e : ℕ) → Restored xs i from to st e → length xs ≤ i → (ps : List ℕ) → true ≡ are_back (parent ∷ ps) from to content
         restored-end i st e w l = decided true

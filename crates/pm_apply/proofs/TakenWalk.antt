@@ -99,9 +99,9 @@ module _ (s : Schema) where
                 let a = front xs i in
                 let here : Took s place ts (marked_in f qs st e ts) mid new = subst (λ (z : Node). Took s place (node_tokens z) (marked_in f qs st e (node_tokens z)) mid new) q (k ps) in
                 let is : marked_in f qs st e ts ≡ read f qs (from - length a) (to - length a) ts =
-                    read-is f qs st e ts o ∙ (ap (λ z. read f qs z e ts) w.starts ∙ ap (λ z. read f qs (from - length a) z ts) w.ends) in
+                read-is f qs st e ts o ∙ (ap (λ z. read f qs z e ts) w.starts ∙ ap (λ z. read f qs (from - length a) z ts) w.ends) in
                 let both = took-both at place a (read f qs from to a) ts (read f qs (from - length a) (to - length a) ts) old mid new
-                    (read-length f qs from to a) w.stands (w.took ps) (subst (λ (z : List Token). Took s place ts z mid new) is here) in
+                (read-length f qs from to a) w.stands (w.took ps) (subst (λ (z : List Token). Took s place ts z mid new) is here) in
                 subst (λ (z : List Token). Took s at z (read f qs from to z) old new) (sym g)
                 (subst (λ (z : List Token). Took s at (a ++ ts) z old new) (sym (read-nodes f qs from to a ts w.whole)) both);
             starts = omega (arith, es, sz, w.starts, ap length g, length-append (front xs i) ts);
@@ -143,7 +143,7 @@ module _ (s : Schema) where
           let t = Leaf n.kind n.attrs n.marks in
           let made = marked-leaf f parent ps n g from to e i j same in
           let one = of-due at (t ∷ []) (Leaf n.kind n.attrs g ∷ []) old new
-              (due-token s t (Leaf n.kind n.attrs g) takes at (run_of old.run) (run_of new.run) old.steps.items new.steps.items k x y) in
+          (due-token s t (Leaf n.kind n.attrs g) takes at (run_of old.run) (run_of new.run) old.steps.items new.steps.items k x y) in
           subst (λ (z : List Token). Took s at (node_tokens n) z old new) made
           (subst (λ (z : List Token). Took s at z (Leaf n.kind n.attrs g ∷ []) old new) (sym (node_tokens_at n Childless e)) one)
 
@@ -163,19 +163,19 @@ module _ (s : Schema) where
           let c : List Token = Close ∷ [] in
           let made = read f (n.kind ∷ qs) (from - 1) (to - 1) inner in
           let head : marked_in f qs from (from + 1) (t ∷ []) ≡ in_range f from to qs t ∷ [] =
-              read-is f qs from (from + 1) (t ∷ []) (omega arith) ∙ ap (λ z. z ∷ []) (in-first from to qs t i) in
+          read-is f qs from (from + 1) (t ∷ []) (omega arith) ∙ ap (λ z. z ∷ []) (in-first from to qs t i) in
           let first : Took s at (t ∷ []) (in_range f from to qs t ∷ []) r₀ r₁ = subst (λ (z : List Token). Took s at (t ∷ []) z r₀ r₁) head (op ps) in
           let is : marked_in f (n.kind ∷ qs) st e' inner ≡ made =
-              read-is f (n.kind ∷ qs) st e' inner (omega (arith, es, ee, h))
-              ∙ (ap (λ z. read f (n.kind ∷ qs) z e' inner) es ∙ ap (λ z. read f (n.kind ∷ qs) (from - 1) z inner) ee) in
+          read-is f (n.kind ∷ qs) st e' inner (omega (arith, es, ee, h))
+          ∙ (ap (λ z. read f (n.kind ∷ qs) z e' inner) es ∙ ap (λ z. read f (n.kind ∷ qs) (from - 1) z inner) ee) in
           let mid : Took s (at + 1) inner made r₁ r₂ = subst (λ (z : List Token). Took s (at + 1) inner z r₁ r₂) is (inn qs) in
           let last : Took s (at + 1) (inner ++ c) (made ++ c) r₁ r₃ =
-              took-both (at + 1) end inner made c c r₁ r₂ r₃ (read-length f (n.kind ∷ qs) (from - 1) (to - 1) inner) en mid cl in
+          took-both (at + 1) end inner made c c r₁ r₂ r₃ (read-length f (n.kind ∷ qs) (from - 1) (to - 1) inner) en mid cl in
           let all : Took s at (t ∷ (inner ++ c)) (in_range f from to qs t ∷ (made ++ c)) r₀ r₃ =
-              took-both at (at + 1) (t ∷ []) (in_range f from to qs t ∷ []) (inner ++ c) (made ++ c) r₀ r₁ r₃ refl refl first last in
+          took-both at (at + 1) (t ∷ []) (in_range f from to qs t ∷ []) (inner ++ c) (made ++ c) r₀ r₁ r₃ refl refl first last in
           let ns : in_range f from to qs t ∷ (made ++ c) ≡ marked_in f qs from to (node_tokens n) =
-              sym (read-node f qs from to n.kind n.attrs n.marks inner bal)
-              ∙ (sym (read-is f qs from to (t ∷ (inner ++ c)) h) ∙ ap (marked_in f qs from to) (sym (node_tokens_at n (Children inner) e))) in
+          sym (read-node f qs from to n.kind n.attrs n.marks inner bal)
+          ∙ (sym (read-is f qs from to (t ∷ (inner ++ c)) h) ∙ ap (marked_in f qs from to) (sym (node_tokens_at n (Children inner) e))) in
           subst (λ (z : List Token). Took s at (node_tokens n) z r₀ r₃) ns
           (subst (λ (z : List Token). Took s at z (in_range f from to qs t ∷ (made ++ c)) r₀ r₃) (sym (node_tokens_at n (Children inner) e)) all)
 
@@ -199,18 +199,18 @@ module _ (s : Schema) where
           let nc : length (text_tokens m c) ≡ len - end = omega (arith, length-text_tokens m c, length-drop to us, el, ee) in
           let first : Took s at (text_tokens m a) (text_tokens m a) r₀ r₁ = p₁ (text_tokens m a) na in
           let mid : Took s (at + from) (text_tokens m b) (text_tokens g b) r₁ r₂ =
-              of-due (at + from) (text_tokens m b) (text_tokens g b) r₁ r₂
-              (due-units s m g (at + from) (run_of r₁.run) (run_of r₂.run) b r₁.steps.items r₂.steps.items (omega (arith, nb, i, l)) x y) in
+          of-due (at + from) (text_tokens m b) (text_tokens g b) r₁ r₂
+          (due-units s m g (at + from) (run_of r₁.run) (run_of r₂.run) b r₁.steps.items r₂.steps.items (omega (arith, nb, i, l)) x y) in
           let last : Took s (at + end) (text_tokens m c) (text_tokens m c) r₂ r₃ = p₃ (text_tokens m c) nc in
           let two : Took s (at + from) (text_tokens m b ++ text_tokens m c) (text_tokens g b ++ text_tokens m c) r₁ r₃ =
-              took-both (at + from) (at + end) (text_tokens m b) (text_tokens g b) (text_tokens m c) (text_tokens m c) r₁ r₂ r₃
-              (omega (arith, nm, ng)) (omega (arith, nm, nb, el, ee, i, l)) mid last in
+          took-both (at + from) (at + end) (text_tokens m b) (text_tokens g b) (text_tokens m c) (text_tokens m c) r₁ r₂ r₃
+          (omega (arith, nm, ng)) (omega (arith, nm, nb, el, ee, i, l)) mid last in
           let all : Took s at (text_tokens m a ++ (text_tokens m b ++ text_tokens m c)) (text_tokens m a ++ (text_tokens g b ++ text_tokens m c)) r₀ r₃ =
-              took-both at (at + from) (text_tokens m a) (text_tokens m a) (text_tokens m b ++ text_tokens m c) (text_tokens g b ++ text_tokens m c) r₀ r₁ r₃
-              refl (omega (arith, na)) first two in
+          took-both at (at + from) (text_tokens m a) (text_tokens m a) (text_tokens m b ++ text_tokens m c) (text_tokens g b ++ text_tokens m c) r₀ r₁ r₃
+          refl (omega (arith, na)) first two in
           let us-is : us ≡ a ++ (b ++ c) = sym (take-append-drop from us) ∙ ap (λ z. a ++ z) (drop-part us from to h) in
           let old-is : node_tokens n ≡ text_tokens m a ++ (text_tokens m b ++ text_tokens m c) =
-              node_tokens_at n (Text us) e ∙ (ap (text_tokens m) us-is ∙ (text_tokens-append m a (b ++ c) ∙ ap (λ z. text_tokens m a ++ z) (text_tokens-append m b c))) in
+          node_tokens_at n (Text us) e ∙ (ap (text_tokens m) us-is ∙ (text_tokens-append m a (b ++ c) ∙ ap (λ z. text_tokens m a ++ z) (text_tokens-append m b c))) in
           subst (λ (z : List Token). Took s at (node_tokens n) z r₀ r₃) (marked-text f parent ps n us g from to e h (λ u. same))
           (subst (λ (z : List Token). Took s at z (text_tokens m a ++ (text_tokens g b ++ text_tokens m c)) r₀ r₃) (sym old-is) all)
 
@@ -223,8 +223,8 @@ module _ (s : Schema) where
     took-open at from n g takes old new z same k x y ps =
         let t = Open n.kind n.attrs n.marks in
         let is : marked_in f (parent ∷ ps) from (from + 1) (t ∷ []) ≡ Open n.kind n.attrs g ∷ [] =
-            ap (λ i. marked_in f (parent ∷ ps) i (i + 1) (t ∷ [])) z
-            ∙ (read-is f (parent ∷ ps) 0 1 (t ∷ []) (omega arith) ∙ ap (λ w. Open n.kind n.attrs w ∷ []) same) in
+        ap (λ i. marked_in f (parent ∷ ps) i (i + 1) (t ∷ [])) z
+        ∙ (read-is f (parent ∷ ps) 0 1 (t ∷ []) (omega arith) ∙ ap (λ w. Open n.kind n.attrs w ∷ []) same) in
         subst (λ (w : List Token). Took s at (t ∷ []) w old new) (sym is)
         (of-due at (t ∷ []) (Open n.kind n.attrs g ∷ []) old new
         (due-token s t (Open n.kind n.attrs g) takes at (run_of old.run) (run_of new.run) old.steps.items new.steps.items k x y))

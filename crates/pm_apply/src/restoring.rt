@@ -138,7 +138,7 @@ fn restores_marks(
     requires { parent < length schema.now.spec.nodes }
     ensures { IfOk result (λ b. b ≡ same_marks same_attrs
         (sort_marks (documents_of schema.now.spec) back.now Reach.Inline sort parent
-            (sort_marks (documents_of schema.now.spec) marking.now Reach.Inline sort parent old.now)) old.now) }
+        (sort_marks (documents_of schema.now.spec) marking.now Reach.Inline sort parent old.now)) old.now) }
 {
     let new = marking.made(alloc, schema, Reach::Inline, sort, parent, old)?;
     let restored = back.made(alloc, schema, Reach::Inline, sort, parent, &new)?;

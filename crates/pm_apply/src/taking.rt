@@ -124,7 +124,7 @@ impl Runs {
         requires known { node.now.kind < length schema.now.spec.nodes }
         ensures { OnOk result ((ps : List ℕ) → Took (documents_of schema.now.spec) at (Open node.now.kind node.now.attrs node.now.marks ∷ [])
             (marked_in (new_marks (documents_of schema.now.spec) marking.now Reach.Inline) (parent ∷ ps) from (from + 1)
-                (Open node.now.kind node.now.attrs node.now.marks ∷ [])) self.old self.new) }
+            (Open node.now.kind node.now.attrs node.now.marks ∷ [])) self.old self.new) }
     {
         if from > 0 {
             return self.pass(alloc, at, 1);

@@ -28,10 +28,10 @@ unreachable-requires c =
     let e = c.args.ends in
     let r = c.requires in
     let w = c.in-Err.ensures.fits.1
-        (out-slice ts e.from e.gap_from e.gap_to e.to c.size.ensures.whole r.before r.gap r.behind r.within r.whole
-        c.in_ok-cut.cut c.in_ok-cut.ensures c.open_start-open_start.result c.open_end-open_end.result c.content-inner.result.now
-        c.open_start-open_start.ensures.side c.open_end-open_end.ensures.side c.content-inner.ensures
-        c.in_ok-made.made c.in_ok-made.ensures) in
+    (out-slice ts e.from e.gap_from e.gap_to e.to c.size.ensures.whole r.before r.gap r.behind r.within r.whole
+    c.in_ok-cut.cut c.in_ok-cut.ensures c.open_start-open_start.result c.open_end-open_end.result c.content-inner.result.now
+    c.open_start-open_start.ensures.side c.open_end-open_end.ensures.side c.content-inner.ensures
+    c.in_ok-made.made c.in_ok-made.ensures) in
     cc
 
 pub returns : goal.returns

@@ -33,13 +33,16 @@ restores-restores_in-requires t c =
     let d : 2 * length c.args.content.now + 1 ≡ t = c.decreases in
     let w = child-within xs _ c.child-item.result c.loop-child-test.true c.child-item.is in
     let n = ap (λ m. length (node_tokens m)) c.deref-in-loop-child.ensures in
-    let g : 2 * length (node_tokens c.deref-in-loop-child.result.now) < t = omega (arith, d, w, n, ap length all) in
-    (
+    let g : 2 * length (node_tokens c.deref-in-loop-child.result.now) < t = omega (arith, d, w, n, ap length all) in (
       g,
-      (restored-order s c.args.marking.now c.args.back.now c.args.parent xs c.args.from c.args.to c.requires.order _ _ _ c.loop-child.invariant,
-      (c.requires.parent,
-      subst (λ m. AreKnown count (node_tokens m)) (sym c.deref-in-loop-child.ensures)
-      (known-child count xs _ c.child-item.result c.loop-child-test.true c.child-item.is (subst (AreKnown count) (sym all) c.requires.known)))),
+      (
+        restored-order s c.args.marking.now c.args.back.now c.args.parent xs c.args.from c.args.to c.requires.order _ _ _ c.loop-child.invariant,
+        (
+          c.requires.parent,
+          subst (λ m. AreKnown count (node_tokens m)) (sym c.deref-in-loop-child.ensures)
+              (known-child count xs _ c.child-item.result c.loop-child-test.true c.child-item.is (subst (AreKnown count) (sym all) c.requires.known)),
+        ),
+      ),
     )
 
 pub restores-loop-child-preserved : goal.restores-loop-child-preserved
@@ -81,7 +84,7 @@ restores_in-returns-in-Text t c =
     if_ok-then (λ (k : Bool). k ≡ same_marks same_attrs (twice s m b c.args.parent (CodeUnit 0 n.marks) n.marks) n.marks)
     (λ (k : Bool). (ps : List ℕ) → k ≡ are_back s m b (c.args.parent ∷ ps) c.args.from c.args.to (node_tokens n)) c.restores_marks.result
     (λ k e. back-text (documents_of c.args.schema.now.spec) c.args.marking.now c.args.back.now c.args.parent c.args.from c.args.to c.requires.order c.args.node.now c.in-Text.field-0 k
-        c.in-Text.is (omega (arith, c.if-to-from.false)) (omega (arith, c.if-size-from.false, c.size-size.ensures.size)) e)
+    c.in-Text.is (omega (arith, c.if-to-from.false)) (omega (arith, c.if-size-from.false, c.size-size.ensures.size)) e)
     c.restores_marks.ensures
 
 pub restores_in-returns-in-Leaf : goal.restores_in-returns-in-Leaf
@@ -91,12 +94,12 @@ restores_in-returns-in-Leaf t c =
     let m = c.args.marking.now in
     let b = c.args.back.now in
     let both = sort-twice s c.args.marking.now c.args.back.now c.args.parent c.of-sort.result (Leaf n.kind n.attrs n.marks) n.marks
-        (c.of-sort.ensures.takes ∙ and-yes (s.is_inline n.kind) (s.is_atom n.kind)) c.of-sort.ensures.inline c.of-sort.ensures.node in
+    (c.of-sort.ensures.takes ∙ and-yes (s.is_inline n.kind) (s.is_atom n.kind)) c.of-sort.ensures.inline c.of-sort.ensures.node in
     if_ok-then (λ (k : Bool). k ≡ same_marks same_attrs (sort_marks s b Inline c.of-sort.result c.args.parent (sort_marks s m Inline c.of-sort.result c.args.parent n.marks)) n.marks)
     (λ (k : Bool). (ps : List ℕ) → k ≡ are_back s m b (c.args.parent ∷ ps) c.args.from c.args.to (node_tokens n)) c.restores_marks-in-Leaf.result
     (λ k e. back-leaf s c.args.marking.now c.args.back.now c.args.parent c.args.from c.args.to c.requires.order n k
-        c.in-Leaf.is (omega (arith, c.if-to-from.false)) (omega (arith, c.if-size-from.false, c.size-size.ensures.size))
-        (e ∙ ap (λ z. same_marks same_attrs z n.marks) both))
+    c.in-Leaf.is (omega (arith, c.if-to-from.false)) (omega (arith, c.if-size-from.false, c.size-size.ensures.size))
+    (e ∙ ap (λ z. same_marks same_attrs z n.marks) both))
     c.restores_marks-in-Leaf.ensures
 
 pub restores_in-returns-then-not-kept : goal.restores_in-returns-then-not-kept
@@ -129,6 +132,6 @@ restores_in-returns-else-not-kept t c =
     if_ok-then (λ (k : Bool). (qs : List ℕ) → k ≡ are_back s m b (n.kind ∷ qs) c.saturating_sub-start.result (c.args.to - 1) inner)
     (λ (k : Bool). (ps : List ℕ) → k ≡ are_back s m b (c.args.parent ∷ ps) c.args.from c.args.to (node_tokens n)) c.restores.result
     (λ k e. back-inner (documents_of c.args.schema.now.spec) c.args.marking.now c.args.back.now c.args.parent c.args.from c.args.to c.requires.order c.args.node.now c.in-Children.inner
-        c.in-Children.is c.size.ensures.whole (omega (arith, c.if-to-from.false)) k c.saturating_sub-start.result _
-        (λ z. sym (c.in_ok-kept-in-Children.ensures.start z) ∙ c.if-not-kept.false) c.saturating_sub-start.ensures refl e)
+    c.in-Children.is c.size.ensures.whole (omega (arith, c.if-to-from.false)) k c.saturating_sub-start.result _
+    (λ z. sym (c.in_ok-kept-in-Children.ensures.start z) ∙ c.if-not-kept.false) c.saturating_sub-start.ensures refl e)
     c.restores.ensures

@@ -29,14 +29,19 @@ take_content-take_child-requires t c =
     let w = child-within xs _ c.child-item.result c.loop-child-test.true c.child-item.is in
     let n = ap (λ m. length (node_tokens m)) c.deref-in-loop-child.ensures in
     let g : 2 * length (node_tokens c.deref-in-loop-child.result.now) < t = omega (arith, d, w, n, ap length all) in
-    let room = taken-room s c.args.marking.now c.args.parent xs c.args.at c.args.from c.args.to c.args.self.now c.requires.order _ _ _ _ c.child-item.result c.loop-child.self c.loop-child.invariant c.loop-child-test.true c.child-item.is in
-    (
+    let room = taken-room s c.args.marking.now c.args.parent xs c.args.at c.args.from c.args.to c.args.self.now c.requires.order _ _ _ _ c.child-item.result c.loop-child.self c.loop-child.invariant c.loop-child-test.true c.child-item.is in (
       g,
-      (taken-order s c.args.marking.now c.args.parent xs c.args.at c.args.from c.args.to c.args.self.now c.requires.order _ _ _ _ c.loop-child.self c.loop-child.invariant,
-      (c.requires.parent,
-      (subst (λ m. AreKnown count (node_tokens m)) (sym c.deref-in-loop-child.ensures)
-      (known-child count xs _ c.child-item.result c.loop-child-test.true c.child-item.is (subst (AreKnown count) (sym all) c.requires.known)),
-      omega (arith, room, n, c.requires.room, ap length all)))),
+      (
+        taken-order s c.args.marking.now c.args.parent xs c.args.at c.args.from c.args.to c.args.self.now c.requires.order _ _ _ _ c.loop-child.self c.loop-child.invariant,
+        (
+          c.requires.parent,
+          (
+            subst (λ m. AreKnown count (node_tokens m)) (sym c.deref-in-loop-child.ensures)
+                (known-child count xs _ c.child-item.result c.loop-child-test.true c.child-item.is (subst (AreKnown count) (sym all) c.requires.known)),
+            omega (arith, room, n, c.requires.room, ap length all),
+          ),
+        ),
+      ),
     )
 
 pub take_content-overflow_add-place : goal.take_content-overflow_add-place
@@ -74,7 +79,7 @@ take_child-returns-then-size-from t c =
     let ts = node_tokens c.args.node.now in
     on_ok_weaker c.pass-then-size-from.result
     (λ e. took-past s c.args.marking.now c.args.parent c.args.at c.args.from c.args.to c.requires.order ts c.args.self.now c.pass-then-size-from.new.self
-        (omega (arith, c.if-size-from.true, c.size-size.ensures.size)) (e s ts (sym c.size-size.ensures.size)))
+    (omega (arith, c.if-size-from.true, c.size-size.ensures.size)) (e s ts (sym c.size-size.ensures.size)))
     c.pass-then-size-from.ensures
 
 pub take_child-take_content-requires : goal.take_child-take_content-requires
@@ -98,9 +103,9 @@ take_child-returns-in_ok-token-in-Text t c =
     let s = documents_of c.args.schema.now.spec in
     on_ok_weaker c.pass-in-Text-2.result
     (λ e. took-text s c.args.marking.now c.args.parent c.args.at c.args.from c.args.to c.requires.order c.args.node.now c.in-Text.units c.in_ok-new-in-Text.new c.len-len.result c.min-end.result
-        c.args.self.now c.pass-in-Text.new.self c.token.new.self c.pass-in-Text-2.new.self
-        c.in-Text.is c.if-to-from.false (omega (arith, c.if-size-from.false, c.size-size.ensures.size)) c.len-len.ensures c.min-end.ensures (sym c.in_ok-new-in-Text.ensures)
-        (c.in_ok-pass-in-Text.ensures s) c.in_ok-token-in-Text.ensures.steps c.in_ok-token-in-Text.ensures.run (e s))
+    c.args.self.now c.pass-in-Text.new.self c.token.new.self c.pass-in-Text-2.new.self
+    c.in-Text.is c.if-to-from.false (omega (arith, c.if-size-from.false, c.size-size.ensures.size)) c.len-len.ensures c.min-end.ensures (sym c.in_ok-new-in-Text.ensures)
+    (c.in_ok-pass-in-Text.ensures s) c.in_ok-token-in-Text.ensures.steps c.in_ok-token-in-Text.ensures.run (e s))
     c.pass-in-Text-2.ensures
 
 pub take_child-returns-in_ok-new-in-Leaf : goal.take_child-returns-in_ok-new-in-Leaf
@@ -111,7 +116,7 @@ take_child-returns-in_ok-new-in-Leaf t c =
     let sort = sort-is s c.args.marking.now Inline c.of-sort.result c.args.parent (Leaf n.kind n.attrs n.marks) n.marks leaf c.of-sort.ensures.inline c.of-sort.ensures.node in
     on-both c.token-in-Leaf.result
     (λ x y. took-leaf s c.args.marking.now c.args.parent c.args.at c.args.from c.args.to c.requires.order n c.in_ok-new-in-Leaf.new c.of-sort.result.takes c.args.self.now c.token-in-Leaf.new.self
-        c.in-Leaf.is c.if-to-from.false (omega (arith, c.if-size-from.false, c.size-size.ensures.size)) (sym (c.in_ok-new-in-Leaf.ensures ∙ sort)) leaf x y)
+    c.in-Leaf.is c.if-to-from.false (omega (arith, c.if-size-from.false, c.size-size.ensures.size)) (sym (c.in_ok-new-in-Leaf.ensures ∙ sort)) leaf x y)
     c.token-in-Leaf.ensures.steps c.token-in-Leaf.ensures.run
 
 pub take_child-returns-in_ok-take_content-in-Children : goal.take_child-returns-in_ok-take_content-in-Children
@@ -121,7 +126,7 @@ take_child-returns-in_ok-take_content-in-Children t c =
     let inner = c.in-Children.inner in
     on_ok_weaker c.pass-in-Children.result
     (λ e. took-node s c.args.marking.now c.args.parent c.args.at c.args.from c.args.to c.requires.order n inner c.saturating_sub-start.result (c.args.to - 1) (c.args.at + 1 + c.size.result)
-        c.args.self.now c.take_open.new.self c.take_content.new.self c.pass-in-Children.new.self
-        c.in-Children.is c.size.ensures.whole c.if-to-from.false c.in_ok-take_open-in-Children.ensures c.saturating_sub-start.ensures refl c.in_ok-take_content-in-Children.ensures
-        (ap (λ z. c.args.at + 1 + z) c.size.ensures.size) (e s (Close ∷ []) refl))
+    c.args.self.now c.take_open.new.self c.take_content.new.self c.pass-in-Children.new.self
+    c.in-Children.is c.size.ensures.whole c.if-to-from.false c.in_ok-take_open-in-Children.ensures c.saturating_sub-start.ensures refl c.in_ok-take_content-in-Children.ensures
+    (ap (λ z. c.args.at + 1 + z) c.size.ensures.size) (e s (Close ∷ []) refl))
     c.pass-in-Children.ensures

@@ -24,5 +24,5 @@ returns c =
     let sort = sort-is s c.args.marking.now Inline c.of-sort.result c.args.parent (Open n.kind n.attrs n.marks) n.marks c.of-sort.ensures.takes c.of-sort.ensures.inline c.of-sort.ensures.node in
     on-both c.token.result
     (λ x y. took-open s c.args.marking.now c.args.parent c.args.at c.args.from n c.in_ok-new.new c.of-sort.result.takes c.args.self.now c.token.new.self
-        (omega (arith, c.if-from-gt0.false)) (sym (c.in_ok-new.ensures ∙ sort)) c.of-sort.ensures.takes x y)
+    (omega (arith, c.if-from-gt0.false)) (sym (c.in_ok-new.ensures ∙ sort)) c.of-sort.ensures.takes x y)
     c.token.ensures.steps c.token.ensures.run
