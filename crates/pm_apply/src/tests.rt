@@ -67,7 +67,7 @@ const NODES: &str = "\
     Pab/,remove,5,_,Range";
 
 /// The step of a row, whose kind is told by its word, its number of positions and what follows them.
-fn step(alloc: Global, kind: &str, places: &str, what: &str) -> Result<Step, Fail> {
+pub(crate) fn step(alloc: Global, kind: &str, places: &str, what: &str) -> Result<Step, Fail> {
     let mut numbers = Vec::new(alloc);
     for word in places.split(' ') {
         numbers.push(word.parse::<u64>()?)?;
