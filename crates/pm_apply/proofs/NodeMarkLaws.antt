@@ -1,0 +1,72 @@
+-- The marks of the node that begins at a position: behind whole nodes, in one node, and in its content.
+use Rattle.std.specs.Prelude.{◌≡◌, ℕ, ◌+◌, ◌-◌, ◌≤◌, ◌<◌, Option, Some, None, List, [], ◌∷◌, ◌++◌, length, drop}
+use Rattle.std.proofs.Common.{zero, suc, refl, ap, sym, ◌∙◌, arith, length-append}
+use Rattle.pm_tokens.specs.Tokens.{Marks, Token, Open, Close, Leaf, CodeUnit}
+use Rattle.pm_tokens.specs.Kids.{text_tokens}
+use Rattle.pm_tokens.proofs.ListLaws.{drop-nil}
+use Rattle.pm_node.specs.declared.node.Node.{Node}
+use Rattle.pm_node.specs.declared.node.Body.TheVariants.{Text, Leaf as Childless, Children}
+use Rattle.pm_node.specs.Trees.{node_tokens}
+use Rattle.pm_node.proofs.TreeLaws.{node_tokens_at}
+use Rattle.pm_apply.specs.Nodes.{marks_first}
+
+abbrev pub marks_at : List Token → ℕ → Option Marks
+marks_at ts p = marks_first (drop p ts)
+
+pub marks-behind : (xs ys : List Token) (r : ℕ) → length xs ≤ r → marks_at (xs ++ ys) r ≡ marks_at ys (r - length xs)
+marks-behind [] ys r h = ap (marks_at ys) (let e : r ≡ r - 0 = omega arith in e)
+marks-behind (x ∷ xs) ys zero h = absurd (omega (arith, h))
+marks-behind (x ∷ xs) ys (suc r) h = marks-behind xs ys r (omega (arith, h)) ∙ ap (marks_at ys) (let e : r - length xs ≡ suc r - suc (length xs) = omega arith in e)
+
+pub marks-at-first : (xs ys : List Token) (r : ℕ) → r < length xs → marks_at (xs ++ ys) r ≡ marks_at xs r
+marks-at-first [] ys r h = absurd (omega (arith, h))
+marks-at-first (Open k a m ∷ xs) ys zero h = refl
+marks-at-first (Close ∷ xs) ys zero h = refl
+marks-at-first (Leaf k a m ∷ xs) ys zero h = refl
+marks-at-first (CodeUnit u m ∷ xs) ys zero h = refl
+marks-at-first (x ∷ xs) ys (suc r) h = marks-at-first xs ys r (omega (arith, h))
+
+-- ---- in a node with content
+
+pub marks-inside : (n : Node) (inner : List Token) (pos : ℕ) → n.body ≡ Children inner → 0 < pos → pos ≤ length inner + 1 → marks_at (node_tokens n) pos ≡ marks_at inner (pos - 1)
+marks-inside n inner zero is h le = absurd (omega (arith, h))
+marks-inside n inner (suc p) is h le =
+    ap (λ z. marks_at z (suc p)) (node_tokens_at n (Children inner) is) ∙ (close inner p (omega (arith, le)) ∙ ap (marks_at inner) (let e : p ≡ suc p - 1 = omega arith in e))
+  where
+    close : (xs : List Token) (q : ℕ) → q ≤ length xs → marks_at (xs ++ (Close ∷ [])) q ≡ marks_at xs q
+    close [] zero k = refl
+    close [] (suc q) k = absurd (omega (arith, k))
+    close (Open k a m ∷ xs) zero h = refl
+    close (Close ∷ xs) zero h = refl
+    close (Leaf k a m ∷ xs) zero h = refl
+    close (CodeUnit u m ∷ xs) zero h = refl
+    close (x ∷ xs) (suc q) k = close xs q (omega (arith, k))
+
+pub marks-outside : (n : Node) (inner : List Token) (pos : ℕ) → n.body ≡ Children inner → pos < length (node_tokens n) → length inner < pos → marks_at (node_tokens n) pos ≡ None
+marks-outside n inner pos is lt gt =
+    let ts : node_tokens n ≡ (Open n.kind n.attrs n.marks ∷ inner) ++ (Close ∷ []) = node_tokens_at n (Children inner) is in
+    let at : pos ≡ length (Open n.kind n.attrs n.marks ∷ inner) = omega (arith, gt, lt, ap length ts, length-append (Open n.kind n.attrs n.marks ∷ inner) (Close ∷ [])) in
+    ap (λ z. marks_at z pos) ts ∙ (marks-behind (Open n.kind n.attrs n.marks ∷ inner) (Close ∷ []) pos (omega (arith, at)) ∙ ap (marks_at (Close ∷ [])) (let e : pos - length (Open n.kind n.attrs n.marks ∷ inner) ≡ 0 = omega (arith, at) in e))
+
+pub marks-open : (n : Node) (inner : List Token) (pos : ℕ) → n.body ≡ Children inner → pos ≡ 0 → marks_at (node_tokens n) pos ≡ Some n.marks
+marks-open n inner pos is z = ap (λ p. marks_at (node_tokens n) p) z ∙ ap (λ ts. marks_at ts 0) (node_tokens_at n (Children inner) is)
+
+-- ---- in a text or a leaf
+
+units-none : (m : Marks) (us : List ℕ) (pos : ℕ) → marks_at (text_tokens m us) pos ≡ None
+units-none m [] pos = ap marks_first (drop-nil pos)
+units-none m (u ∷ us) zero = refl
+units-none m (u ∷ us) (suc p) = units-none m us p
+
+pub marks-text : (n : Node) (us : List ℕ) (pos : ℕ) → n.body ≡ Text us → marks_at (node_tokens n) pos ≡ None
+marks-text n us pos is = ap (λ ts. marks_at ts pos) (node_tokens_at n (Text us) is) ∙ units-none n.marks us pos
+
+pub marks-leaf : (n : Node) (pos : ℕ) → n.body ≡ Childless → pos < length (node_tokens n) → marks_at (node_tokens n) pos ≡ Some n.marks
+marks-leaf n pos is lt =
+    let z : pos ≡ 0 = omega (arith, lt, ap length (node_tokens_at n Childless is)) in
+    ap (λ p. marks_at (node_tokens n) p) z ∙ ap (λ ts. marks_at ts 0) (node_tokens_at n Childless is)
+
+-- ---- past the end
+
+pub marks-end : (ts : List Token) (pos : ℕ) → ts ≡ [] → marks_at ts pos ≡ None
+marks-end ts pos e = ap (λ z. marks_at z pos) e ∙ ap marks_first (drop-nil pos)

@@ -1,0 +1,113 @@
+use Rattle.std.proofs.Common.{◌≡◌, ℕ, ◌+◌, ◌*◌, ◌<◌, ◌≤◌, ◌++◌, [], ◌∷◌, List, length, arith, sym, ap, ◌∙◌, subst, refl, length-append}
+use Rattle.std.specs.Arc.{arc_value}
+use Rattle.std.proofs.lemmas.Result.{on_ok_weaker}
+use Rattle.pm_tokens.specs.Tokens.{Token, Open, Close, Leaf, CodeUnit}
+use Rattle.pm_tokens.specs.Scan.{Balanced}
+use Rattle.pm_schema.specs.Documents.{documents_of}
+use Rattle.pm_node.specs.declared.node.Body.TheVariants.{Text, Leaf as Childless, Children}
+use Rattle.pm_node.specs.Trees.{node_tokens}
+use Rattle.pm_node.proofs.TreeLaws.{node_tokens_at, length-text_tokens}
+use Rattle.pm_node.proofs.WalkLaws.{child-within}
+use Rattle.pm_apply.specs.Markings.{AreKnown, marked_in, new_marks}
+use Rattle.pm_apply.proofs.KnownLaws.{known-child, known-inner}
+use Rattle.pm_apply.proofs.MarkedWalk.{marked-start, marked-more, marked-end, marked-room, marked-order}
+use Rattle.pm_apply.proofs.MarkedNodes.{sort-is, and-yes, marked-none, marked-past, marked-text, marked-leaf, marked-open, marked-length}
+use Rattle.pm_apply.proofs.marks.+mark.Goals as goal
+
+pub mark_content-mark_child-requires : goal.mark_content-mark_child-requires
+mark_content-mark_child-requires t c =
+    let f = new_marks (documents_of c.args.schema.now.spec) c.args.marking.now c.args.reach in
+    let xs = c.children-child-items.result.now in
+    let all = c.children-child-items.ensures.tokens in
+    let d : 3 * length c.args.content.now + 2 ≡ t = c.decreases in
+    let w = child-within xs _ c.child-item.result c.loop-child-test.true c.child-item.is in
+    let g : 3 * length (node_tokens (arc_value c.child-item.result)) + 1 < t = omega (arith, d, w, ap length all) in
+    let room = marked-room f c.args.parent xs c.args.from c.args.to c.requires.order _ _ _ c.child-item.result _ c.loop-child.invariant c.loop-child-test.true c.child-item.is in (
+      g,
+      (
+        marked-order f c.args.parent xs c.args.from c.args.to c.requires.order _ _ _ _ c.loop-child.invariant,
+        (
+          c.requires.parent,
+          (
+            known-child (length c.args.schema.now.spec.nodes) xs _ c.child-item.result c.loop-child-test.true c.child-item.is (subst (AreKnown (length c.args.schema.now.spec.nodes)) (sym all) c.requires.known),
+            omega (arith, room, c.size.ensures.size, c.size.ensures.bound, ap length all),
+          ),
+        ),
+      ),
+    )
+
+pub mark_content-loop-child-preserved : goal.mark_content-loop-child-preserved
+mark_content-loop-child-preserved t c =
+    let f = new_marks (documents_of c.args.schema.now.spec) c.args.marking.now c.args.reach in
+    let d = c.deref.ensures in
+    marked-more f c.args.parent c.children-child-items.result.now c.args.from c.args.to c.requires.order _ _ _ c.size-size.result _ _ c.child-item.result _ _ c.loop-child.invariant c.loop-child-test.true c.child-item.is
+    (subst (λ n. Balanced (node_tokens n)) d c.size-size.ensures.whole) (c.size-size.ensures.size ∙ ap (λ n. length (node_tokens n)) d)
+    c.in_ok-mark_child.ensures c.saturating_sub-start.ensures c.saturating_sub-end.ensures
+
+pub mark_content-returns : goal.mark_content-returns
+mark_content-returns t c = λ ps.
+    let f = new_marks (documents_of c.args.schema.now.spec) c.args.marking.now c.args.reach in
+    marked-end f c.args.parent c.children-child-items.result.now c.args.from c.args.to c.requires.order _ _ _ _ c.loop-child.invariant c.loop-child-test.false ps
+    ∙ ap (marked_in f (c.args.parent ∷ ps) c.args.from c.args.to) c.children-child-items.ensures.tokens
+
+pub mark_child-returns-then-to-from : goal.mark_child-returns-then-to-from
+mark_child-returns-then-to-from t c =
+    let f = new_marks (documents_of c.args.schema.now.spec) c.args.marking.now c.args.reach in
+    on_ok_weaker c.push_shared.result
+    (λ e ps. e ∙ ap (λ z. c.args.made.now ++ z) (sym (marked-none f c.args.parent ps c.args.from c.args.to (node_tokens (arc_value c.args.node.now)) c.requires.order c.if-to-from.true)))
+    c.push_shared.ensures
+
+pub mark_part-mark_text-requires-clause-room : goal.mark_part-mark_text-requires-clause-room
+mark_part-mark_text-requires-clause-room t c =
+    let n = c.args.node.now in
+    omega (arith, c.requires.room, ap length (node_tokens_at n (Text c.in-Text.units) c.in-Text.is), length-text_tokens n.marks c.in-Text.units)
+
+pub mark_part-mark_content-requires : goal.mark_part-mark_content-requires
+mark_part-mark_content-requires t c =
+    let n = c.args.node.now in
+    let inner = c.in-Children.inner in
+    let count = length c.args.schema.now.spec.nodes in
+    let d : 3 * length (node_tokens n) ≡ t = c.decreases in
+    let size : length (node_tokens n) ≡ length inner + 2 = omega (arith, ap length (node_tokens_at n (Children inner) c.in-Children.is), length-append inner (Close ∷ [])) in
+    let known = known-inner count n inner c.in-Children.is c.requires.known in
+    let g : 3 * length inner + 2 < t = omega (arith, d, size) in
+    (g, (omega (arith, c.saturating_sub-start.ensures, c.requires.some), (known.0, known.1)))
+
+pub mark_part-push_with-requires-in-Children : goal.mark_part-push_with-requires-in-Children
+mark_part-push_with-requires-in-Children t c =
+    let f = new_marks (documents_of c.args.schema.now.spec) c.args.marking.now c.args.reach in
+    let n = c.args.node.now in
+    let inner = c.in-Children.inner in
+    let size : length (node_tokens n) ≡ length inner + 2 = omega (arith, ap length (node_tokens_at n (Children inner) c.in-Children.is), length-append inner (Close ∷ [])) in
+    let same = marked-length f n.kind c.saturating_sub-start.result _ inner c.in_ok-inner-in-Children.inner (omega (arith, c.saturating_sub-start.ensures, c.requires.some)) c.in_ok-inner-in-Children.ensures in
+    omega (arith, c.requires.room, size, same, length-append c.in_ok-inner-in-Children.inner (Close ∷ []))
+
+pub mark_part-returns-in_ok-marks-in-Text : goal.mark_part-returns-in_ok-marks-in-Text
+mark_part-returns-in_ok-marks-in-Text t c =
+    let s = documents_of c.args.schema.now.spec in
+    let f = new_marks s c.args.marking.now c.args.reach in
+    let n = c.args.node.now in
+    on_ok_weaker c.mark_text.result
+    (λ e ps. e ∙ ap (λ z. c.args.made.now ++ z) (marked-text f c.args.parent ps n c.in-Text.units c.in_ok-marks-in-Text.marks c.args.from c.args.to c.in-Text.is (omega (arith, c.requires.some)) (λ u. sym c.in_ok-marks-in-Text.ensures)))
+    c.mark_text.ensures
+
+pub mark_part-returns-in_ok-marks-in-Leaf : goal.mark_part-returns-in_ok-marks-in-Leaf
+mark_part-returns-in_ok-marks-in-Leaf t c =
+    let s = documents_of c.args.schema.now.spec in
+    let f = new_marks s c.args.marking.now c.args.reach in
+    let n = c.args.node.now in
+    let sort = sort-is s c.args.marking.now c.args.reach c.of-sort.result c.args.parent (Leaf n.kind n.attrs n.marks) n.marks (c.of-sort.ensures.takes ∙ and-yes (s.is_inline n.kind) (s.is_atom n.kind)) c.of-sort.ensures.inline c.of-sort.ensures.node in
+    on_ok_weaker c.push_with.result
+    (λ e ps. e ∙ ap (λ z. c.args.made.now ++ z) (marked-leaf f c.args.parent ps n c.in_ok-marks-in-Leaf.marks c.args.from c.args.to c.in-Leaf.is c.requires.some c.requires.start (sym (c.in_ok-marks-in-Leaf.ensures ∙ sort))))
+    c.push_with.ensures
+
+pub mark_part-returns-in_ok-inner-in-Children : goal.mark_part-returns-in_ok-inner-in-Children
+mark_part-returns-in_ok-inner-in-Children t c =
+    let s = documents_of c.args.schema.now.spec in
+    let f = new_marks s c.args.marking.now c.args.reach in
+    let n = c.args.node.now in
+    let inner = c.in-Children.inner in
+    on_ok_weaker c.push_with-in-Children.result
+    (λ e ps. e ∙ ap (λ z. c.args.made.now ++ z) (marked-open f c.args.parent ps n inner c.in_ok-inner-in-Children.inner c.in_ok-marks-in-Children.marks c.args.from c.args.to c.saturating_sub-start.result _
+    c.in-Children.is c.size.ensures.whole c.requires.some c.in_ok-marks-in-Children.ensures.start c.in_ok-marks-in-Children.ensures.inside c.saturating_sub-start.ensures refl c.in_ok-inner-in-Children.ensures))
+    c.push_with-in-Children.ensures

@@ -1,0 +1,132 @@
+use Rattle.std.proofs.Common.{◌≡◌, ℕ, ◌+◌, ◌-◌, ◌*◌, ◌<◌, ◌≤◌, ◌++◌, [], ◌∷◌, length, arith, sym, ap, ◌∙◌, subst, refl, length-append}
+use Rattle.std.specs.Arc.{arc_value}
+use Rattle.std.proofs.lemmas.Result.{on_ok_weaker}
+use Rattle.pm_tokens.specs.Tokens.{Leaf, Close}
+use Rattle.pm_tokens.specs.Scan.{Balanced}
+use Rattle.pm_schema.specs.Documents.{documents_of}
+use Rattle.pm_node.specs.declared.node.Body.TheVariants.{Text, Children}
+use Rattle.pm_node.specs.Trees.{node_tokens}
+use Rattle.pm_node.proofs.TreeLaws.{node_tokens_at, length-text_tokens}
+use Rattle.pm_node.proofs.WalkLaws.{child-within}
+use Rattle.pm_apply.specs.declared.marking.Reach.TheVariants.{Inline}
+use Rattle.pm_apply.specs.Markings.{AreKnown}
+use Rattle.pm_apply.proofs.KnownLaws.{known-child, known-inner}
+use Rattle.pm_apply.proofs.MarkedNodes.{sort-is, and-yes}
+use Rattle.pm_apply.proofs.TakenWalk.{taken-start, taken-order, taken-more, taken-room, taken-end, took-none, took-past, took-leaf, took-node, took-text, on-both}
+use Rattle.pm_apply.proofs.runs.Runs.+take.Goals as goal
+
+pub take_content-loop-child-init : goal.take_content-loop-child-init
+take_content-loop-child-init t c =
+    taken-start (documents_of c.args.schema.now.spec) c.args.marking.now c.args.parent c.children-child-items.result.now c.args.at c.args.from c.args.to c.args.self.now c.requires.order
+
+pub take_content-take_child-requires : goal.take_content-take_child-requires
+take_content-take_child-requires t c =
+    let s = documents_of c.args.schema.now.spec in
+    let xs = c.children-child-items.result.now in
+    let all = c.children-child-items.ensures.tokens in
+    let count = length c.args.schema.now.spec.nodes in
+    let d : 2 * length c.args.content.now + 1 ≡ t = c.decreases in
+    let w = child-within xs _ c.child-item.result c.loop-child-test.true c.child-item.is in
+    let n = ap (λ m. length (node_tokens m)) c.deref-in-loop-child.ensures in
+    let g : 2 * length (node_tokens c.deref-in-loop-child.result.now) < t = omega (arith, d, w, n, ap length all) in
+    let room = taken-room s c.args.marking.now c.args.parent xs c.args.at c.args.from c.args.to c.args.self.now c.requires.order _ _ _ _ c.child-item.result c.loop-child.self c.loop-child.invariant c.loop-child-test.true c.child-item.is in (
+      g,
+      (
+        taken-order s c.args.marking.now c.args.parent xs c.args.at c.args.from c.args.to c.args.self.now c.requires.order _ _ _ _ c.loop-child.self c.loop-child.invariant,
+        (
+          c.requires.parent,
+          (
+            subst (λ m. AreKnown count (node_tokens m)) (sym c.deref-in-loop-child.ensures)
+                (known-child count xs _ c.child-item.result c.loop-child-test.true c.child-item.is (subst (AreKnown count) (sym all) c.requires.known)),
+            omega (arith, room, n, c.requires.room, ap length all),
+          ),
+        ),
+      ),
+    )
+
+pub take_content-overflow_add-place : goal.take_content-overflow_add-place
+take_content-overflow_add-place t c =
+    let s = documents_of c.args.schema.now.spec in
+    let xs = c.children-child-items.result.now in
+    let all = c.children-child-items.ensures.tokens in
+    let room = taken-room s c.args.marking.now c.args.parent xs c.args.at c.args.from c.args.to c.args.self.now c.requires.order _ _ _ _ c.child-item.result c.loop-child.self c.loop-child.invariant c.loop-child-test.true c.child-item.is in
+    omega (arith, room, c.size-size.ensures.size, ap (λ m. length (node_tokens m)) c.deref.ensures, c.requires.room, ap length all)
+
+pub take_content-loop-child-preserved : goal.take_content-loop-child-preserved
+take_content-loop-child-preserved t c =
+    let d = c.deref.ensures in
+    taken-more (documents_of c.args.schema.now.spec) c.args.marking.now c.args.parent c.children-child-items.result.now c.args.at c.args.from c.args.to c.args.self.now c.requires.order
+    _ _ _ _ c.size-size.result _ _ _ c.deref-in-loop-child.result.now c.child-item.result c.loop-child.self c.take_child.new.self c.loop-child.invariant c.loop-child-test.true c.child-item.is c.deref-in-loop-child.ensures
+    (subst (λ n. Balanced (node_tokens n)) d c.size-size.ensures.whole) (c.size-size.ensures.size ∙ ap (λ n. length (node_tokens n)) d)
+    c.in_ok-take_child.ensures refl c.saturating_sub-start.ensures c.saturating_sub-end.ensures
+
+pub take_content-returns : goal.take_content-returns
+take_content-returns t c =
+    taken-end (documents_of c.args.schema.now.spec) c.args.marking.now c.args.parent c.children-child-items.result.now c.args.at c.args.from c.args.to c.args.self.now c.requires.order
+    _ _ _ _ c.loop-child.self c.args.content.now c.loop-child.invariant c.loop-child-test.false c.children-child-items.ensures.tokens
+
+pub take_child-returns-then-to-from : goal.take_child-returns-then-to-from
+take_child-returns-then-to-from t c =
+    let s = documents_of c.args.schema.now.spec in
+    let ts = node_tokens c.args.node.now in
+    on_ok_weaker c.pass.result
+    (λ e. took-none s c.args.marking.now c.args.parent c.args.at c.args.from c.args.to c.requires.order ts c.args.self.now c.pass.new.self c.if-to-from.true (e s ts (sym c.size-size.ensures.size)))
+    c.pass.ensures
+
+pub take_child-returns-then-size-from : goal.take_child-returns-then-size-from
+take_child-returns-then-size-from t c =
+    let s = documents_of c.args.schema.now.spec in
+    let ts = node_tokens c.args.node.now in
+    on_ok_weaker c.pass-then-size-from.result
+    (λ e. took-past s c.args.marking.now c.args.parent c.args.at c.args.from c.args.to c.requires.order ts c.args.self.now c.pass-then-size-from.new.self
+    (omega (arith, c.if-size-from.true, c.size-size.ensures.size)) (e s ts (sym c.size-size.ensures.size)))
+    c.pass-then-size-from.ensures
+
+pub take_child-take_content-requires : goal.take_child-take_content-requires
+take_child-take_content-requires t c =
+    let n = c.args.node.now in
+    let inner = c.in-Children.inner in
+    let count = length c.args.schema.now.spec.nodes in
+    let d : 2 * length (node_tokens n) ≡ t = c.decreases in
+    let size : length (node_tokens n) ≡ length inner + 2 = omega (arith, ap length (node_tokens_at n (Children inner) c.in-Children.is), length-append inner (Close ∷ [])) in
+    let known = known-inner count n inner c.in-Children.is c.requires.known in
+    let g : 2 * length inner + 1 < t = omega (arith, d, size) in
+    (g, (omega (arith, c.saturating_sub-start.ensures, c.if-to-from.false), (known.0, (known.1, omega (arith, size, c.requires.room)))))
+
+pub take_child-overflow_add-at-in-Text : goal.take_child-overflow_add-at-in-Text
+take_child-overflow_add-at-in-Text t c =
+    let n = c.args.node.now in
+    omega (arith, c.requires.room, c.min-end.ensures, c.len-len.ensures, ap length (node_tokens_at n (Text c.in-Text.units) c.in-Text.is), length-text_tokens n.marks c.in-Text.units)
+
+pub take_child-returns-in_ok-token-in-Text : goal.take_child-returns-in_ok-token-in-Text
+take_child-returns-in_ok-token-in-Text t c =
+    let s = documents_of c.args.schema.now.spec in
+    on_ok_weaker c.pass-in-Text-2.result
+    (λ e. took-text s c.args.marking.now c.args.parent c.args.at c.args.from c.args.to c.requires.order c.args.node.now c.in-Text.units c.in_ok-new-in-Text.new c.len-len.result c.min-end.result
+    c.args.self.now c.pass-in-Text.new.self c.token.new.self c.pass-in-Text-2.new.self
+    c.in-Text.is c.if-to-from.false (omega (arith, c.if-size-from.false, c.size-size.ensures.size)) c.len-len.ensures c.min-end.ensures (sym c.in_ok-new-in-Text.ensures)
+    (c.in_ok-pass-in-Text.ensures s) c.in_ok-token-in-Text.ensures.steps c.in_ok-token-in-Text.ensures.run (e s))
+    c.pass-in-Text-2.ensures
+
+pub take_child-returns-in_ok-new-in-Leaf : goal.take_child-returns-in_ok-new-in-Leaf
+take_child-returns-in_ok-new-in-Leaf t c =
+    let s = documents_of c.args.schema.now.spec in
+    let n = c.args.node.now in
+    let leaf = c.of-sort.ensures.takes ∙ and-yes (s.is_inline n.kind) (s.is_atom n.kind) in
+    let sort = sort-is s c.args.marking.now Inline c.of-sort.result c.args.parent (Leaf n.kind n.attrs n.marks) n.marks leaf c.of-sort.ensures.inline c.of-sort.ensures.node in
+    on-both c.token-in-Leaf.result
+    (λ x y. took-leaf s c.args.marking.now c.args.parent c.args.at c.args.from c.args.to c.requires.order n c.in_ok-new-in-Leaf.new c.of-sort.result.takes c.args.self.now c.token-in-Leaf.new.self
+    c.in-Leaf.is c.if-to-from.false (omega (arith, c.if-size-from.false, c.size-size.ensures.size)) (sym (c.in_ok-new-in-Leaf.ensures ∙ sort)) leaf x y)
+    c.token-in-Leaf.ensures.steps c.token-in-Leaf.ensures.run
+
+pub take_child-returns-in_ok-take_content-in-Children : goal.take_child-returns-in_ok-take_content-in-Children
+take_child-returns-in_ok-take_content-in-Children t c =
+    let s = documents_of c.args.schema.now.spec in
+    let n = c.args.node.now in
+    let inner = c.in-Children.inner in
+    on_ok_weaker c.pass-in-Children.result
+    (λ e. took-node s c.args.marking.now c.args.parent c.args.at c.args.from c.args.to c.requires.order n inner c.saturating_sub-start.result (c.args.to - 1) (c.args.at + 1 + c.size.result)
+    c.args.self.now c.take_open.new.self c.take_content.new.self c.pass-in-Children.new.self
+    c.in-Children.is c.size.ensures.whole c.if-to-from.false c.in_ok-take_open-in-Children.ensures c.saturating_sub-start.ensures refl c.in_ok-take_content-in-Children.ensures
+    (ap (λ z. c.args.at + 1 + z) c.size.ensures.size) (e s (Close ∷ []) refl))
+    c.pass-in-Children.ensures

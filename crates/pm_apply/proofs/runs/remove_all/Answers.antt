@@ -1,0 +1,13 @@
+use Rattle.pm_apply.proofs.FirstLost.{removed-more, all-removed, given-nothing}
+use Rattle.pm_apply.proofs.runs.remove_all.Goals as goal
+
+pub loop-mark-init : goal.loop-mark-init
+loop-mark-init c = given-nothing c.args.place c.args.steps.now.items
+
+pub loop-mark-preserved : goal.loop-mark-preserved
+loop-mark-preserved c =
+    removed-more c.args.place c.args.marks.now c.loop-mark.mark-index c.mark-item.result c.args.steps.now.items _ _ c.loop-mark-test.true c.mark-item.is
+    c.loop-mark.invariant c.in_ok-push_remove.ensures
+
+pub returns : goal.returns
+returns c = all-removed c.args.place c.args.marks.now c.loop-mark.mark-index c.args.steps.now.items _ c.loop-mark.invariant c.loop-mark-test.false

@@ -1,0 +1,7 @@
+pub mod Changes
+pub mod Markings
+pub mod Laws
+pub mod Around
+pub mod Nodes
+pub mod Backs
+pub mod Walks

@@ -1,0 +1,62 @@
+-- The steps that give marks back, for one part of the tokens after another.
+use Rattle.std.specs.Prelude.{◌≡◌, ℕ, ◌+◌, Bool, not, List, [], ◌∷◌, ◌++◌, Option, Some, None, option_map, map}
+use Rattle.pm_attrs.specs.Attrs.{same_attrs}
+use Rattle.pm_marks.specs.declared.mark.Mark.{Mark}
+use Rattle.pm_marks.specs.Sets.{same_marks}
+use Rattle.pm_tokens.specs.Tokens.{Attrs, Marks, Token, marks_of}
+use Rattle.pm_tokens.specs.Schemas.{Schema}
+use Rattle.pm_meaning.specs.Steps.{Step, AddMark, RemoveMark, AddNodeMark, RemoveNodeMark}
+use Rattle.pm_meaning.specs.Marked.{takes_marks}
+use Rattle.pm_meaning.specs.Runs as runs
+use Rattle.pm_meaning.specs.Runs.{range_steps, node_steps, continues, due, next_run}
+use Rattle.pm_apply.specs.declared.runs.Run.{Run}
+use Rattle.pm_apply.specs.declared.runs.Runs.{Runs}
+use Rattle.pm_apply.specs.declared.runs.Place.{Place}
+use Rattle.pm_apply.specs.declared.runs.Place.TheVariants.{Range, Node}
+use Rattle.pm_apply.specs.declared.marking.Marking.{Marking}
+use Rattle.pm_apply.specs.declared.marking.Marking.TheVariants.{Add, Remove}
+
+-- the step that adds a mark at the place, or removes it
+abbrev pub place_step : Place → Marking → Step
+place_step (Range from to) (Add m) = AddMark from to m
+place_step (Range from to) (Remove m) = RemoveMark from to m
+place_step (Node pos) (Add m) = AddNodeMark pos m
+place_step (Node pos) (Remove m) = RemoveNodeMark pos m
+
+-- the steps that give the old marks back at the place
+abbrev pub given_back : Place → Marks → Marks → List Step
+given_back (Range from to) old new = range_steps from to old new
+given_back (Node pos) old new = node_steps pos old new
+
+-- the run, as the meaning of steps has it
+abbrev pub run_of : Option Run → Option runs.Run
+run_of None = None
+run_of (Some r) = Some (record { start = r.start; old = r.old; new = r.new })
+
+module _ (s : Schema) where
+  -- the steps that are due at these tokens from p on, by the old and the new ones
+  abbrev pub due_all : ℕ → Option runs.Run → List Token → List Token → List Step
+  due_all p run [] news = []
+  due_all p run (t ∷ ts) [] = []
+  due_all p run (t ∷ ts) (n ∷ ns) =
+      let old = marks_of t in
+      let new = marks_of n in
+      let changed = not (same_marks same_attrs old new) in
+      let on = continues run old new in
+      due changed (takes_marks s t) on run p old new ++ due_all (p + 1) (next_run changed (takes_marks s t) on run p old new) ts ns
+
+  -- the run after these tokens
+  abbrev pub run_after : ℕ → Option runs.Run → List Token → List Token → Option runs.Run
+  run_after p run [] news = run
+  run_after p run (t ∷ ts) [] = run
+  run_after p run (t ∷ ts) (n ∷ ns) =
+      let old = marks_of t in
+      let new = marks_of n in
+      let changed = not (same_marks same_attrs old new) in
+      let on = continues run old new in
+      run_after (p + 1) (next_run changed (takes_marks s t) on run p old new) ts ns
+
+  -- the walk took these tokens from p on, which had the marks of `ts` and have those of `ns`
+  pub record Took (p : ℕ) (ts ns : List Token) (old new : Runs) : Type 0 where
+    pub steps : new.steps.items ≡ old.steps.items ++ due_all p (run_of old.run) ts ns
+    pub run : run_of new.run ≡ run_after p (run_of old.run) ts ns

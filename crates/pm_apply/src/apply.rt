@@ -1,0 +1,139 @@
+//! What a step makes of a document.
+ghost use Rattle.pm_change.specs.Failing.{Answers};
+ghost use Rattle.pm_tokens.specs.Faults.{Valid};
+ghost use Rattle.pm_meaning.specs.Outcomes.{outcome};
+ghost use Rattle.pm_node.specs.Documents.{doc_of, doc_with};
+ghost use Rattle.pm_schema.specs.Documents.{documents_of};
+ghost use Rattle.pm_step.specs.Steps.{step_of};
+
+use crate::around::{Ends, replace_around};
+use crate::mark_steps::{mark_node, mark_range};
+use crate::marking::Marking;
+use crate::replace::replace;
+use pm_change::Failed;
+use pm_meaning::Reason;
+use pm_node::{Body, Document, Fragment, Node, text_alone};
+use pm_schema::Schema;
+use pm_step::Step;
+use std::alloc::Global;
+
+/// The document after a step, or the first reason why the step does not apply. Positions are in tokens. The reasons come in
+/// this order. Range: the positions are not in order or pass the size, or `insert` passes the slice. Structure: a range that a
+/// step with `structure` overwrites is not closes and then opens. Gap: the gap is no whole number of nodes. Depth: the open
+/// sides do not fit the depths of the ends. Pair: a position parts a surrogate pair, in the document or in the slice. Join: an
+/// open node meets a close whose owner's type is not compatible with its own. Large, Deep and Content: the result has too many
+/// tokens, nests too deep, or has a fault, of which the least place is named. NoNode: no node begins at the position.
+pub fn apply(
+    alloc: Global,
+    schema: &Schema,
+    step: &Step,
+    doc: &Document,
+) -> Result<Document, Failed<Reason>>
+    requires { Valid (documents_of schema.now.spec) doc.now }
+    ensures { Answers (outcome (documents_of schema.now.spec) (step_of step.now) doc.now) result }
+{
+    let top = doc.top();
+    apply_below(alloc, schema, step, top)
+}
+
+fn apply_below(
+    alloc: Global,
+    schema: &Schema,
+    step: &Step,
+    top: &Node,
+) -> Result<Document, Failed<Reason>>
+    requires { Valid (documents_of schema.now.spec) (doc_of top.now) }
+    ensures { Answers (outcome (documents_of schema.now.spec) (step_of step.now) (doc_of top.now)) result }
+{
+    match &top.body {
+        Body::Children(content) => apply_in(alloc, schema, step, top, content),
+        Body::Leaf => {
+            let content = Fragment::new(alloc);
+            apply_in(alloc, schema, step, top, &content)
+        }
+        Body::Text(units) => {
+            let content = text_alone(alloc, &top.marks, units)?;
+            apply_in(alloc, schema, step, top, &content)
+        }
+    }
+}
+
+/// The same for the document with the top node's type, attributes and marks and this content.
+fn apply_in(
+    alloc: Global,
+    schema: &Schema,
+    step: &Step,
+    top: &Node,
+    content: &Fragment,
+) -> Result<Document, Failed<Reason>>
+    requires { Valid (documents_of schema.now.spec) (doc_with top.now content.now) }
+    ensures { Answers (outcome (documents_of schema.now.spec) (step_of step.now) (doc_with top.now content.now)) result }
+{
+    match step {
+        Step::Replace {
+            from,
+            to,
+            slice,
+            structure,
+        } => replace(
+            alloc,
+            schema,
+            top,
+            content,
+            *from as usize,
+            *to as usize,
+            slice,
+            *structure,
+        ),
+        Step::ReplaceAround {
+            from,
+            to,
+            gap_from,
+            gap_to,
+            slice,
+            insert,
+            structure,
+        } => {
+            let ends = Ends {
+                from: *from as usize,
+                to: *to as usize,
+                gap_from: *gap_from as usize,
+                gap_to: *gap_to as usize,
+                insert: *insert as usize,
+            };
+            replace_around(alloc, schema, top, content, ends, slice, *structure)
+        }
+        Step::AddMark { from, to, mark } => {
+            let marking = Marking::Add(mark.copy(alloc)?);
+            mark_range(
+                alloc,
+                schema,
+                top,
+                content,
+                *from as usize,
+                *to as usize,
+                &marking,
+            )
+        }
+        Step::RemoveMark { from, to, mark } => {
+            let marking = Marking::Remove(mark.copy(alloc)?);
+            mark_range(
+                alloc,
+                schema,
+                top,
+                content,
+                *from as usize,
+                *to as usize,
+                &marking,
+            )
+        }
+        Step::AddNodeMark { pos, mark } => {
+            let marking = Marking::Add(mark.copy(alloc)?);
+            mark_node(alloc, schema, top, content, *pos as usize, &marking)
+        }
+        Step::RemoveNodeMark { pos, mark } => {
+            let marking = Marking::Remove(mark.copy(alloc)?);
+            mark_node(alloc, schema, top, content, *pos as usize, &marking)
+        }
+    }
+}

@@ -1,0 +1,98 @@
+//! Steps as changes.
+ghost use Rattle.std.specs.Prelude.{◌≡◌};
+ghost use Rattle.pm_step.specs.Steps.{step_of};
+
+use crate::apply::apply;
+use crate::inverse::inverse;
+use pm_change::{Change, Failed};
+use pm_map::{Mapping, StepMap};
+use pm_meaning::Reason;
+use pm_node::Document;
+use pm_schema::Schema;
+use pm_step::Step;
+use std::alloc::{AllocError, Global};
+use std::marker::Model;
+
+/// A step, as a change of documents under a schema.
+#[derive(Drop)]
+pub struct DocChange {
+    pub step: Step,
+}
+
+impl Model for DocChange {
+    ghost use Rattle.pm_meaning.specs.Steps as steps;
+    ghost use Rattle.pm_step.specs.Codes.{step_code};
+    ghost use Rattle.pm_step.specs.Steps.{step_of};
+
+    ghost Value = { steps.Step };
+
+    ghost coded = { step_code };
+
+    ghost view = { λ c. step_of c.step };
+}
+
+impl DocChange {
+    /// The change that a step is.
+    pub fn new(step: Step) -> DocChange
+        ensures { result ≡ step_of step }
+    {
+        DocChange { step }
+    }
+}
+
+impl Change for DocChange {
+    ghost use Rattle.pm_apply.specs.Changes.{meaning};
+    ghost use Rattle.pm_apply.specs.Laws.{laws};
+
+    type Rules = Schema;
+
+    type Doc = Document;
+
+    type Reason = Reason;
+
+    ghost means = { meaning };
+
+    fn apply(
+        &self,
+        alloc: Global,
+        rules: &Schema,
+        doc: &Document,
+    ) -> Result<Document, Failed<Reason>> {
+        apply(alloc, rules, &self.step, doc)
+    }
+
+    fn inverse(
+        &self,
+        alloc: Global,
+        rules: &Schema,
+        doc: &Document,
+    ) -> Result<Vec<DocChange>, AllocError> {
+        inverse(alloc, rules, &self.step, doc)
+    }
+
+    fn step_map(&self) -> StepMap {
+        self.step.step_map()
+    }
+
+    fn carry(&self, alloc: Global, mapping: &Mapping) -> Result<Option<DocChange>, AllocError> {
+        match self.step.carry(alloc, mapping)? {
+            Some(step) => Ok(Some(DocChange { step })),
+            None => Ok(None),
+        }
+    }
+
+    fn size(doc: &Document) -> usize {
+        doc.size()
+    }
+
+    fn copy(&self, alloc: Global) -> Result<DocChange, AllocError> {
+        let step = self.step.copy(alloc)?;
+        Ok(DocChange { step })
+    }
+
+    fn copy_doc(_alloc: Global, doc: &Document) -> Result<Document, AllocError> {
+        doc.copy()
+    }
+
+    ghost laws = { laws };
+}

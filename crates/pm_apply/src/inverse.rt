@@ -1,0 +1,143 @@
+//! The steps that take a step back.
+ghost use Rattle.std.specs.Prelude.{◌≡◌, ◌∷◌, [], IfOk, Ok};
+ghost use Rattle.pm_tokens.specs.Tokens.{Doc};
+ghost use Rattle.pm_tokens.specs.Faults.{Valid};
+ghost use Rattle.pm_meaning.specs.Outcomes.{outcome};
+ghost use Rattle.pm_meaning.specs.Inverses.{inverse};
+ghost use Rattle.pm_node.specs.Documents.{doc_of, doc_with};
+ghost use Rattle.pm_schema.specs.Documents.{documents_of};
+ghost use Rattle.pm_step.specs.Steps.{step_of};
+
+use crate::around::Ends;
+use crate::change::DocChange;
+use crate::marking::Marking;
+use crate::node_back::node_back;
+use crate::range_back::range_back;
+use crate::replace_back::{around_back, replace_back};
+use pm_node::{Body, Document, Fragment, Node, text_alone};
+use pm_schema::Schema;
+use pm_step::Step;
+use std::alloc::{AllocError, Global};
+
+/// The steps that take a step back, to be made one after another on the document after it. `doc` is the document before it.
+pub fn inverse(
+    alloc: Global,
+    schema: &Schema,
+    step: &Step,
+    doc: &Document,
+) -> Result<Vec<DocChange>, AllocError>
+    requires good { Valid (documents_of schema.now.spec) doc.now }
+    requires applies { ((next : Doc) × (outcome (documents_of schema.now.spec) (step_of step.now) doc.now ≡ Ok next)) }
+    ensures { IfOk result (λ v. v.items ≡ inverse (documents_of schema.now.spec) (step_of step.now) doc.now) }
+{
+    let top = doc.top();
+    inverse_below(alloc, schema, step, top)
+}
+
+fn inverse_below(
+    alloc: Global,
+    schema: &Schema,
+    step: &Step,
+    top: &Node,
+) -> Result<Vec<DocChange>, AllocError>
+    requires good { Valid (documents_of schema.now.spec) (doc_of top.now) }
+    requires applies { ((next : Doc) × (outcome (documents_of schema.now.spec) (step_of step.now) (doc_of top.now) ≡ Ok next)) }
+    ensures { IfOk result (λ v. v.items ≡ inverse (documents_of schema.now.spec) (step_of step.now) (doc_of top.now)) }
+{
+    match &top.body {
+        Body::Children(content) => inverse_in(alloc, schema, step, top, content),
+        Body::Leaf => {
+            let content = Fragment::new(alloc);
+            inverse_in(alloc, schema, step, top, &content)
+        }
+        Body::Text(units) => {
+            let content = text_alone(alloc, &top.marks, units)?;
+            inverse_in(alloc, schema, step, top, &content)
+        }
+    }
+}
+
+/// The same for the document with the top node's type, attributes and marks and this content.
+fn inverse_in(
+    alloc: Global,
+    schema: &Schema,
+    step: &Step,
+    top: &Node,
+    content: &Fragment,
+) -> Result<Vec<DocChange>, AllocError>
+    requires good { Valid (documents_of schema.now.spec) (doc_with top.now content.now) }
+    requires applies { ((next : Doc) × (outcome (documents_of schema.now.spec) (step_of step.now) (doc_with top.now content.now) ≡ Ok next)) }
+    ensures { IfOk result (λ v. v.items ≡ inverse (documents_of schema.now.spec) (step_of step.now) (doc_with top.now content.now)) }
+{
+    match step {
+        Step::Replace {
+            from,
+            to,
+            slice,
+            structure: _,
+        } => {
+            let back = replace_back(alloc, top, content, *from as usize, *to as usize, slice)?;
+            one(alloc, back)
+        }
+        Step::ReplaceAround {
+            from,
+            to,
+            gap_from,
+            gap_to,
+            slice,
+            insert,
+            structure,
+        } => {
+            let ends = Ends {
+                from: *from as usize,
+                to: *to as usize,
+                gap_from: *gap_from as usize,
+                gap_to: *gap_to as usize,
+                insert: *insert as usize,
+            };
+            let back = around_back(alloc, schema, top, content, ends, slice, *structure)?;
+            one(alloc, back)
+        }
+        Step::AddMark { from, to, mark } => {
+            let marking = Marking::Add(mark.copy(alloc)?);
+            range_back(
+                alloc,
+                schema,
+                top,
+                content,
+                *from as usize,
+                *to as usize,
+                &marking,
+            )
+        }
+        Step::RemoveMark { from, to, mark } => {
+            let marking = Marking::Remove(mark.copy(alloc)?);
+            range_back(
+                alloc,
+                schema,
+                top,
+                content,
+                *from as usize,
+                *to as usize,
+                &marking,
+            )
+        }
+        Step::AddNodeMark { pos, mark } => {
+            let marking = Marking::Add(mark.copy(alloc)?);
+            node_back(alloc, schema, top, content, *pos as usize, &marking)
+        }
+        Step::RemoveNodeMark { pos, mark } => {
+            let marking = Marking::Remove(mark.copy(alloc)?);
+            node_back(alloc, schema, top, content, *pos as usize, &marking)
+        }
+    }
+}
+
+/// The list of one step.
+fn one(alloc: Global, step: Step) -> Result<Vec<DocChange>, AllocError>
+    ensures { IfOk result (λ v. v.items ≡ step_of step ∷ []) }
+{
+    let mut steps = Vec::new(alloc);
+    steps.push(DocChange::new(step))?;
+    Ok(steps)
+}

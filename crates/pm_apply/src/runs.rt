@@ -1,0 +1,229 @@
+//! The steps that give the marks of tokens back, run by run.
+ghost use Rattle.std.specs.Prelude.{◌≡◌, ◌∷◌, ◌++◌, [], not, List, length, None, IfOk, OnOk};
+ghost use Rattle.pm_attrs.specs.Attrs.{same_attrs};
+ghost use Rattle.pm_marks.specs.Sets.{same_marks};
+ghost use Rattle.pm_tokens.specs.Tokens.{Token};
+ghost use Rattle.pm_tokens.specs.Schemas.{Schema};
+ghost use Rattle.pm_meaning.specs.Runs.{close_run, continues, due, next_run};
+ghost use Rattle.pm_step.specs.Steps.{step_of};
+ghost use Rattle.pm_apply.specs.Walks.{Took, given_back, place_step, run_of};
+
+use crate::change::DocChange;
+use crate::marking::Marking;
+use pm_attrs::Attrs;
+use pm_marks::{Mark, MarkSet};
+use pm_step::Step;
+use std::alloc::{AllocError, Global};
+
+/// Where marks are given back: in a range, or at one node.
+#[derive(Clone, Copy)]
+pub enum Place {
+    Range { from: usize, to: usize },
+    Node { pos: usize },
+}
+
+/// Neighbouring tokens that had one set of marks and have another now.
+#[derive(Drop)]
+pub struct Run {
+    /// The position of the first of them.
+    pub start: usize,
+    pub old: MarkSet<Attrs>,
+    pub new: MarkSet<Attrs>,
+}
+
+/// The steps for the tokens so far, and the run that the last of them is in.
+#[derive(Drop)]
+pub struct Runs {
+    pub steps: Vec<DocChange>,
+    pub run: Option<Run>,
+}
+
+/// Puts the step that does this at the place behind the others.
+pub fn push_step(
+    alloc: Global,
+    steps: &mut Vec<DocChange>,
+    place: Place,
+    marking: &Marking,
+) -> Result<(), AllocError>
+    ensures { OnOk result (steps.new.items ≡ steps.old.items ++ place_step place marking.now ∷ []) }
+{
+    match marking {
+        Marking::Add(mark) => push_add(alloc, steps, place, mark),
+        Marking::Remove(mark) => push_remove(alloc, steps, place, mark),
+    }
+}
+
+fn push_add(
+    alloc: Global,
+    steps: &mut Vec<DocChange>,
+    place: Place,
+    mark: &Mark<Attrs>,
+) -> Result<(), AllocError>
+    ensures { OnOk result (steps.new.items ≡ steps.old.items ++ place_step place (Marking.Add mark.now) ∷ []) }
+{
+    let mark = mark.copy(alloc)?;
+    let step = match place {
+        Place::Range { from, to } => Step::AddMark {
+            from: from as u64,
+            to: to as u64,
+            mark,
+        },
+        Place::Node { pos } => Step::AddNodeMark {
+            pos: pos as u64,
+            mark,
+        },
+    };
+    steps.push(DocChange::new(step))?;
+    Ok(())
+}
+
+fn push_remove(
+    alloc: Global,
+    steps: &mut Vec<DocChange>,
+    place: Place,
+    mark: &Mark<Attrs>,
+) -> Result<(), AllocError>
+    ensures { OnOk result (steps.new.items ≡ steps.old.items ++ place_step place (Marking.Remove mark.now) ∷ []) }
+{
+    let mark = mark.copy(alloc)?;
+    let step = match place {
+        Place::Range { from, to } => Step::RemoveMark {
+            from: from as u64,
+            to: to as u64,
+            mark,
+        },
+        Place::Node { pos } => Step::RemoveNodeMark {
+            pos: pos as u64,
+            mark,
+        },
+    };
+    steps.push(DocChange::new(step))?;
+    Ok(())
+}
+
+/// Puts the steps that give the old marks back behind the others: the new ones are removed in order, and then the old ones added
+/// in order.
+pub fn give_back(
+    alloc: Global,
+    steps: &mut Vec<DocChange>,
+    place: Place,
+    old: &MarkSet<Attrs>,
+    new: &MarkSet<Attrs>,
+) -> Result<(), AllocError>
+    ensures { OnOk result (steps.new.items ≡ steps.old.items ++ given_back place old.now new.now) }
+{
+    remove_all(alloc, steps, place, new.marks())?;
+    add_all(alloc, steps, place, old.marks())
+}
+
+fn remove_all(
+    alloc: Global,
+    steps: &mut Vec<DocChange>,
+    place: Place,
+    marks: &[Mark<Attrs>],
+) -> Result<(), AllocError>
+    ensures { OnOk result (steps.new.items ≡ steps.old.items ++ given_back place [] marks.now) }
+{
+    for mark in marks {
+        push_remove(alloc, steps, place, mark)?;
+    }
+    Ok(())
+}
+
+fn add_all(
+    alloc: Global,
+    steps: &mut Vec<DocChange>,
+    place: Place,
+    marks: &[Mark<Attrs>],
+) -> Result<(), AllocError>
+    ensures { OnOk result (steps.new.items ≡ steps.old.items ++ given_back place marks.now []) }
+{
+    for mark in marks {
+        push_add(alloc, steps, place, mark)?;
+    }
+    Ok(())
+}
+
+impl Runs {
+    pub fn new(alloc: Global) -> Runs
+        ensures steps { result.steps.items ≡ [] }
+        ensures run { result.run ≡ None }
+    {
+        Runs {
+            steps: Vec::new(alloc),
+            run: None,
+        }
+    }
+
+    /// Ends the run at the position.
+    pub fn close(&mut self, alloc: Global, at: usize) -> Result<(), AllocError>
+        ensures steps { OnOk result (self.new.steps.items ≡ self.old.steps.items ++ close_run (run_of self.old.run) at) }
+        ensures run { OnOk result (self.new.run ≡ None) }
+    {
+        match self.run.take() {
+            Some(run) => {
+                let place = Place::Range {
+                    from: run.start,
+                    to: at,
+                };
+                give_back(alloc, &mut self.steps, place, &run.old, &run.new)
+            }
+            None => Ok(()),
+        }
+    }
+
+    /// Takes `count` tokens from the position on, which stay as they are: they end the run.
+    pub fn pass(&mut self, alloc: Global, at: usize, count: usize) -> Result<(), AllocError>
+        ensures { OnOk result ((s : Schema) (ts : List Token) → length ts ≡ count → Took s at ts ts self.old self.new) }
+    {
+        if count == 0 {
+            return Ok(());
+        }
+        self.close(alloc, at)
+    }
+
+    /// Whether a token with these sets goes on the run.
+    fn goes_on(&self, old: &MarkSet<Attrs>, new: &MarkSet<Attrs>) -> bool
+        ensures { result ≡ continues (run_of self.now.run) old.now new.now }
+    {
+        match &self.run {
+            Some(run) => run.old.same(old) && run.new.same(new),
+            None => false,
+        }
+    }
+
+    /// Takes the token at the position, which had the marks `old` and has the marks `new`. takes: it is one of those in runs.
+    pub fn token(
+        &mut self,
+        alloc: Global,
+        at: usize,
+        takes: bool,
+        old: &MarkSet<Attrs>,
+        new: &MarkSet<Attrs>,
+    ) -> Result<(), AllocError>
+        ensures steps { let changed = not (same_marks same_attrs old.now new.now) in
+            let on = continues (run_of self.old.run) old.now new.now in
+            OnOk result (self.new.steps.items ≡ self.old.steps.items ++ due changed takes on (run_of self.old.run) at old.now new.now) }
+        ensures run { let changed = not (same_marks same_attrs old.now new.now) in
+            let on = continues (run_of self.old.run) old.now new.now in
+            OnOk result (run_of self.new.run ≡ next_run changed takes on (run_of self.old.run) at old.now new.now) }
+    {
+        if old.same(new) {
+            return self.close(alloc, at);
+        }
+        if !takes {
+            self.close(alloc, at)?;
+            return give_back(alloc, &mut self.steps, Place::Node { pos: at }, old, new);
+        }
+        if self.goes_on(old, new) {
+            return Ok(());
+        }
+        self.close(alloc, at)?;
+        self.run = Some(Run {
+            start: at,
+            old: old.copy(alloc)?,
+            new: new.copy(alloc)?,
+        });
+        Ok(())
+    }
+}

@@ -1,0 +1,136 @@
+//! The tokens of a content, taken into runs one after another.
+ghost use Rattle.std.specs.Prelude.{◌≡◌, ℕ, ◌+◌, ◌<◌, ◌≤◌, ◌^◌, ◌∷◌, [], List, length, OnOk};
+ghost use Rattle.pm_tokens.specs.Tokens.{Open};
+ghost use Rattle.pm_node.specs.Trees.{node_tokens};
+ghost use Rattle.pm_schema.specs.Documents.{documents_of};
+ghost use Rattle.pm_apply.specs.Markings.{AreKnown, marked_in, new_marks};
+ghost use Rattle.pm_apply.specs.Walks.{Took};
+
+use crate::marking::{Marking, Reach, Sort, UNIT};
+use crate::runs::Runs;
+use pm_auto::TypeId;
+use pm_node::{Body, Fragment, Node};
+use pm_schema::Schema;
+use std::alloc::{AllocError, Global};
+
+impl Runs {
+    /// Takes the tokens of a content of a node of the type `parent`, of which those from..to have the marks that the marking gives
+    /// them. `at` is the position of the first.
+    #[cycle(take)]
+    pub fn take_content(
+        &mut self,
+        alloc: Global,
+        schema: &Schema,
+        parent: TypeId,
+        content: &Fragment,
+        at: usize,
+        from: usize,
+        to: usize,
+        marking: &Marking,
+    ) -> Result<(), AllocError>
+        requires order { from ≤ to }
+        requires parent { parent < length schema.now.spec.nodes }
+        requires known { AreKnown (length schema.now.spec.nodes) content.now }
+        requires room { at + length content.now < 2 ^ 33 }
+        ensures { OnOk result ((ps : List ℕ) → Took (documents_of schema.now.spec) at content.now
+            (marked_in (new_marks (documents_of schema.now.spec) marking.now Reach.Inline) (parent ∷ ps) from to content.now) self.old self.new) }
+    {
+        let _ = content.size();
+        let mut place = at;
+        let mut start = from;
+        let mut end = to;
+        for child in content.children() {
+            let size = child.size();
+            self.take_child(alloc, schema, parent, child, place, start, end, marking)?;
+            place += size;
+            start = start.saturating_sub(size);
+            end = end.saturating_sub(size);
+        }
+        Ok(())
+    }
+
+    /// Takes the tokens of a child.
+    #[cycle(take)]
+    fn take_child(
+        &mut self,
+        alloc: Global,
+        schema: &Schema,
+        parent: TypeId,
+        node: &Node,
+        at: usize,
+        from: usize,
+        to: usize,
+        marking: &Marking,
+    ) -> Result<(), AllocError>
+        requires order { from ≤ to }
+        requires parent { parent < length schema.now.spec.nodes }
+        requires known { AreKnown (length schema.now.spec.nodes) (node_tokens node.now) }
+        requires room { at + length (node_tokens node.now) < 2 ^ 33 }
+        ensures { OnOk result ((ps : List ℕ) → Took (documents_of schema.now.spec) at (node_tokens node.now)
+            (marked_in (new_marks (documents_of schema.now.spec) marking.now Reach.Inline) (parent ∷ ps) from to (node_tokens node.now)) self.old self.new) }
+    {
+        let size = node.size();
+        if to <= from {
+            return self.pass(alloc, at, size);
+        }
+        if size <= from {
+            return self.pass(alloc, at, size);
+        }
+        match &node.body {
+            Body::Text(units) => {
+                let len = units.len();
+                let end = len.min(to);
+                let new = marking.made(alloc, schema, Reach::Inline, UNIT, parent, &node.marks)?;
+                self.pass(alloc, at, from)?;
+                self.token(alloc, at + from, true, &node.marks, &new)?;
+                self.pass(alloc, at + end, len - end)
+            }
+            Body::Leaf => {
+                let sort = Sort::of(schema, node.kind, true);
+                let new = marking.made(alloc, schema, Reach::Inline, sort, parent, &node.marks)?;
+                self.token(alloc, at, sort.takes, &node.marks, &new)
+            }
+            Body::Children(inner) => {
+                let end = at + 1 + inner.size();
+                let start = from.saturating_sub(1);
+                self.take_open(alloc, schema, parent, node, at, from, marking)?;
+                self.take_content(
+                    alloc,
+                    schema,
+                    node.kind,
+                    inner,
+                    at + 1,
+                    start,
+                    to - 1,
+                    marking,
+                )?;
+                self.pass(alloc, end, 1)
+            }
+        }
+    }
+
+    /// Takes the open of a node, which is changed where it stands in from..
+    fn take_open(
+        &mut self,
+        alloc: Global,
+        schema: &Schema,
+        parent: TypeId,
+        node: &Node,
+        at: usize,
+        from: usize,
+        marking: &Marking,
+    ) -> Result<(), AllocError>
+        requires parent { parent < length schema.now.spec.nodes }
+        requires known { node.now.kind < length schema.now.spec.nodes }
+        ensures { OnOk result ((ps : List ℕ) → Took (documents_of schema.now.spec) at (Open node.now.kind node.now.attrs node.now.marks ∷ [])
+            (marked_in (new_marks (documents_of schema.now.spec) marking.now Reach.Inline) (parent ∷ ps) from (from + 1)
+            (Open node.now.kind node.now.attrs node.now.marks ∷ [])) self.old self.new) }
+    {
+        if from > 0 {
+            return self.pass(alloc, at, 1);
+        }
+        let sort = Sort::of(schema, node.kind, false);
+        let new = marking.made(alloc, schema, Reach::Inline, sort, parent, &node.marks)?;
+        self.token(alloc, at, sort.takes, &node.marks, &new)
+    }
+}
