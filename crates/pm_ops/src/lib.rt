@@ -1,0 +1,6 @@
+//! Edits as values.
+#![tactic(auto)]
+
+mod op;
+
+pub use op::Op;

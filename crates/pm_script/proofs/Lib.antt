@@ -1,0 +1,10 @@
+pub mod Came
+pub mod Sides
+pub mod Places
+pub mod Raws
+pub mod Tallies
+pub mod StepLaws
+pub mod OpLists
+pub mod Suited
+pub mod HeadLaws
+pub mod SessionLaws

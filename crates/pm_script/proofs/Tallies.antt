@@ -1,0 +1,38 @@
+-- Counts of what each client did, as one line more comes.
+use Rattle.std.proofs.Common.{◌≡◌, ◌<◌, ◌+◌, ℕ, Bool, true, false, cond, List, [], ◌∷◌, ◌++◌, length, refl, arith, nat_eq}
+use Rattle.std.proofs.lemmas.Grind.{common_steps}
+use Rattle.std.proofs.lemmas.Bool.Decides.{nat_tests}
+use Rattle.std.specs.Prelude.{◌==◌, ◌&&◌, slice_index, slice_set, if◌then◌else◌}
+use Rattle.pm_session.specs.declared.line.Act.{Act}
+use Rattle.pm_session.specs.declared.line.Line.{Line}
+use Rattle.pm_session.specs.Suits.{done_by}
+use Rattle.pm_ops.specs.declared.op.Op.{Op}
+
+done_by-more : (does : Act Op → Bool) (k : ℕ) (lines : List (Line Op)) (line : Line Op)
+    → done_by does k (lines ++ line ∷ []) ≡ done_by does k lines + cond ((line.client == k) && does line.act) 1 0
+done_by-more does k lines line = grind (arith, common_steps)
+
+set_more : (t : Bool) (counts : List ℕ) (client k before after : ℕ) → nat_eq client k ≡ t → client < length counts → k < length counts
+    → slice_index counts k ≡ before → after ≡ before + cond (t && true) 1 0 → slice_index (slice_set counts client (slice_index counts client + 1)) k ≡ after
+set_more true counts client k before after e h l at more = grind (arith, common_steps, nat_tests)
+set_more false counts client k before after e h l at more = grind (arith, common_steps, nat_tests)
+
+kept : (t : Bool) (n before after : ℕ) → n ≡ before → after ≡ before + cond (t && false) 1 0 → n ≡ after
+kept true n before after at more = omega (arith, at, more)
+kept false n before after at more = omega (arith, at, more)
+
+by_test : (more : Bool) (counts new : List ℕ) (client k before after : ℕ) → client < length counts → k < length counts
+    → new ≡ (if more then slice_set counts client (slice_index counts client + 1) else counts)
+    → slice_index counts k ≡ before → after ≡ before + cond ((client == k) && more) 1 0 → slice_index new k ≡ after
+by_test true counts new client k before after h l is at more = rw is (set_more (nat_eq client k) counts client k before after refl h l at more)
+by_test false counts new client k before after h l is at more = rw is (kept (nat_eq client k) (slice_index counts k) before after at more)
+
+pub counted-more : (does : Act Op → Bool) (counts new : List ℕ) (lines : List (Line Op)) (line : Line Op) (more : Bool)
+    → more ≡ does line.act → line.client < length counts → length new ≡ length counts
+    → new ≡ (if more then slice_set counts line.client (slice_index counts line.client + 1) else counts)
+    → ((k : ℕ) → k < length counts → slice_index counts k ≡ done_by does k lines)
+    → (k : ℕ) → k < length new → slice_index new k ≡ done_by does k (lines ++ line ∷ [])
+counted-more does counts new lines line more e h same is counted k l =
+    let l' : k < length counts = omega arith in
+    by_test more counts new line.client k (done_by does k lines) (done_by does k (lines ++ line ∷ [])) h l' is (counted k l')
+    (rw e (done_by-more does k lines line))

@@ -1,0 +1,81 @@
+-- What an op line does, by its word. Its fields are read in the order in which they stand here.
+use Rattle.std.specs.Prelude.{ℕ, Bool, ◌&&◌, nat_lt, nat_le, true, false, List, codes, Result, Ok, Err}
+use Rattle.serde_json.specs.Data.{Data}
+use Rattle.serde_json.specs.Find.{get}
+use Rattle.pm_list.specs.Readings.{◌>>=◌, or_fault}
+use Rattle.pm_schema.specs.declared.spec.SchemaSpec.{SchemaSpec}
+use Rattle.pm_step.specs.declared.step.Step.{Step}
+use Rattle.pm_stepjson.specs.Reading.{step_read}
+use Rattle.pm_ops.specs.declared.op.Op.{Op}
+use Rattle.pm_ops.specs.declared.op.Op.TheVariants.{Step as StepOp}
+use Rattle.pm_session.specs.declared.line.Act.{Act}
+use Rattle.pm_session.specs.declared.line.Act.TheVariants.{Edit, Undo, Redo, Cursor, Submit, Ask, Present, Take, Push, Pull}
+use Rattle.pm_script.specs.declared.word.Word.{Word}
+use Rattle.pm_script.specs.declared.word.Word.TheVariants as word
+use Rattle.pm_script.specs.Codes.{coded}
+use Rattle.pm_script.specs.Fields.{number_in, lost_in, side_in, event_in}
+use Rattle.pm_script.specs.Ops.{as_step}
+
+module _ (s : SchemaSpec) where
+  -- the value as a step
+  abbrev pub step_from : Data → Result Step ℕ
+  step_from d = coded (step_read s d) >>= (λ read. Ok (as_step read))
+
+  -- the step at `step`
+  abbrev pub step_in : Data → Result Step ℕ
+  step_in d = or_fault 6 (get (codes "step") d) >>= step_from
+
+  -- `step`: a step, and an event number
+  unfoldable pub edit_in : Data → Result (Act Op) ℕ
+  edit_in d = do
+    step ← step_in d
+    event ← event_in d
+    Ok (Edit (StepOp step) event)
+
+-- `cursor`: a position, and a side
+unfoldable pub cursor_in : Data → Result (Act Op) ℕ
+cursor_in d = do
+  at ← number_in (codes "pos") d
+  side ← side_in d
+  Ok (Cursor at side)
+
+-- What the word does. An edit that isn't built yet has code 99.
+abbrev pub act_in : SchemaSpec → Word → Data → Result (Act Op) ℕ
+act_in s word.Step d = edit_in s d
+act_in s word.Unbuilt d = Err 99
+act_in s word.Undo d = Ok Undo
+act_in s word.Redo d = Ok Redo
+act_in s word.Cursor d = cursor_in d
+act_in s word.Submit d = Ok Submit
+act_in s word.Ask d = Ok Ask
+act_in s word.Present d = number_in (codes "message") d >>= (λ n. Ok (Present n))
+act_in s word.Take d = number_in (codes "answer") d >>= (λ n. Ok (Take n))
+act_in s word.Push d = lost_in d >>= (λ lost. Ok (Push lost))
+act_in s word.Pull d = lost_in d >>= (λ lost. Ok (Pull lost))
+act_in s word.Forge d = Err 18
+
+-- an act that names a message or an answer names one of so many
+abbrev pub names_one : ℕ → ℕ → Act Op → Bool
+names_one messages answers (Edit op event) = true
+names_one messages answers Undo = true
+names_one messages answers Redo = true
+names_one messages answers (Cursor at side) = true
+names_one messages answers Submit = true
+names_one messages answers Ask = true
+names_one messages answers (Present j) = nat_lt 0 j && nat_le j messages
+names_one messages answers (Take n) = nat_lt 0 n && nat_le n answers
+names_one messages answers (Push lost) = true
+names_one messages answers (Pull lost) = true
+
+-- an act that sets a cursor
+abbrev pub sets_one : Act Op → Bool
+sets_one (Edit op event) = false
+sets_one Undo = false
+sets_one Redo = false
+sets_one (Cursor at side) = true
+sets_one Submit = false
+sets_one Ask = false
+sets_one (Present j) = false
+sets_one (Take n) = false
+sets_one (Push lost) = false
+sets_one (Pull lost) = false

@@ -1,0 +1,9 @@
+pub mod Codes
+pub mod Words
+pub mod Fields
+pub mod Ops
+pub mod Acts
+pub mod Lines
+pub mod Sessions
+pub mod Held
+pub mod Answers

@@ -1,0 +1,91 @@
+//! The fields of an op line.
+ghost use Rattle.std.specs.Prelude.{◌≡◌, option_and_then};
+ghost use Rattle.serde_json.specs.Find.{as_i64, as_number};
+ghost use Rattle.serde_json.specs.View.{view};
+ghost use Rattle.pm_head.specs.Answers.{Gives};
+ghost use Rattle.pm_script.specs.Fields.{text_in, number_in, lost_in, side_in, as_side, event_in};
+
+use pm_docjson::field;
+use pm_head::LineError;
+use pm_slicejson::as_count;
+use serde_json::Value;
+
+/// A field that is absent or of another kind than it must be.
+const SHAPE: u32 = 6;
+
+/// A text, which must be there.
+pub(crate) fn text_in<'a>(json: &'a Value, key: &str) -> Result<&'a str, LineError>
+    ensures { Gives (λ s. s.now) result (text_in key.now (view json.now)) }
+{
+    match json.get(key) {
+        Some(value) => match value.as_str() {
+            Some(text) => Ok(text),
+            None => Err(LineError::Code(SHAPE)),
+        },
+        None => Err(LineError::Code(SHAPE)),
+    }
+}
+
+/// A whole number from 0 to 4,294,967,295, which must be there.
+pub(crate) fn number_in(json: &Value, key: &str) -> Result<u64, LineError>
+    ensures { Gives (λ n. n) result (number_in key.now (view json.now)) }
+{
+    match json.get(key) {
+        Some(value) => match as_count(value) {
+            Some(number) => Ok(number as u64),
+            None => Err(LineError::Code(SHAPE)),
+        },
+        None => Err(LineError::Code(SHAPE)),
+    }
+}
+
+/// Whether an answer is lost: a truth value, which is false where it is absent or null.
+pub(crate) fn lost_in(json: &Value) -> Result<bool, LineError>
+    ensures { Gives (λ b. b) result (lost_in (view json.now)) }
+{
+    match field(json, "lost") {
+        None => Ok(false),
+        Some(value) => match value.as_bool() {
+            Some(lost) => Ok(lost),
+            None => Err(LineError::Code(SHAPE)),
+        },
+    }
+}
+
+/// A cursor's side: 1 or -1, which is 1 where it is absent or null.
+pub(crate) fn side_in(json: &Value) -> Result<i8, LineError>
+    ensures { Gives (λ s. s) result (side_in (view json.now)) }
+{
+    match field(json, "side") {
+        None => Ok(1),
+        Some(value) => match side_of(value) {
+            Some(side) => Ok(side),
+            None => Err(LineError::Code(SHAPE)),
+        },
+    }
+}
+
+/// The value as a side.
+#[tactic(auto, using(crate::proofs::Sides::sides))]
+fn side_of(json: &Value) -> Option<i8>
+    ensures { result ≡ option_and_then as_side (option_and_then as_i64 (as_number (view json.now))) }
+{
+    match json.as_i64() {
+        Some(1) => Some(1),
+        Some(-1) => Some(-1),
+        _ => None,
+    }
+}
+
+/// An edit's event number, a whole number from 0 to 4,294,967,295, which may be absent or null.
+pub(crate) fn event_in(json: &Value) -> Result<Option<u32>, LineError>
+    ensures { Gives (λ e. e) result (event_in (view json.now)) }
+{
+    match field(json, "event") {
+        None => Ok(None),
+        Some(value) => match as_count(value) {
+            Some(number) => Ok(Some(number as u32)),
+            None => Err(LineError::Code(SHAPE)),
+        },
+    }
+}

@@ -1,0 +1,17 @@
+//! Session files: a schema, a first document, clients, and what the clients do, line by line.
+#![tactic(auto)]
+
+mod acts;
+mod codes;
+mod earlier;
+mod fault;
+mod fields;
+mod lines;
+mod session;
+mod word;
+
+pub use fault::SessionError;
+pub use session::{Session, read_session};
+
+#[cfg(test)]
+mod tests;

@@ -1,0 +1,132 @@
+//! One op line.
+ghost use Rattle.std.specs.Prelude.{◌≡◌, ◌≤◌, ◌<◌, length, nat_eq, position, vec_len, IfOk, IfSome};
+ghost use Rattle.std.specs.Cmp.Lexicographic.{pointwise};
+ghost use Rattle.serde_json.specs.View.{view};
+ghost use Rattle.pm_head.specs.Answers.{Gives};
+ghost use Rattle.pm_script.specs.Lines.{client_in, word_in, said, named, op_in, op_line};
+
+use crate::acts::{act_in, names_one};
+use crate::earlier::Earlier;
+use crate::fields::text_in;
+use crate::word::Word;
+use pm_head::{ClientEntry, LineError, json_line};
+use pm_ops::Op;
+use pm_schema::Schema;
+use pm_session::{Act, Line};
+use serde_json::Value;
+use std::alloc::Global;
+
+/// The number of the last line that may be there.
+const LAST_LINE: u32 = 100_003;
+
+/// Op line `number`, behind earlier ones. The code of its first fault is: 4 where it is past line 100,003; 3 where it passes
+/// 1,048,576 bytes; 5 where it is not UTF-8 or no JSON; 6 and 7 as its fields have them; 18 where its op is none of an editor's,
+/// or it would be the client's 65th cursor; 17 where it names a message or an answer that is not there.
+#[tactic(auto, unfolding(crate::specs::Lines::op_line))]
+pub(crate) fn op_line(
+    alloc: Global,
+    schema: &Schema,
+    clients: &[ClientEntry],
+    earlier: &Earlier,
+    number: u32,
+    line: &[u8],
+) -> Result<Line<Op>, LineError>
+    requires composed { vec_len earlier.now.composed ≡ length clients.now }
+    requires answered { vec_len earlier.now.answered ≡ length clients.now }
+    requires cursors { vec_len earlier.now.cursors ≡ length clients.now }
+    requires few { length clients.now ≤ 32 }
+    ensures read { Gives (λ l. l) result (op_line schema.now.spec clients.now earlier.now.lines.items number line.now) }
+    ensures number { IfOk result (λ l. number ≤ 100003) }
+    ensures within { IfOk result (λ l. l.client < length clients.now) }
+{
+    if number > LAST_LINE {
+        return Err(LineError::Code(4));
+    }
+    let json = json_line(alloc, line)?;
+    op_in(alloc, schema, clients, earlier, number, &json)
+}
+
+/// The op line that a value is.
+#[tactic(auto, unfolding(crate::specs::Lines::op_in))]
+fn op_in(
+    alloc: Global,
+    schema: &Schema,
+    clients: &[ClientEntry],
+    earlier: &Earlier,
+    number: u32,
+    json: &Value,
+) -> Result<Line<Op>, LineError>
+    requires composed { vec_len earlier.now.composed ≡ length clients.now }
+    requires answered { vec_len earlier.now.answered ≡ length clients.now }
+    requires cursors { vec_len earlier.now.cursors ≡ length clients.now }
+    requires few { length clients.now ≤ 32 }
+    ensures read { Gives (λ l. l) result (op_in schema.now.spec clients.now earlier.now.lines.items number (view json.now)) }
+    ensures within { IfOk result (λ l. l.client < length clients.now) }
+{
+    let client = client_in(clients, json)?;
+    let found = word_in(json)?;
+    let word = said(earlier, client, found)?;
+    let read = act_in(alloc, schema, word, json)?;
+    let act = named(earlier, client, read)?;
+    Ok(Line {
+        number,
+        client: client as u32,
+        act,
+    })
+}
+
+/// The place of the client that `c` names.
+fn client_in(clients: &[ClientEntry], json: &Value) -> Result<usize, LineError>
+    ensures place { Gives (λ i. i) result (client_in clients.now (view json.now)) }
+    ensures within { IfOk result (λ i. i < length clients.now) }
+{
+    let name = text_in(json, "c")?;
+    match place_of(name, clients) {
+        Some(i) => Ok(i),
+        None => Err(LineError::Code(7)),
+    }
+}
+
+#[tactic(auto, using(crate::proofs::Places::places))]
+fn place_of(name: &str, clients: &[ClientEntry]) -> Option<usize>
+    ensures place { result ≡ position (λ c. pointwise nat_eq name.now c.name) clients.now }
+    ensures within { IfSome result (λ i. i < length clients.now) }
+{
+    clients.iter().position(|c| name == c.name.as_str())
+}
+
+/// The word that `op` says.
+fn word_in(json: &Value) -> Result<Word, LineError>
+    ensures { Gives (λ w. w) result (word_in (view json.now)) }
+{
+    let text = text_in(json, "op")?;
+    match Word::named(text) {
+        Some(word) => Ok(word),
+        None => Err(LineError::Code(7)),
+    }
+}
+
+/// The word, where the client's line may say it.
+fn said(earlier: &Earlier, client: usize, word: Word) -> Result<Word, LineError>
+    requires { client < vec_len earlier.now.cursors }
+    ensures { Gives (λ w. w) result (said earlier.now.lines.items client word) }
+{
+    if word.may_be_said(earlier.cursors(client)) {
+        Ok(word)
+    } else {
+        Err(LineError::Code(18))
+    }
+}
+
+/// The act, where the message or the answer that it names is there.
+fn named(earlier: &Earlier, client: usize, act: Act<Op>) -> Result<Act<Op>, LineError>
+    requires composed { client < vec_len earlier.now.composed }
+    requires answered { client < vec_len earlier.now.answered }
+    ensures { Gives (λ a. a) result (named earlier.now.lines.items client act) }
+{
+    if names_one(earlier.composed(client), earlier.answered(client), &act) {
+        Ok(act)
+    } else {
+        Err(LineError::Code(17))
+    }
+}

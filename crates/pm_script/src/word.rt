@@ -1,0 +1,105 @@
+//! The words of op lines.
+ghost use Rattle.std.specs.Prelude.{◌≡◌};
+ghost use Rattle.pm_script.specs.Words.{is_edit, exchange_named, word_named, may_say};
+
+/// The greatest number of cursor lines of one client.
+const MAX_CURSORS: u64 = 64;
+
+/// What an op line says by its `op`.
+#[derive(Clone, Copy, Debug, PartialEq, Eq)]
+pub(crate) enum Word {
+    Step,
+    /// One of the edits that make their steps of what the document holds.
+    Unbuilt,
+    Undo,
+    Redo,
+    Cursor,
+    Submit,
+    Ask,
+    Present,
+    Take,
+    Push,
+    Pull,
+    Forge,
+}
+
+impl Word {
+    /// The word of this text, if there is one.
+    pub(crate) fn named(text: &str) -> Option<Word>
+        ensures { result ≡ word_named text.now }
+    {
+        if text == "step" {
+            Some(Word::Step)
+        } else if text == "undo" {
+            Some(Word::Undo)
+        } else if text == "redo" {
+            Some(Word::Redo)
+        } else if text == "cursor" {
+            Some(Word::Cursor)
+        } else if is_edit(text) {
+            Some(Word::Unbuilt)
+        } else {
+            exchange_named(text)
+        }
+    }
+
+    /// Whether an editor's line may say the word, where so many earlier lines of the client set cursors.
+    pub(crate) fn may_be_said(self, cursors: u64) -> bool
+        ensures { result ≡ may_say cursors self }
+    {
+        match self {
+            Word::Cursor => cursors < MAX_CURSORS,
+            Word::Forge => false,
+            Word::Step
+            | Word::Unbuilt
+            | Word::Undo
+            | Word::Redo
+            | Word::Submit
+            | Word::Ask
+            | Word::Present
+            | Word::Take
+            | Word::Push
+            | Word::Pull => true,
+        }
+    }
+}
+
+/// Whether the text is the word of an edit that makes its steps of what the document holds.
+fn is_edit(text: &str) -> bool
+    ensures { result ≡ is_edit text.now }
+{
+    text == "text"
+        || text == "delete"
+        || text == "paste"
+        || text == "insert"
+        || text == "split"
+        || text == "join"
+        || text == "wrap"
+        || text == "lift"
+        || text == "settype"
+        || text == "addmark"
+        || text == "removemark"
+}
+
+/// The word of a text that sends messages or takes answers, if it is one.
+fn exchange_named(text: &str) -> Option<Word>
+    ensures { result ≡ exchange_named text.now }
+{
+    if text == "submit" {
+        Some(Word::Submit)
+    } else if text == "ask" {
+        Some(Word::Ask)
+    } else if text == "present" {
+        Some(Word::Present)
+    } else if text == "take" {
+        Some(Word::Take)
+    } else if text == "push" {
+        Some(Word::Push)
+    } else if text == "pull" {
+        Some(Word::Pull)
+    } else if text == "forge" {
+        Some(Word::Forge)
+    } else {
+        None
+    }
+}
