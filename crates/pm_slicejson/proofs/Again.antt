@@ -1,7 +1,7 @@
 -- A slice that is written is read again.
-use Rattle.std.proofs.Common.{◌≡◌, ◌==◌, ◌<◌, ◌≤◌, ℕ, ◌+◌, ◌^◌, List, length, Bool, true, false, cond, refl, ap, sym, ◌∙◌, nat_lt, arith}
+use Rattle.std.proofs.Common.{◌≡◌, ◌==◌, ◌<◌, ℕ, ◌^◌, length, Bool, true, false, cond, refl, ap, sym, ◌∙◌, nat_lt, arith}
 use Rattle.std.proofs.lemmas.Bool.Decides.{nat_tests}
-use Rattle.std.specs.Prelude.{Option, Some, None, Ok, codes}
+use Rattle.std.specs.Prelude.{Some, None, Ok, codes}
 use Rattle.serde_json.specs.Data.{Data, null, number, unsigned, array, object, no_members, member}
 use Rattle.pm_tokens.specs.Slices.{Slice, is_slice, slice_size}
 use Rattle.pm_tokens.proofs.PartLaws.{slice-is}

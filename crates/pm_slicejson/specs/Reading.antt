@@ -1,5 +1,5 @@
 -- The slice that a JSON value is, or its first fault. Fields are read in the order content, openStart, openEnd.
-use Rattle.std.specs.Prelude.{List, Option, is_some, option_and_then, Result, Ok, Err, codes, ℕ, if◌then◌else◌}
+use Rattle.std.specs.Prelude.{List, is_some, option_and_then, Result, Ok, Err, codes, ℕ, if◌then◌else◌}
 use Rattle.serde_json.specs.Data.{Data, Items}
 use Rattle.serde_json.specs.Find.{get, as_null, as_array}
 use Rattle.pm_list.specs.Readings.{◌>>=◌, or_fault}

@@ -1,7 +1,7 @@
 -- Steps that are written are read again.
-use Rattle.std.proofs.Common.{◌≡◌, ◌==◌, ◌<◌, ℕ, ◌^◌, List, Bool, true, false, cond, refl, ap, sym, subst, ◌∙◌, nat_lt, arith}
+use Rattle.std.proofs.Common.{◌≡◌, ◌==◌, ◌<◌, ℕ, ◌^◌, Bool, true, false, cond, refl, ap, sym, subst, ◌∙◌, nat_lt, arith}
 use Rattle.std.proofs.lemmas.Bool.Decides.{nat_tests}
-use Rattle.std.specs.Prelude.{Option, Some, None, Ok, codes}
+use Rattle.std.specs.Prelude.{None, Ok, codes}
 use Rattle.serde_json.specs.Data.{Data, null, string}
 use Rattle.pm_marks.specs.declared.mark.Mark.{Mark}
 use Rattle.pm_tokens.specs.Tokens.{Attrs}
@@ -15,7 +15,7 @@ use Rattle.pm_slice.specs.Sides.{no_slice, or_none}
 use Rattle.pm_slicejson.specs.Reading.{slice_of}
 use Rattle.pm_slicejson.specs.Writing.{sides_written, slice_written}
 use Rattle.pm_meaning.specs.Steps.{Step, Replace, ReplaceAround, AddMark, RemoveMark, AddNodeMark, RemoveNodeMark}
-use Rattle.pm_stepjson.specs.Members.{slice_field, SliceAgain}
+use Rattle.pm_stepjson.specs.Members.{SliceAgain}
 use Rattle.pm_stepjson.specs.Reading.{as_slice, slice_in, replace_from, around_from, range_from, node_from, step_read}
 use Rattle.pm_stepjson.specs.Writable.{CanBeWritten, HasCounts}
 use Rattle.pm_stepjson.specs.Writing.{count, replace_written, around_written, range_written, node_written}

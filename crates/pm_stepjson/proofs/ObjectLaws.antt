@@ -1,6 +1,6 @@
 -- What is found in an object that was written, and that putting its members in gives it.
 use Rattle.std.proofs.Common.{◌≡◌, ℕ, ◌==◌, List, Bool, true, false, cond, refl}
-use Rattle.std.specs.Prelude.{codes, Option, Some, None, Ok}
+use Rattle.std.specs.Prelude.{codes, Some, None, Ok}
 use Rattle.serde_json.specs.Data.{Data, string, object, Members, no_members, member, put}
 use Rattle.serde_json.specs.Find.{get}
 use Rattle.pm_docjson.specs.Fields.{non_null, field}
@@ -8,7 +8,7 @@ use Rattle.pm_schema.specs.declared.spec.SchemaSpec.{SchemaSpec}
 use Rattle.pm_tokens.specs.Slices.{Slice, slice_size}
 use Rattle.pm_slicejson.specs.Writing.{slice_written}
 use Rattle.pm_stepjson.specs.Reading.{structure_at}
-use Rattle.pm_stepjson.specs.Writing.{count, typed, with_structure, with_slice, replaced}
+use Rattle.pm_stepjson.specs.Writing.{count, with_structure, replaced}
 use Rattle.pm_stepjson.specs.Members.{put_structure, put_slice}
 
 -- the members from `slice` to `to`, where `b` says that the slice is empty

@@ -1,6 +1,6 @@
 -- The step that a JSON value is, or its first fault. `stepType` is read first, and then the fields of that kind of steps in their
 -- order, each with all that is in it before the next.
-use Rattle.std.specs.Prelude.{ℕ, Bool, true, false, List, codes, Option, Some, None, option_and_then, Result, Ok, Err}
+use Rattle.std.specs.Prelude.{ℕ, Bool, false, List, codes, Option, Some, None, option_and_then, Result, Ok, Err}
 use Rattle.serde_json.specs.Data.{Data}
 use Rattle.serde_json.specs.Find.{get, as_bool, as_str}
 use Rattle.pm_list.specs.Readings.{◌>>=◌, or_fault}
