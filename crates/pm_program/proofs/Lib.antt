@@ -1,13 +1,3 @@
-pub mod Counts
-pub mod Floats
-pub mod Filled
 pub mod Reports
 pub mod TooLong
 pub mod Answered
-pub mod EditorNames
-pub mod CheckedLaws
-pub mod Names
-pub mod Tallies
-pub mod OpLists
-pub mod Sides
-pub mod Suited

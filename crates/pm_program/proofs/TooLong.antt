@@ -1,21 +1,30 @@
--- An input of which more than the limit came is refused on line 0.
-use Rattle.std.proofs.Common.{◌≡◌, ◌<◌, ◌≤◌, ◌+◌, ℕ, true, List, length, refl, ap, subst, arith, length-append}
+-- All that a source gives is the input, and an input of which more than the limit came is refused on line 0.
+use Rattle.std.proofs.Common.{◌≡◌, ◌<◌, ◌≤◌, ◌+◌, ◌++◌, ◌∙◌, ℕ, true, List, [], length, refl, ap, sym, subst, arith, length-append}
 use Rattle.std.specs.Prelude.{nat_lt, Option, None, Some, Err, codes, decimal}
-use Rattle.std.specs.Io.KnownBytes.{Consumes}
+use Rattle.std.specs.Io.KnownBytes.{Consumes, IsAtEnd}
+use Rattle.std.proofs.lemmas.List.{append-nil}
 use Rattle.std.proofs.lemmas.Bool.Decides.{nat_tests}
+use Rattle.pm_script.specs.Sessions.{SessionIs}
+use Rattle.pm_report.specs.Words.{◌&◌, line}
 use Rattle.pm_program.specs.declared.call.Status.{Status}
 use Rattle.pm_program.specs.declared.call.Status.TheVariants.{SessionRefused}
 use Rattle.pm_program.specs.declared.words.Command.{Command}
 use Rattle.pm_program.specs.declared.words.Command.TheVariants.{Check, Replay}
-use Rattle.pm_program.specs.Reading.{session_of}
-use Rattle.pm_program.specs.Report.{◌&◌, line}
 use Rattle.pm_program.specs.Output.{IsOutput}
+
+to_end : (new : Option (List ℕ)) (bytes input : List ℕ) → Consumes (Some input) new bytes → IsAtEnd new → bytes ≡ input
+to_end None bytes input h e = absurd h
+to_end (Some rest) bytes input h e = sym (h ∙ ap (λ (r : List ℕ). bytes ++ r) e ∙ append-nil bytes)
+
+-- what was read to the end is the input
+pub whole_input : (old new : Option (List ℕ)) (bytes input : List ℕ) → Consumes old new bytes → IsAtEnd new → old ≡ Some input → bytes ≡ input
+whole_input old new bytes input h e is = to_end new bytes input (subst (λ o. Consumes o new bytes) is h) e
 
 longer : (new : Option (List ℕ)) (bytes input : List ℕ) → Consumes (Some input) new bytes → length bytes ≤ length input
 longer None bytes input h = absurd h
 longer (Some rest) bytes input h = omega (arith, ap length h, length-append bytes rest)
 
-pub above : (n : ℕ) → 67108864 < n → nat_lt 67108864 n ≡ true
+above : (n : ℕ) → 67108864 < n → nat_lt 67108864 n ≡ true
 above n h = grind (arith, nat_tests)
 
 pub past_limit : (old new : Option (List ℕ)) (bytes input : List ℕ) → Consumes old new bytes → length bytes ≡ 67108864 + 1 → old ≡ Some input → nat_lt 67108864 (length input) ≡ true
@@ -23,11 +32,10 @@ past_limit old new bytes input h size is =
     let taken = subst (λ o. Consumes o new bytes) is h in
     above (length input) (omega (arith, longer new bytes input taken, size))
 
-pub no_session : (input : List ℕ) → nat_lt 67108864 (length input) ≡ true → session_of input ≡ Err (0, 1)
-unfolding session_of
+no_session : (input : List ℕ) → nat_lt 67108864 (length input) ≡ true → SessionIs input (Err (0, 1))
 no_session input h = rw h refl
 
 -- the line that refuses it is the output of each command
 pub refused_whole : (asked : Command) (input text : List ℕ) (status : Status) → nat_lt 67108864 (length input) ≡ true → text ≡ line (codes "refused" & decimal 0 & decimal 1) → status ≡ SessionRefused → IsOutput asked input text status
-refused_whole Check input text status h t s = (Err (0, 1), rw h refl, record { written = t; says = s })
-refused_whole Replay input text status h t s = rw (no_session input h) (record { written = t; says = s })
+refused_whole Check input text status h t s = record { found = Err (0, 1); is = no_session input h; written = t; says = s }
+refused_whole Replay input text status h t s = record { found = Err (0, 1); is = no_session input h; written = t; says = s }

@@ -1,33 +1,40 @@
 -- What is written for an input, and the status that says so.
 use Rattle.std.specs.Prelude.{◌≡◌, ◌≤◌, ◌⊎◌, ℕ, List, length, take, codes, decimal, Option, Result, Ok, Err}
 use Rattle.pm_io.specs.Moves.{Adds}
+use Rattle.pm_script.specs.declared.session.Session.{Session}
+use Rattle.pm_script.specs.Sessions.{SessionIs}
+use Rattle.pm_report.specs.Words.{◌&◌, line}
 use Rattle.pm_program.specs.declared.call.Status.{Status}
 use Rattle.pm_program.specs.declared.call.Status.TheVariants.{Done, SessionRefused, Usage, ReadFault, WriteFault, NoMemory}
 use Rattle.pm_program.specs.declared.words.Command.{Command}
 use Rattle.pm_program.specs.declared.words.Command.TheVariants.{Check, Replay}
-use Rattle.pm_program.specs.Reading.{SessionOf, session_of}
-use Rattle.pm_program.specs.Report.{◌&◌, line, report_of}
-use Rattle.pm_program.specs.Checked.{Counts, Checked, counts_text}
+use Rattle.pm_program.specs.Playing.{report_of}
 
--- the report of a session, or the line that refuses the input
-abbrev pub text_of : Result SessionOf (ℕ × ℕ) → List ℕ
-text_of (Ok s) = report_of s
-text_of (Err fault) = line (codes "refused" & decimal fault.0 & decimal fault.1)
+-- the line that refuses an input
+abbrev pub refusal : ℕ × ℕ → List ℕ
+refusal fault = line (codes "refused" & decimal fault.0 & decimal fault.1)
+
+-- what `check` writes of a session: its number of op lines, and the size of its first document in tokens
+abbrev pub counts_of : Session → List ℕ
+counts_of s = line (codes "ok" & decimal (length s.lines) & decimal (length s.head.doc.tokens))
+
+-- what a command writes of what the input is found to be
+abbrev pub text_of : Command → Result Session (ℕ × ℕ) → List ℕ
+text_of Check (Ok s) = counts_of s
+text_of Replay (Ok s) = report_of s
+text_of command (Err fault) = refusal fault
 
 -- Done for a session, SessionRefused for any other input
-abbrev pub status_for : {X : Type 0} → Result X (ℕ × ℕ) → Status
+abbrev pub status_for : Result Session (ℕ × ℕ) → Status
 status_for (Ok s) = Done
 status_for (Err fault) = SessionRefused
 
--- what is written where the input is found to be this, and the status that says so
-pub record IsTold {X : Type 0} (r : Result X (ℕ × ℕ)) (told : List ℕ) (text : List ℕ) (status : Status) : Type 0 where
-  pub written : text ≡ told
-  pub says : status ≡ status_for r
-
--- what a command writes for an input, and the status that says so
-abbrev pub IsOutput : Command → List ℕ → List ℕ → Status → Type 0
-IsOutput Check input text status = (counts : Counts) × Checked input counts × IsTold counts (counts_text counts) text status
-IsOutput Replay input text status = IsTold (session_of input) (text_of (session_of input)) text status
+-- what a command writes for an input, and the status that says so: the input is a session, or it is refused
+pub record IsOutput (command : Command) (input text : List ℕ) (status : Status) : Type 0 where
+  pub found : Result Session (ℕ × ℕ)
+  pub is : SessionIs input found
+  pub written : text ≡ text_of command found
+  pub says : status ≡ status_for found
 
 -- the command's output for the input was written whole, and this status says so
 pub record IsWritten (asked : Command) (input : List ℕ) (status : Status) (old new : Option (List ℕ)) : Type 0 where

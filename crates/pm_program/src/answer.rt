@@ -1,30 +1,21 @@
 //! What is written for an input.
-ghost use Rattle.std.specs.Prelude.{◌≡◌, ◌≤◌, ℕ, List, codes, decimal, length, string_bytes, true, false, map, vec_len, [], IfOk, IsErrOf, Some};
+ghost use Rattle.std.specs.Prelude.{◌≡◌, ◌↔◌, ℕ, List, codes, decimal, string_bytes, IfOk, IsErrOf, Some};
 ghost use Rattle.pm_io.specs.Faults.{Rose};
-ghost use Rattle.pm_session.specs.Events.{state_of};
-ghost use Rattle.pm_session.specs.Sessions.{opened};
-ghost use Rattle.pm_session.specs.Sounds.{Sound};
-ghost use Rattle.pm_flat.specs.Flat.{meaning};
-ghost use Rattle.pm_program.specs.Output.{text_of, status_for, IsOutput};
-ghost use Rattle.pm_program.specs.Reading.{session_of};
-ghost use Rattle.pm_program.specs.Sounds.{IsSuited};
-ghost use Rattle.pm_program.specs.Report.{◌&◌, line, report_of};
-ghost use Rattle.pm_program.specs.SessionViews.{session_view};
+ghost use Rattle.pm_report.specs.Words.{◌&◌, line};
+ghost use Rattle.pm_script.specs.declared.session.Session.{Session};
+ghost use Rattle.pm_program.specs.Output.{IsOutput, IsAnswer, counts_of, refusal};
+ghost use Rattle.pm_program.specs.Playing.{report_of};
+ghost use Rattle.pm_script.specs.Held.{Holds};
 
 use crate::call::Status;
-use crate::checking::check_input;
-use crate::fault::SessionError;
-use crate::making::StepMaker;
-use crate::report::{client_lines, report};
-use crate::session::{Session, read_session};
+use crate::replaying::replay;
 use crate::words::Command;
-use pm_flat::Replace;
 use pm_io::{ReadError, Source, read_all};
-use pm_session::Room;
+use pm_script::{Session, SessionError, read_session};
 use std::alloc::{AllocError, Global};
 
 /// The greatest number of bytes of an input.
-pub const MAX_INPUT: usize = 67_108_864;
+const MAX_INPUT: usize = 67_108_864;
 
 /// What is to be written, and the status that says so.
 #[derive(Drop)]
@@ -52,67 +43,43 @@ pub fn answer_of<R: Source>(
     }
 }
 
-ghost use Rattle.pm_program.specs.Output.{IsAnswer};
-
+/// The answer to an input.
 fn answer_to(alloc: Global, command: Command, input: &[u8]) -> Result<Answer, AllocError>
     ensures output { IfOk result (λ a. IsOutput command input.now (string_bytes a.text) a.status) }
     ensures answers { IfOk result (λ a. IsAnswer a.status) }
 {
-    match command {
-        Command::Check => check_input(alloc, input),
-        Command::Replay => replay_input(alloc, input),
-    }
-}
-
-fn replay_input(alloc: Global, input: &[u8]) -> Result<Answer, AllocError>
-    ensures text { IfOk result (λ a. string_bytes a.text ≡ text_of (session_of input.now)) }
-    ensures status { IfOk result (λ a. a.status ≡ status_for (session_of input.now)) }
-{
     match read_session(alloc, input) {
         Ok(session) => Ok(Answer {
             status: Status::Done,
-            text: replay(alloc, &session)?,
+            text: told(alloc, command, &session)?,
         }),
         Err(SessionError::Refused { line, code }) => refusal(alloc, line, code),
         Err(SessionError::NoMemory) => Err(AllocError),
     }
 }
 
-/// The report of a session, whose lines are played in file order.
-fn replay(alloc: Global, session: &Session) -> Result<String, AllocError>
-    requires few { vec_len session.now.clients ≤ 32 }
-    requires suited { IsSuited (session_view session.now) }
-    requires text { length session.now.text ≤ 400000 }
-    ensures report { IfOk result (λ s. string_bytes s ≡ report_of (session_view session.now)) }
+ghost use Rattle.pm_program.specs.Output.{text_of};
+ghost use Rattle.std.specs.Prelude.{Ok};
+
+/// What the command writes of a session.
+fn told(alloc: Global, command: Command, session: &Session) -> Result<String, AllocError>
+    requires { Holds session.now }
+    ensures { IfOk result (λ s. string_bytes s ≡ text_of command (Ok session.now)) }
 {
-    let mut room = open(alloc, session)?;
-    let outcomes = room.play_all(alloc, &(), &StepMaker, &session.lines)?;
-    let standing = client_lines(alloc, &session.clients, room.clients())?;
-    room.settle(alloc, &())?;
-    report(
-        alloc,
-        &session.clients,
-        &session.lines,
-        &outcomes,
-        standing.as_str(),
-        &room,
-    )
+    match command {
+        Command::Check => counts(alloc, session.lines.len(), session.head.doc.size()),
+        Command::Replay => replay(alloc, session),
+    }
 }
 
-/// A room at the session's first document, with a client for each name.
-fn open(alloc: Global, session: &Session) -> Result<Room<Replace>, AllocError>
-    requires few { vec_len session.now.clients ≤ 32 }
-    requires text { length session.now.text ≤ 400000 }
-    ensures opens { IfOk result (λ r. state_of r ≡ opened session.now.text (length (map string_bytes session.now.clients.items))) }
-    ensures sound { IfOk result (λ r. Sound meaning tt (state_of r)) }
+fn counts(alloc: Global, lines: usize, size: usize) -> Result<String, AllocError>
+    ensures { IfOk result (λ s. string_bytes s ≡ line (codes "ok" & decimal lines & decimal size)) }
 {
-    let doc = session.text.copy(alloc)?;
-    let raw = vec![in alloc; false; session.clients.len()]?;
-    Room::new(alloc, &(), doc, &raw)
+    format!(in alloc; "ok {lines} {size}\n")
 }
 
 /// The line that refuses an input.
-pub fn refusal(alloc: Global, number: u32, code: u32) -> Result<Answer, AllocError>
+fn refusal(alloc: Global, number: u32, code: u32) -> Result<Answer, AllocError>
     ensures text { IfOk result (λ a. string_bytes a.text ≡ line (codes "refused" & decimal number & decimal code)) }
     ensures status { IfOk result (λ a. a.status ≡ Status.SessionRefused) }
 {

@@ -4,7 +4,6 @@ ghost use Rattle.pm_io.specs.Faults.{Rose};
 ghost use Rattle.pm_program.specs.Words.{command_of};
 ghost use Rattle.pm_program.specs.declared.words.Command.{Command};
 ghost use Rattle.pm_program.specs.Output.{IsAnswer, Answered};
-ghost use Rattle.pm_program.specs.Reading.{session_of};
 ghost use Rattle.pm_program.specs.Sounds.{AllSound};
 ghost use Rattle.pm_program.specs.Headline.{Writes, Agrees, Silent};
 
@@ -46,7 +45,7 @@ pub fn run<R: Source, W: Sink, G: Gate + Sync>(
     ensures output { (asked : Command) (input : List ℕ) → command_of (map string_bytes words.now) ≡ Some asked
         → R.left source.old ≡ Some input
         → Answered asked input result (W.written sink.old) (W.written sink.new) }
-    ensures sound { (input : List ℕ) → R.left source.old ≡ Some input → AllSound (session_of input) }
+    ensures sound { (input : List ℕ) → R.left source.old ≡ Some input → AllSound input }
     ensures read_fault { result ≡ Status.ReadFault → Rose (R.faults source.old) (R.faults source.new) }
     ensures write_fault { result ≡ Status.WriteFault → Rose (W.faults sink.old) (W.faults sink.new) }
     ensures complete { (asked : Command) (input : List ℕ) → command_of (map string_bytes words.now) ≡ Some asked
@@ -78,7 +77,7 @@ pub fn plain<R: Source, W: Sink>(
         → R.left source.old ≡ Some input
         → Answered asked input result (W.written sink.old) (W.written sink.new) }
     // Every room of the session is sound, whatever becomes of the call.
-    ensures sound { (input : List ℕ) → R.left source.old ≡ Some input → AllSound (session_of input) }
+    ensures sound { (input : List ℕ) → R.left source.old ≡ Some input → AllSound input }
     // Faults only where they rose.
     ensures read_fault { result ≡ Status.ReadFault → Rose (R.faults source.old) (R.faults source.new) }
     ensures write_fault { result ≡ Status.WriteFault → Rose (W.faults sink.old) (W.faults sink.new) }

@@ -48,7 +48,7 @@ fn the_least_faulty_line_is_told(rt: HostRuntime) -> Result<(), Fail> {
         ),
         (SCHEMA_LINE, "null\n", "refused 3 2\n"),
         (SCHEMA_LINE, "null\n[]\n{}\n", "refused 3 19\n"),
-        // raw clients and other op lines are not built
+        // raw clients are not built
         (
             SCHEMA_LINE,
             "null\n[\"a\",{\"raw\":\"b\"}]\n",
@@ -57,9 +57,9 @@ fn the_least_faulty_line_is_told(rt: HostRuntime) -> Result<(), Fail> {
         (
             SCHEMA_LINE,
             "null\n[\"a\"]\n{\"c\":\"a\",\"op\":\"push\"}\n{\"c\":\"z\",\"op\":\"push\"}\n",
-            "refused 5 99\n",
+            "refused 5 7\n",
         ),
-        (SCHEMA_LINE, "null\n[\"a\"]\n\n", "refused 4 99\n"),
+        (SCHEMA_LINE, "null\n[\"a\"]\n\n", "refused 4 5\n"),
     ] {
         let (status, written) = asked(&rt, "check", input(&rt, first, &[rest])?)?;
         assert_eq!(rt; status, Status::SessionRefused);

@@ -5,18 +5,12 @@ mod answer;
 mod call;
 #[cfg(test)]
 mod check_tests;
-mod checking;
-mod earlier;
-mod fault;
-mod forms;
-mod lines;
 mod making;
-mod ops;
 #[cfg(test)]
 mod rebasing_tests;
-mod report;
+mod replaying;
+#[cfg(test)]
 mod schema_line;
-mod session;
 #[cfg(test)]
 mod several_tests;
 #[cfg(test)]
@@ -24,9 +18,10 @@ mod tests;
 #[cfg(test)]
 mod three_clients_tests;
 #[cfg(test)]
+mod tree_tests;
+#[cfg(test)]
 mod undo_tests;
 mod words;
-mod written;
 
 use call::{Status, run};
 use pm_io::{OpenGate, StdSink, StdSource};

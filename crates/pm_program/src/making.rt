@@ -1,44 +1,51 @@
-//! A line's op is a step.
-use pm_change::Change;
-use pm_flat::{Letters, Replace};
+//! Ops become steps.
+ghost use Rattle.std.specs.Prelude.{◌≡◌, ◌∷◌, [], IfOk};
+ghost use Rattle.pm_step.specs.Steps.{step_of};
+
+use pm_apply::DocChange;
+use pm_node::Document;
+use pm_ops::Op;
+use pm_schema::Schema;
 use pm_session::{Maker, NoSteps};
-use std::alloc::{AllocError, AllocFailed, Global};
+use pm_step::Step;
+use std::alloc::{AllocError, Global};
 
 /// Makes the step that an op is.
 pub struct StepMaker;
 
-impl Maker<Replace> for StepMaker {
+impl Maker<DocChange> for StepMaker {
     ghost use Rattle.pm_program.specs.Making.{makes};
-    ghost use Rattle.pm_program.specs.MakingLaws.{some_step, no_memory};
+    ghost use Rattle.pm_program.specs.Makers.{some_step, no_memory};
 
-    type Op = Replace;
+    type Op = Op;
 
-    ghost makes = { λ maker rules doc op. makes rules doc op };
+    ghost makes = { λ maker schema doc op. makes schema doc op };
 
     fn steps(
         &self,
         alloc: Global,
-        _rules: &(),
-        _doc: &Letters,
-        op: &Replace,
-    ) -> Result<Vec<Replace>, NoSteps> {
-        match one_step(alloc, op) {
+        _schema: &Schema,
+        _doc: &Document,
+        op: &Op,
+    ) -> Result<Vec<DocChange>, NoSteps> {
+        let Op::Step(step) = op else {
+            return Err(NoSteps::NoFit);
+        };
+        match one_step(alloc, step) {
             Ok(steps) => Ok(steps),
             Err(AllocError) => Err(NoSteps::NoMemory),
         }
     }
 
-    ghost some = { λ maker rules doc op h. some_step op h };
+    ghost some = { λ maker schema doc op h. some_step schema doc op h };
 
-    ghost meant = { λ maker rules doc op h. no_memory op h };
+    ghost meant = { λ maker schema doc op h. no_memory schema doc op h };
 }
 
-ghost use Rattle.std.specs.Prelude.{◌≡◌, ◌∷◌, [], IfOk};
-
-fn one_step(alloc: Global, op: &Replace) -> Result<Vec<Replace>, AllocError>
-    ensures { IfOk result (λ v. v.items ≡ op.now ∷ []) }
+fn one_step(alloc: Global, step: &Step) -> Result<Vec<DocChange>, AllocError>
+    ensures { IfOk result (λ v. v.items ≡ step_of step.now ∷ []) }
 {
     let mut steps = Vec::new(alloc);
-    steps.push(op.copy(alloc)?)?;
+    steps.push(DocChange::new(step.copy(alloc)?))?;
     Ok(steps)
 }

@@ -207,6 +207,6 @@ fn a_client_has_64_cursor_lines(rt: HostRuntime) -> Result<(), Fail> {
     lines.push_str("; b cursor 2; a cursor 1")?;
     let (status, written) = played(&rt, "ab", lines.as_str())?;
     assert_eq!(rt; status, Status::SessionRefused);
-    assert_eq!(rt; written.as_str(), "refused 70 99\n");
+    assert_eq!(rt; written.as_str(), "refused 70 18\n");
     Ok(())
 }

@@ -52,7 +52,7 @@ fn an_event_number_is_a_whole_number_of_32_bits(rt: HostRuntime) -> Result<(), F
         let line = format!(in rt.alloc(); "a step R(1,1,x) {event}")?;
         let (status, written) = played(&rt, "ab", line.as_str())?;
         assert_eq!(rt; status, Status::SessionRefused);
-        assert_eq!(rt; written.as_str(), "refused 4 99\n");
+        assert_eq!(rt; written.as_str(), "refused 4 6\n");
     }
     let (status, _report) = played(&rt, "ab", "a step R(1,1,x) 4294967295")?;
     assert_eq!(rt; status, Status::Done);

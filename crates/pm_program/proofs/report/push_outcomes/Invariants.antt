@@ -1,6 +1,0 @@
-use Rattle.std.proofs.Common.{◌≡◌, ◌++◌, drop, string_bytes}
-use Rattle.pm_program.specs.Report.{outcome_lines}
-use Rattle.pm_program.proofs.report.push_outcomes.Given as goal
-
-abbrev pub invariant-loop-i : goal.invariant-loop-i
-invariant-loop-i l = string_bytes l.text ++ outcome_lines (drop l.i l.lines) (drop l.i l.outcomes) ≡ string_bytes l.fn.text ++ outcome_lines l.lines l.outcomes

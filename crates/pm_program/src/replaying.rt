@@ -1,0 +1,51 @@
+//! Sessions played in file order.
+ghost use Rattle.std.specs.Prelude.{◌≡◌, ◌≤◌, false, All, length, string_bytes, IfOk};
+ghost use Rattle.pm_tokens.specs.Faults.{Valid};
+ghost use Rattle.pm_schema.specs.Documents.{documents_of};
+ghost use Rattle.pm_apply.specs.Changes.{meaning};
+ghost use Rattle.pm_session.specs.Events.{state_of};
+ghost use Rattle.pm_session.specs.Sounds.{Sound};
+ghost use Rattle.pm_program.specs.Playing.{room_of, report_of};
+ghost use Rattle.pm_script.specs.Held.{Holds};
+
+use crate::making::StepMaker;
+use pm_apply::DocChange;
+use pm_report::{client_lines, report};
+use pm_script::Session;
+use pm_session::Room;
+use std::alloc::{AllocError, Global};
+
+/// The report of a session, whose lines are played in file order.
+pub fn replay(alloc: Global, session: &Session) -> Result<String, AllocError>
+    requires { Holds session.now }
+    ensures { IfOk result (λ s. string_bytes s ≡ report_of session.now) }
+{
+    let schema = &session.head.schema;
+    let entries = session.head.clients.as_slice();
+    let lines = session.lines.as_slice();
+    let mut room = open(alloc, session)?;
+    let outcomes = room.play_all(alloc, schema, &StepMaker, lines)?;
+    let standing = client_lines(alloc, schema, entries, room.clients())?;
+    room.settle(alloc, schema)?;
+    report(
+        alloc,
+        schema,
+        entries,
+        lines,
+        &outcomes,
+        standing.as_str(),
+        &room,
+    )
+}
+
+/// A room at the session's first document, with its clients.
+fn open(alloc: Global, session: &Session) -> Result<Room<DocChange>, AllocError>
+    requires valid { Valid (documents_of session.now.head.schema.spec) session.now.head.doc }
+    requires few { length session.now.head.clients ≤ 32 }
+    ensures opens { IfOk result (λ r. state_of r ≡ room_of session.now) }
+    ensures sound { IfOk result (λ r. Sound meaning session.now.head.schema (state_of r)) }
+{
+    let doc = session.head.doc.copy()?;
+    let raw = vec![in alloc; false; session.head.clients.len()]?;
+    Room::new(alloc, &session.head.schema, doc, &raw)
+}

@@ -1,0 +1,6 @@
+use Rattle.std.proofs.Common.{◌≡◌, ◌++◌, drop, string_bytes}
+use Rattle.pm_report.specs.Outcomes.{outcome_lines}
+use Rattle.pm_report.proofs.outcomes.push_outcomes.Given as goal
+
+abbrev pub invariant-loop-i : goal.invariant-loop-i
+invariant-loop-i l = string_bytes l.text ++ outcome_lines (drop l.i l.lines) (drop l.i l.outcomes) ≡ string_bytes l.fn.text ++ outcome_lines l.lines l.outcomes

@@ -1,0 +1,113 @@
+//! The report of a session.
+ghost use Rattle.std.specs.Prelude.{◌≡◌, ◌++◌, length, codes, decimal, IfOk, OnOk, string_bytes};
+ghost use Rattle.pm_report.specs.Words.{◌&◌, line};
+ghost use Rattle.pm_report.specs.Outcomes.{outcome_lines};
+ghost use Rattle.pm_report.specs.Report.{name_at, doc_text, step_text, entry_lines, settled_lines};
+
+use crate::outcomes::push_outcomes;
+use crate::standing::{name_at, push_settled};
+use pm_apply::DocChange;
+use pm_authority::Named;
+use pm_docjson::document_text;
+use pm_head::ClientEntry;
+use pm_node::Document;
+use pm_ops::Op;
+use pm_schema::Schema;
+use pm_session::{Line, Outcome, Room};
+use pm_stepjson::step_text;
+use std::alloc::{AllocError, Global};
+
+/// The report: what became of each line, how the clients stood before they settled, which is `standing`, the log after that,
+/// how the clients stand then, and the authority's document. Each line ends with LF.
+pub fn report(
+    alloc: Global,
+    schema: &Schema,
+    entries: &[ClientEntry],
+    lines: &[Line<Op>],
+    outcomes: &[Outcome<DocChange>],
+    standing: &str,
+    settled: &Room<DocChange>,
+) -> Result<String, AllocError>
+    requires { length outcomes.now ≡ length lines.now }
+    ensures { IfOk result (λ s. string_bytes s ≡ outcome_lines lines.now outcomes.now ++ standing.now
+        ++ line (codes "log" & decimal (length settled.now.authority.log))
+        ++ entry_lines schema.now.spec entries.now 1 settled.now.authority.log
+        ++ settled_lines entries.now 0 settled.now.clients.items
+        ++ line (codes "final" & doc_text schema.now.spec settled.now.authority.doc)) }
+{
+    let mut text = String::new(alloc);
+    push_outcomes(alloc, &mut text, lines, outcomes)?;
+    text.push_str(standing)?;
+    push_log(alloc, schema, &mut text, entries, settled.authority().log())?;
+    push_settled(alloc, &mut text, entries, settled.clients())?;
+    text.push_str(final_line(alloc, schema, settled.authority().doc())?.as_str())?;
+    Ok(text)
+}
+
+/// Puts the length of the log and its entries, counted from 1, behind the text.
+fn push_log(
+    alloc: Global,
+    schema: &Schema,
+    text: &mut String,
+    entries: &[ClientEntry],
+    log: &[Named<DocChange>],
+) -> Result<(), AllocError>
+    ensures { OnOk result (string_bytes text.new ≡ string_bytes text.old ++ line (codes "log" & decimal (length log.now)) ++ entry_lines schema.now.spec entries.now 1 log.now) }
+{
+    text.push_str(log_line(alloc, log.len())?.as_str())?;
+    push_entries(alloc, schema, text, entries, log)
+}
+
+fn log_line(alloc: Global, length: usize) -> Result<String, AllocError>
+    ensures { IfOk result (λ s. string_bytes s ≡ line (codes "log" & decimal length)) }
+{
+    format!(in alloc; "log {length}\n")
+}
+
+fn push_entries(
+    alloc: Global,
+    schema: &Schema,
+    text: &mut String,
+    entries: &[ClientEntry],
+    log: &[Named<DocChange>],
+) -> Result<(), AllocError>
+    ensures { OnOk result (string_bytes text.new ≡ string_bytes text.old ++ entry_lines schema.now.spec entries.now 1 log.now) }
+{
+    for (i, entry) in log.iter().enumerate() {
+        text.push_str(entry_line(alloc, schema, entries, i + 1, entry)?.as_str())?;
+    }
+    Ok(())
+}
+
+fn entry_line(
+    alloc: Global,
+    schema: &Schema,
+    entries: &[ClientEntry],
+    place: usize,
+    entry: &Named<DocChange>,
+) -> Result<String, AllocError>
+    ensures { IfOk result (λ s. string_bytes s ≡ line (decimal place & name_at entries.now entry.now.name.client & decimal entry.now.name.serial & step_text schema.now.spec entry.now.change)) }
+{
+    let step = step_text(alloc, schema, &entry.change.step)?;
+    let name = name_at(entries, entry.name.client as usize);
+    entry_words(alloc, place, name, entry.name.serial, step.as_str())
+}
+
+fn entry_words(
+    alloc: Global,
+    place: usize,
+    name: &str,
+    serial: u64,
+    step: &str,
+) -> Result<String, AllocError>
+    ensures { IfOk result (λ s. string_bytes s ≡ line (decimal place & name.now & decimal serial & step.now)) }
+{
+    format!(in alloc; "{place} {name} {serial} {step}\n")
+}
+
+fn final_line(alloc: Global, schema: &Schema, doc: &Document) -> Result<String, AllocError>
+    ensures { IfOk result (λ s. string_bytes s ≡ line (codes "final" & doc_text schema.now.spec doc.now)) }
+{
+    let doc = document_text(alloc, schema, doc)?;
+    format!(in alloc; "final {doc}\n")
+}
