@@ -20,8 +20,6 @@ mod taking;
 pub use change::DocChange;
 
 #[cfg(test)]
-mod back_tests;
-#[cfg(test)]
 mod sample;
 #[cfg(test)]
 mod tests;
