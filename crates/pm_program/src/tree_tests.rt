@@ -32,7 +32,7 @@ fn played(rt: &impl AllocGlobal, nodes: &str, steps: &str) -> Result<(Status, St
 fn outcomes(alloc: Global, told: &str) -> Result<String, Fail> {
     let mut text = String::new(alloc);
     for (i, outcome) in told.split("; ").enumerate() {
-        let number = i + 4;
+        let number = i.saturating_add(4);
         text.push_str(format!(in alloc; "{number} {outcome}\n")?.as_str())?;
     }
     Ok(text)
