@@ -64,6 +64,14 @@ impl Mapping {
         Mapping { maps }
     }
 
+    /// Its maps in order, each with its mirror, as `from_entries` takes them. It takes no memory.
+    pub fn into_entries(self) -> Vec<Mirrored>
+        ensures maps { result.items ≡ self }
+        ensures paired { ArePaired result.items }
+    {
+        self.maps
+    }
+
     /// Puts an unpaired map behind the last one. For want of memory the mapping stays as it was.
     pub fn push(&mut self, map: StepMap) -> Result<(), AllocError>
         ensures ok { OnOk result (self.new ≡ pushed self.old map) }
