@@ -18,9 +18,11 @@ use pm_value::{Value, ValueError};
 use serde_json::{Map, Value as Json};
 use std::alloc::{AllocError, Global};
 
-/// The attributes of a type, where the field `attrs` gives their values.
+/// The attributes of a type, where the field `attrs` of the JSON value gives their values; without the field none is given. `Shape`
+/// comes where the field is no object; `Attr` where a value can't be read, is missing without a default, or is of no attribute of
+/// the type.
 #[tactic(auto, unfolding(crate::specs::Reading::attrs_read))]
-pub fn attrs_read(
+pub fn read_attrs(
     alloc: Global,
     schema: &Schema,
     kind: AnyType,

@@ -7,7 +7,7 @@ ghost use Rattle.pm_docjson.specs.Reading.{mark_of, mark_list, marks_of, as_set}
 
 use crate::fault::DocReadError;
 use crate::fields::{field, text_at};
-use crate::reading_attrs::attrs_read;
+use crate::reading_attrs::read_attrs;
 use pm_attrs::Attrs;
 use pm_marks::{Mark, MarkSet, SetError};
 use pm_schema::{AnyType, Schema};
@@ -23,7 +23,7 @@ pub fn read_mark(alloc: Global, schema: &Schema, json: &Json) -> Result<Mark<Att
 {
     let name = text_at(json, "type")?;
     let kind = schema.mark_named(name).ok_or(DocReadError::UnknownType)?;
-    let attrs = attrs_read(alloc, schema, AnyType::Mark(kind), json)?;
+    let attrs = read_attrs(alloc, schema, AnyType::Mark(kind), json)?;
     Ok(Mark { kind, attrs })
 }
 

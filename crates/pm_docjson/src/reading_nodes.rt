@@ -10,7 +10,7 @@ ghost use Rattle.pm_docjson.specs.Reading.{text_from, branch_from, body_of, boun
 use crate::fault::DocReadError;
 use crate::fields::{field, text_at};
 use crate::leaves::LeafContent;
-use crate::reading_attrs::attrs_read;
+use crate::reading_attrs::read_attrs;
 use crate::reading_marks::marks_of;
 use crate::types::{is_leaf, text_type};
 use pm_auto::TypeId;
@@ -32,6 +32,18 @@ pub fn read_node(alloc: Global, schema: &Schema, json: &Json) -> Result<Node, Do
     ensures { Gives (λ n. n) result (node_of schema.now.spec Kept (view json.now)) }
 {
     node_of(alloc, schema, LeafContent::Kept, json)
+}
+
+/// The node of a JSON value, as in `read_node`. Content of a leaf type is refused or kept.
+pub fn read_node_with(
+    alloc: Global,
+    schema: &Schema,
+    leaves: LeafContent,
+    json: &Json,
+) -> Result<Node, DocReadError>
+    ensures { Gives (λ n. n) result (node_of schema.now.spec leaves (view json.now)) }
+{
+    node_of(alloc, schema, leaves, json)
 }
 
 /// The nodes of a list of JSON values, one after another, or the first fault in one of them, as in `read_node`. `Large` comes
@@ -77,7 +89,7 @@ fn text_from(alloc: Global, schema: &Schema, json: &Json) -> Result<Node, DocRea
         return Err(DocReadError::EmptyText);
     }
     let kind = text_type(schema);
-    let attrs = attrs_read(alloc, schema, AnyType::Node(kind), json)?;
+    let attrs = read_attrs(alloc, schema, AnyType::Node(kind), json)?;
     let marks = marks_of(alloc, schema, json)?;
     let units = units_of(alloc, text)?;
     let body = Body::Text(Units::new(units));
@@ -104,7 +116,7 @@ fn branch_from(
         (content_for schema.now.spec leaves kind (field (codes "content") (view json.now))
         (content_at schema.now.spec leaves (field (codes "content") (view json.now))))) }
 {
-    let attrs = attrs_read(alloc, schema, AnyType::Node(kind), json)?;
+    let attrs = read_attrs(alloc, schema, AnyType::Node(kind), json)?;
     let marks = marks_of(alloc, schema, json)?;
     let content = content_for(alloc, schema, leaves, kind, json)?;
     let body = body_of(schema, kind, content);

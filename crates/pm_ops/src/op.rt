@@ -5,6 +5,7 @@ use pm_marks::Mark;
 use pm_node::Node;
 use pm_slice::Slice;
 use pm_step::Step;
+use pm_value::Text;
 
 /// An edit of a document. Positions are in tokens, and depths in nodes around a position.
 #[derive(Drop)]
@@ -13,7 +14,7 @@ pub enum Op {
     InsertText {
         from: u64,
         to: u64,
-        text: String,
+        text: Text,
     },
     /// Takes out what stands from `from` to `to`.
     Delete {
