@@ -25,6 +25,3 @@ pub use texts::{document_text, node_text};
 pub use writable::{has_its_body, valid_content_is_writable, valid_is_writable};
 pub use writing_marks::write_mark;
 pub use writing_nodes::{write_node, write_nodes};
-
-#[cfg(test)]
-mod tests;

@@ -8,6 +8,3 @@ mod writing;
 pub use numbers::{as_count, count_at};
 pub use reading::read_slice;
 pub use writing::write_slice;
-
-#[cfg(test)]
-mod tests;

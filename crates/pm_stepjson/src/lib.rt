@@ -12,6 +12,3 @@ pub use fault::StepReadError;
 pub use reading::read_step;
 pub use texts::step_text;
 pub use writing::write_step;
-
-#[cfg(test)]
-mod tests;

@@ -1,43 +1,16 @@
-//! Tables of slices as JSON, with ample memory. The types are 0 doc, 1 paragraph, 2 rule, 3 text.
-use crate::{read_slice, write_slice};
-use pm_auto::Expr;
+//! Tables of slices as JSON, with ample memory.
+use crate::sample::schema_of;
 use pm_docjson::DocReadError;
-use pm_list::Listed;
-use pm_schema::{AttrSpecs, NodeSpec, Schema, SchemaSpec};
+use pm_schema::Schema;
 use pm_slice::Slice;
-use pm_value::Text;
+use pm_slicejson::{read_slice, write_slice};
 use serde_json::Value as Json;
-use std::alloc::{AllocError, Global};
+use std::alloc::Global;
 use std::test::Fail;
 
-fn node(alloc: Global, name: &str, content: Expr) -> Result<NodeSpec, AllocError> {
-    Ok(NodeSpec {
-        name: Text::from_str(alloc, name)?,
-        content,
-        groups: Listed::new(alloc),
-        marks: None,
-        inline: false,
-        atom: false,
-        attrs: AttrSpecs::new(alloc),
-    })
-}
-
-fn any_of(alloc: Global, kinds: Vec<Expr>) -> Result<Expr, AllocError> {
-    Ok(Expr::Star(Box::new(alloc, Expr::Choice(kinds))?))
-}
-
-fn schema(alloc: Global) -> Result<Schema, Fail> {
-    let mut nodes = Listed::new(alloc);
-    let blocks = any_of(alloc, vec![in alloc; Expr::One(1), Expr::One(2)]?)?;
-    nodes.push(node(alloc, "doc", blocks)?)?;
-    let texts = any_of(alloc, vec![in alloc; Expr::One(3)]?)?;
-    nodes.push(node(alloc, "paragraph", texts)?)?;
-    nodes.push(node(alloc, "rule", Expr::Empty)?)?;
-    nodes.push(node(alloc, "text", Expr::Empty)?)?;
-    let marks = Listed::new(alloc);
-    let top = Text::from_str(alloc, "doc")?;
-    Ok(Schema::build(alloc, SchemaSpec { nodes, marks, top })?)
-}
+/// The types are 0 doc, 1 paragraph, 2 rule, 3 text; the mark type is 0 em.
+pub(crate) const SCHEMA: &str =
+    r#"{"nodes":[{"name":"doc","content":"(paragraph | rule)*"},{"name":"paragraph","content":"text*"},{"name":"rule"},{"name":"text"}],"marks":[{"name":"em"}]}"#;
 
 fn read(alloc: Global, schema: &Schema, text: &str) -> Result<Result<Slice, DocReadError>, Fail> {
     let json = Json::from_str(alloc, text)?;
@@ -57,7 +30,7 @@ const SLICES: &str = r#"0 0 0 0 null
 #[test]
 fn slices_are_read_with_their_sides(rt: HostRuntime) -> Result<(), Fail> {
     let alloc = rt.alloc();
-    let schema = schema(alloc)?;
+    let schema = schema_of(alloc, SCHEMA)?;
     for row in SLICES.split('\n') {
         let fields: Vec<&str> = row.split(' ').collect(alloc)?;
         let [size, len, start, end, text] = fields.as_slice() else {
@@ -90,7 +63,7 @@ Open {"content":[{"type":"paragraph"},{"type":"rule"}],"openStart":2}"#;
 #[test]
 fn the_first_fault_of_a_slice_is_named(rt: HostRuntime) -> Result<(), Fail> {
     let alloc = rt.alloc();
-    let schema = schema(alloc)?;
+    let schema = schema_of(alloc, SCHEMA)?;
     for row in FAULTS.split('\n') {
         let fields: Vec<&str> = row.split(' ').collect(alloc)?;
         let [fault, text] = fields.as_slice() else {
@@ -116,7 +89,7 @@ const WRITTEN: &str = r#"null null
 #[test]
 fn slices_are_written_in_full(rt: HostRuntime) -> Result<(), Fail> {
     let alloc = rt.alloc();
-    let schema = schema(alloc)?;
+    let schema = schema_of(alloc, SCHEMA)?;
     for row in WRITTEN.split('\n') {
         let fields: Vec<&str> = row.split(' ').collect(alloc)?;
         let [text, want] = fields.as_slice() else {

@@ -1,12 +1,12 @@
 //! Texts of what is written, with ample memory. Of a row's two texts the first is read, and the second is its text again: keys
 //! stand in byte order, no blank is written, and an attribute that is not given is written with its default.
-use super::schema;
-use crate::{
+use crate::docjson_tests::schema;
+use pm_attrs::Attrs;
+use pm_auto::TypeId;
+use pm_docjson::{
     document_text, has_its_body, node_text, read_mark, read_node, valid_is_writable, write_mark,
     write_node,
 };
-use pm_attrs::Attrs;
-use pm_auto::TypeId;
 use pm_marks::MarkSet;
 use pm_node::{Body, Document, Node, Units};
 use pm_schema::Schema;

@@ -1,80 +1,18 @@
-//! Tables of what is read, with ample memory. The types are 0 doc, 1 paragraph, 2 heading, 3 image, 4 text; the marks are 0 link, 1 em,
-//! 2 strong, 3 code.
-mod writing;
-
-use crate::{DocReadError, LeafContent, read_mark, read_node, read_nodes, write_nodes};
-use pm_auto::Expr;
-use pm_list::Listed;
+//! Tables of nodes and marks that are read, with ample memory.
+use crate::sample::schema_of;
+use pm_docjson::{DocReadError, LeafContent, read_mark, read_node, read_nodes, write_nodes};
 use pm_node::{Body, Fragment, Node};
-use pm_schema::{AttrSpec, AttrSpecs, MarkSpec, NodeSpec, Schema, SchemaSpec};
-use pm_value::{Text, Value};
+use pm_schema::Schema;
 use serde_json::Value as Json;
-use std::alloc::{AllocError, Global};
+use std::alloc::Global;
 use std::test::Fail;
 
-fn node(alloc: Global, name: &str, content: Expr) -> Result<NodeSpec, AllocError> {
-    Ok(NodeSpec {
-        name: Text::from_str(alloc, name)?,
-        content,
-        groups: Listed::new(alloc),
-        marks: None,
-        inline: false,
-        atom: false,
-        attrs: AttrSpecs::new(alloc),
-    })
-}
+/// The types are 0 doc, 1 paragraph, 2 heading, 3 image, 4 text; the marks are 0 link, 1 em, 2 strong, 3 code.
+const SCHEMA: &str =
+    r#"{"nodes":[{"name":"doc","content":"(paragraph | heading)+"},{"name":"paragraph","content":"(image | text)*"},{"name":"heading","content":"(image | text)*","attrs":{"level":{"default":1}}},{"name":"image","inline":true,"attrs":{"src":{}}},{"name":"text"}],"marks":[{"name":"link","attrs":{"href":{}}},{"name":"em"},{"name":"strong"},{"name":"code","excludes":"_"}]}"#;
 
-fn mark(alloc: Global, name: &str, excludes: Option<&str>) -> Result<MarkSpec, AllocError> {
-    let excludes = match excludes {
-        None => None,
-        Some(text) => Some(Text::from_str(alloc, text)?),
-    };
-    Ok(MarkSpec {
-        name: Text::from_str(alloc, name)?,
-        attrs: AttrSpecs::new(alloc),
-        inclusive: true,
-        excludes,
-        groups: Listed::new(alloc),
-    })
-}
-
-fn attrs(alloc: Global, name: &str, default: Option<Value>) -> Result<AttrSpecs, AllocError> {
-    let name = Text::from_str(alloc, name)?;
-    AttrSpecs::one(alloc, AttrSpec { name, default })
-}
-
-fn inline(alloc: Global) -> Result<Expr, AllocError> {
-    let all = vec![in alloc; Expr::One(3), Expr::One(4)]?;
-    Ok(Expr::Star(Box::new(alloc, Expr::Choice(all))?))
-}
-
-fn nodes(alloc: Global) -> Result<Listed<NodeSpec>, AllocError> {
-    let mut nodes = Listed::new(alloc);
-    let blocks = Expr::Choice(vec![in alloc; Expr::One(1), Expr::One(2)]?);
-    nodes.push(node(alloc, "doc", Expr::Plus(Box::new(alloc, blocks)?))?)?;
-    nodes.push(node(alloc, "paragraph", inline(alloc)?)?)?;
-    let mut heading = node(alloc, "heading", inline(alloc)?)?;
-    heading.attrs = attrs(alloc, "level", Some(Value::Int(1)))?;
-    nodes.push(heading)?;
-    let mut image = node(alloc, "image", Expr::Empty)?;
-    image.inline = true;
-    image.attrs = attrs(alloc, "src", None)?;
-    nodes.push(image)?;
-    nodes.push(node(alloc, "text", Expr::Empty)?)?;
-    Ok(nodes)
-}
-
-fn schema(alloc: Global) -> Result<Schema, Fail> {
-    let mut marks = Listed::new(alloc);
-    let mut link = mark(alloc, "link", None)?;
-    link.attrs = attrs(alloc, "href", None)?;
-    marks.push(link)?;
-    marks.push(mark(alloc, "em", None)?)?;
-    marks.push(mark(alloc, "strong", None)?)?;
-    marks.push(mark(alloc, "code", Some("_"))?)?;
-    let top = Text::from_str(alloc, "doc")?;
-    let nodes = nodes(alloc)?;
-    Ok(Schema::build(alloc, SchemaSpec { nodes, marks, top })?)
+pub(crate) fn schema(alloc: Global) -> Result<Schema, Fail> {
+    schema_of(alloc, SCHEMA)
 }
 
 /// How many children a node has, or none where it holds a text or is a leaf.

@@ -1,49 +1,10 @@
-//! Tables of steps as JSON, with ample memory. The types are 0 doc, 1 paragraph, 2 rule, 3 text; the mark type is 0 em.
-use crate::{read_step, step_text, write_step};
-use pm_auto::Expr;
-use pm_list::Listed;
-use pm_schema::{AttrSpecs, MarkSpec, NodeSpec, Schema, SchemaSpec};
+//! Tables of steps as JSON, with ample memory.
+use crate::sample::schema_of;
+use crate::slicejson_tests::SCHEMA;
 use pm_step::Step;
-use pm_value::Text;
+use pm_stepjson::{read_step, step_text, write_step};
 use serde_json::Value as Json;
-use std::alloc::{AllocError, Global};
 use std::test::Fail;
-
-fn node(alloc: Global, name: &str, content: Expr) -> Result<NodeSpec, AllocError> {
-    Ok(NodeSpec {
-        name: Text::from_str(alloc, name)?,
-        content,
-        groups: Listed::new(alloc),
-        marks: None,
-        inline: false,
-        atom: false,
-        attrs: AttrSpecs::new(alloc),
-    })
-}
-
-fn any_of(alloc: Global, kinds: Vec<Expr>) -> Result<Expr, AllocError> {
-    Ok(Expr::Star(Box::new(alloc, Expr::Choice(kinds))?))
-}
-
-fn schema(alloc: Global) -> Result<Schema, Fail> {
-    let mut nodes = Listed::new(alloc);
-    let blocks = any_of(alloc, vec![in alloc; Expr::One(1), Expr::One(2)]?)?;
-    nodes.push(node(alloc, "doc", blocks)?)?;
-    let texts = any_of(alloc, vec![in alloc; Expr::One(3)]?)?;
-    nodes.push(node(alloc, "paragraph", texts)?)?;
-    nodes.push(node(alloc, "rule", Expr::Empty)?)?;
-    nodes.push(node(alloc, "text", Expr::Empty)?)?;
-    let mut marks = Listed::new(alloc);
-    marks.push(MarkSpec {
-        name: Text::from_str(alloc, "em")?,
-        attrs: AttrSpecs::new(alloc),
-        inclusive: true,
-        excludes: None,
-        groups: Listed::new(alloc),
-    })?;
-    let top = Text::from_str(alloc, "doc")?;
-    Ok(Schema::build(alloc, SchemaSpec { nodes, marks, top })?)
-}
 
 /// The place of the step's kind in the order of the kinds, its first and its last position, and the size of its slice.
 fn told(step: &Step) -> (usize, u64, u64, usize) {
@@ -83,7 +44,7 @@ const STEPS: &str = r#"0 1 4 0 {"stepType":"replace","from":1,"to":4}
 #[test]
 fn steps_are_read_with_their_fields(rt: HostRuntime) -> Result<(), Fail> {
     let alloc = rt.alloc();
-    let schema = schema(alloc)?;
+    let schema = schema_of(alloc, SCHEMA)?;
     for row in STEPS.split('\n') {
         let fields: Vec<&str> = row.split(' ').collect(alloc)?;
         let [kind, from, to, size, text] = fields.as_slice() else {
@@ -118,7 +79,7 @@ Mark(UnknownType) {"stepType":"addNodeMark","pos":0,"mark":{"type":"bold"}}"#;
 #[test]
 fn the_first_fault_of_a_step_is_named(rt: HostRuntime) -> Result<(), Fail> {
     let alloc = rt.alloc();
-    let schema = schema(alloc)?;
+    let schema = schema_of(alloc, SCHEMA)?;
     for row in FAULTS.split('\n') {
         let fields: Vec<&str> = row.split(' ').collect(alloc)?;
         let [fault, text] = fields.as_slice() else {
@@ -148,7 +109,7 @@ const WRITTEN: &str =
 #[test]
 fn steps_are_written_in_full(rt: HostRuntime) -> Result<(), Fail> {
     let alloc = rt.alloc();
-    let schema = schema(alloc)?;
+    let schema = schema_of(alloc, SCHEMA)?;
     for row in WRITTEN.split('\n') {
         let fields: Vec<&str> = row.split(' ').collect(alloc)?;
         let [text, want] = fields.as_slice() else {
