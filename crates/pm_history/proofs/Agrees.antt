@@ -126,7 +126,7 @@ module _ {Rules Doc Reason C : Type 0} (m : Meaning Rules Doc Reason C) (rules :
       ∙ ap (λ (v : Undone Doc C). then_made v (undo_found m rules client n (find n js) v.items v.doc v.serial)) (event-agree live ns is js doc serial h k.1)
 
   -- what stands before an event's first step does not matter to its undo
-  event-past : (ns : List Name) (front items : List (Item C)) (doc : Doc) (serial : ℕ) → Each (Lacks front) ns
+  pub event-past : (ns : List Name) (front items : List (Item C)) (doc : Doc) (serial : ℕ) → Each (Lacks front) ns
       → undo_event m rules client ns (front ++ items) doc serial ≡ undo_event m rules client ns items doc serial
   event-past [] front items doc serial h = refl
   event-past (n ∷ ns) front items doc serial h =

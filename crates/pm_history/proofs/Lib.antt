@@ -1,4 +1,6 @@
 pub mod Lanes
+pub mod Tables
+pub mod Starts
 pub mod Events
 pub mod Passes
 pub mod Restores

@@ -1,45 +1,41 @@
--- Maps with their names and mirrors, as items come behind them.
-use Rattle.std.specs.Prelude.{ℕ, ◌&&◌, Bool, true, false, if◌then◌else◌, List, [], ◌∷◌, ◌++◌, length, Option, Some, None}
+-- The maps of items, and how the map of one item more is paired with them.
+use Rattle.std.specs.Prelude.{ℕ, zero, suc, ◌&&◌, Bool, true, false, if◌then◌else◌, List, [], ◌∷◌, ◌++◌, length, drop, Option, Some, None}
 use Rattle.pm_change.specs.declared.name.Name.{Name}
 use Rattle.pm_map.specs.declared.step_map.Span.{Span}
 use Rattle.pm_map.specs.declared.mapping.Mirrored.{Mirrored}
 use Rattle.pm_map.specs.Mirrors.{fit}
 use Rattle.pm_history.specs.declared.item.Item.{Item}
-use Rattle.pm_history.specs.declared.lane.Placed.{Placed}
+use Rattle.pm_history.specs.declared.lane.Lane.{Lane}
 use Rattle.pm_history.specs.Items.{one_step}
-use Rattle.pm_history.specs.Pairs.{later_in}
 
--- the maps of items, with their names and mirrors
-abbrev pub placed : {C : Type 0} → List (Item C) → List Placed
-placed [] = []
-placed (i ∷ is) = record { name = i.name; map = i.map; later = later_in i.name i.map is } ∷ placed is
+-- all maps of a lane, in order
+abbrev pub maps_of : Lane → List Mirrored
+maps_of lane = lane.before.items ++ lane.mapping
 
--- the maps and mirrors alone
-abbrev pub mirrors_of : List Placed → List Mirrored
-mirrors_of [] = []
-mirrors_of (p ∷ ps) = record { map = p.map; later = p.later } ∷ mirrors_of ps
+-- the items behind the place from which a lane's mapping goes
+abbrev pub behind : {C : Type 0} → Lane → List (Item C) → List (Item C)
+behind lane items = drop (length lane.before.items) items
+
+-- the name of the item at this place
+abbrev pub name_of : {C : Type 0} → List (Item C) → ℕ → Option Name
+name_of [] k = None
+name_of (i ∷ is) zero = i.name
+name_of (i ∷ is) (suc k) = name_of is k
 
 abbrev pub is_unpaired : Option ℕ → Bool
 is_unpaired None = true
 is_unpaired (Some k) = false
 
--- whether a map has no mirror yet, and this one, which undoes the step of this name, can be it
-abbrev pub awaits : Option Name → List Span → Placed → Bool
-awaits undoes rs p = is_unpaired p.later && one_step p.name undoes && fit p.map rs
+-- whether the map of the step of this name has no mirror yet, and these ranges, which undo the step `undoes`, can be it
+abbrev pub awaits : Option Name → List Span → Option Name → Mirrored → Bool
+awaits undoes rs name m = is_unpaired m.later && one_step name undoes && fit m.map rs
 
 -- a map with `between` maps behind it, and then this one
-abbrev pub tied_to : Option Name → List Span → ℕ → Placed → Placed
-tied_to undoes rs between p = record {
-  name = p.name;
-  map = p.map;
-  later = if awaits undoes rs p then Some between else p.later;
-}
+abbrev pub tied_to : Option Name → List Span → ℕ → Option Name → Mirrored → Mirrored
+tied_to undoes rs between name m = record { map = m.map; later = if awaits undoes rs name m then Some between else m.later }
 
--- maps with this one right behind the last
-abbrev pub tied : Option Name → List Span → List Placed → List Placed
-tied undoes rs [] = []
-tied undoes rs (p ∷ ps) = tied_to undoes rs (length ps) p ∷ tied undoes rs ps
-
--- maps with that of one item more behind them
-abbrev pub laid : {C : Type 0} → List Placed → Item C → List Placed
-laid ps i = tied i.undoes i.map ps ++ record { name = i.name; map = i.map; later = None } ∷ []
+-- the maps of these items, with this one right behind the last
+abbrev pub tied : {C : Type 0} → Option Name → List Span → List (Item C) → List Mirrored → List Mirrored
+tied undoes rs [] ms = ms
+tied undoes rs (i ∷ is) [] = []
+tied undoes rs (i ∷ is) (m ∷ ms) = tied_to undoes rs (length ms) i.name m ∷ tied undoes rs is ms

@@ -11,6 +11,8 @@ pub mod Restores
 pub mod Standing
 pub mod Shows
 pub mod Lanes
+pub mod Undoers
+pub mod Starts
 pub mod Tries
 pub mod Drops
 pub mod Folding

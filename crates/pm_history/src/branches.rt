@@ -8,7 +8,7 @@ ghost use Rattle.pm_history.specs.Undos.{find};
 use crate::branch::{Branch, Event};
 use crate::dropped::{any_dropped, foreign_items, without_dropped};
 use crate::item::Item;
-use crate::lane::{lane_of, mapping_of};
+use crate::lane::paired;
 use crate::undoing::place_of;
 use pm_change::Name;
 use pm_list::Listed;
@@ -307,8 +307,8 @@ fn mapping_behind<C>(alloc: Global, items: &[Item<C>], k: usize) -> Result<Mappi
     requires { k < length items.now }
     ensures { IfOk result (λ ms. ms ≡ paired (drop (k + 1) items.now)) }
 {
-    let lane = lane_of(alloc, &items[k + 1..])?;
-    mapping_of(alloc, lane.as_slice())
+    let maps = paired(alloc, &items[k + 1..])?;
+    Ok(Mapping::from_entries(maps))
 }
 
 /// The names of these items, in order. A foreign step has none.

@@ -11,6 +11,7 @@ mod dropped;
 mod item;
 mod lane;
 mod tied;
+mod undoers;
 mod undoing;
 
 pub use branch::{Branch, Event};

@@ -1,7 +1,8 @@
 //! Undoing the steps of an event.
 ghost use Rattle.std.specs.Prelude.{◌≡◌, ◌<◌, ◌≤◌, ◌+◌, ◌++◌, ◌∷◌, [], drop, length, IfOk, IfSome, Ok, Some};
 ghost use Rattle.pm_history.specs.Items.{one_step};
-ghost use Rattle.pm_history.specs.Lanes.{placed};
+ghost use Rattle.pm_history.specs.Starts.{start_of, is_named};
+ghost use Rattle.pm_history.specs.Lanes.{maps_of, behind};
 ghost use Rattle.pm_history.specs.Made.{IsMade};
 ghost use Rattle.pm_history.specs.Pairs.{paired};
 ghost use Rattle.pm_history.specs.Shows.{ShowsTo};
@@ -10,7 +11,7 @@ ghost use Rattle.pm_history.specs.Restores.{RestoresAll, IsOfWhole};
 ghost use Rattle.pm_history.specs.Tries.{MayUndo, put_one, item_from};
 
 use crate::item::Item;
-use crate::lane::{Placed, lane_of, lay, mapping_of, one_step};
+use crate::lane::{Lane, one_step};
 use pm_change::{Change, Failed, Name};
 use pm_list::Listed;
 use std::alloc::{AllocError, Global};
@@ -25,11 +26,11 @@ pub struct Undone<D, C> {
     pub items: Listed<Item<C>>,
 }
 
-/// What an undo has made so far, and the maps of the timeline and of what it has made.
+/// What an undo has made so far, and the maps of the timeline's end and of what it has made.
 #[derive(Drop)]
 pub struct Going<D, C> {
     pub undone: Undone<D, C>,
-    pub lane: Vec<Placed>,
+    pub lane: Lane,
 }
 
 /// What `client` makes to undo the steps of these names, from the last to the first, on the document behind the timeline
@@ -53,6 +54,50 @@ pub fn undo_event<C: Change>(
     ensures whole { IfOk result (IsOfWhole C.means rules.now client names.now items.now doc serial) }
     ensures restores { IfOk result (RestoresAll C.means rules.now names.now items.now doc) }
 {
+    let start = start_of(names, items);
+    undo_all(alloc, rules, client, names, &items[start..], doc, serial)
+}
+
+/// The place of the first item that is one of these steps, or the number of items.
+fn start_of<C>(names: &[Name], items: &[Item<C>]) -> usize
+    ensures start { result ≡ start_of names.now items.now }
+    ensures within { result ≤ length items.now }
+{
+    let mut passed = 0;
+    for item in items {
+        if is_named(names, item.name) {
+            return passed;
+        }
+        passed += 1;
+    }
+    passed
+}
+
+/// Whether this is one of these names.
+fn is_named(names: &[Name], name: Option<Name>) -> bool
+    ensures { result ≡ is_named names.now name }
+{
+    for one in names {
+        if one_step(Some(*one), name) {
+            return true;
+        }
+    }
+    false
+}
+
+/// The steps of these names, from the last to the first.
+fn undo_all<C: Change>(
+    alloc: Global,
+    rules: &C::Rules,
+    client: u32,
+    names: &[Name],
+    items: &[Item<C>],
+    doc: C::Doc,
+    serial: u64,
+) -> Result<Undone<C::Doc, C>, AllocError>
+    requires { ShowsTo C.means rules.now items.now doc }
+    ensures { IfOk result (λ w. w ≡ undo_event C.means rules.now client names.now items.now doc serial) }
+{
     let mut going = Going {
         undone: Undone {
             doc,
@@ -60,7 +105,7 @@ pub fn undo_event<C: Change>(
             made: Listed::new(alloc),
             items: Listed::new(alloc),
         },
-        lane: lane_of(alloc, items)?,
+        lane: Lane::of(alloc, items)?,
     };
     let mut i = names.len();
     while i > 0 {
@@ -80,23 +125,45 @@ fn undo_named<C: Change>(
     going: Going<C::Doc, C>,
 ) -> Result<Going<C::Doc, C>, AllocError>
     requires shows { ShowsTo C.means rules.now (items.now ++ going.undone.items) going.undone.doc }
-    requires lane { going.lane.items ≡ placed (items.now ++ going.undone.items) }
+    requires lane { maps_of going.lane ≡ paired (items.now ++ going.undone.items) }
     ensures made { IfOk result (λ g. g.undone ≡ then_made going.undone (undo_found C.means rules.now client name (find name items.now) going.undone.items going.undone.doc going.undone.serial)) }
-    ensures lane { IfOk result (λ g. g.lane.items ≡ placed (items.now ++ g.undone.items)) }
+    ensures lane { IfOk result (λ g. maps_of g.lane ≡ paired (items.now ++ g.undone.items)) }
 {
     match place_of(name, items) {
-        Some(k) => undo_steps(
-            alloc,
-            rules,
-            client,
-            name,
-            items[k].inverse.as_slice(),
-            items,
-            k + 1,
-            going,
-        ),
+        Some(k) => undo_found(alloc, rules, client, name, items, k, going),
         None => Ok(going),
     }
+}
+
+/// The step at place `k`.
+fn undo_found<C: Change>(
+    alloc: Global,
+    rules: &C::Rules,
+    client: u32,
+    name: Name,
+    items: &[Item<C>],
+    k: usize,
+    going: Going<C::Doc, C>,
+) -> Result<Going<C::Doc, C>, AllocError>
+    requires shows { ShowsTo C.means rules.now (items.now ++ going.undone.items) going.undone.doc }
+    requires lane { maps_of going.lane ≡ paired (items.now ++ going.undone.items) }
+    requires found { find name items.now ≡ item_from items.now (Some k) }
+    requires within { k < length items.now }
+    ensures made { IfOk result (λ g. g.undone ≡ then_made going.undone (undo_found C.means rules.now client name (find name items.now) going.undone.items going.undone.doc going.undone.serial)) }
+    ensures lane { IfOk result (λ g. maps_of g.lane ≡ paired (items.now ++ g.undone.items)) }
+{
+    let Going { undone, lane } = going;
+    let lane = lane.starting_at(k + 1)?;
+    let steps = items[k].inverse.as_slice();
+    undo_steps(
+        alloc,
+        rules,
+        client,
+        name,
+        steps,
+        items,
+        Going { undone, lane },
+    )
 }
 
 /// The place of the item of this name.
@@ -114,7 +181,7 @@ pub fn place_of<C>(name: Name, items: &[Item<C>]) -> Option<usize>
     None
 }
 
-/// Each of these changes, which undo the step before place `from`, in order.
+/// Each of these changes, which undo the step right before the mapping, in order.
 fn undo_steps<C: Change>(
     alloc: Global,
     rules: &C::Rules,
@@ -122,18 +189,17 @@ fn undo_steps<C: Change>(
     name: Name,
     steps: &[C],
     items: &[Item<C>],
-    from: usize,
     going: Going<C::Doc, C>,
 ) -> Result<Going<C::Doc, C>, AllocError>
-    requires may { MayUndo C.means rules.now steps.now (drop from items.now ++ going.undone.items) going.undone.doc }
-    requires lane { going.lane.items ≡ placed (items.now ++ going.undone.items) }
-    requires from_in { from ≤ length items.now }
-    ensures made { IfOk result (λ g. g.undone ≡ then_made going.undone (undo_steps C.means rules.now client name steps.now (drop from items.now ++ going.undone.items) going.undone.doc going.undone.serial)) }
-    ensures lane { IfOk result (λ g. g.lane.items ≡ placed (items.now ++ g.undone.items)) }
+    requires may { MayUndo C.means rules.now steps.now (behind going.lane items.now ++ going.undone.items) going.undone.doc }
+    requires lane { maps_of going.lane ≡ paired (items.now ++ going.undone.items) }
+    requires place { length going.lane.before.items ≤ length items.now }
+    ensures made { IfOk result (λ g. g.undone ≡ then_made going.undone (undo_steps C.means rules.now client name steps.now (behind going.lane items.now ++ going.undone.items) going.undone.doc going.undone.serial)) }
+    ensures lane { IfOk result (λ g. maps_of g.lane ≡ paired (items.now ++ g.undone.items)) }
 {
     let mut going = going;
     for step in steps {
-        going = undo_step(alloc, rules, client, name, step, items, from, going)?;
+        going = undo_step(alloc, rules, client, name, step, items, going)?;
     }
     Ok(going)
 }
@@ -146,17 +212,16 @@ fn undo_step<C: Change>(
     name: Name,
     step: &C,
     items: &[Item<C>],
-    from: usize,
     going: Going<C::Doc, C>,
 ) -> Result<Going<C::Doc, C>, AllocError>
-    requires may { MayUndo C.means rules.now (step.now ∷ []) (drop from items.now ++ going.undone.items) going.undone.doc }
-    requires lane { going.lane.items ≡ placed (items.now ++ going.undone.items) }
-    requires from_in { from ≤ length items.now }
-    ensures made { IfOk result (λ g. g.undone ≡ put_one C.means rules.now client (tried C.means rules.now client (C.means.carry step.now (paired (drop from items.now ++ going.undone.items))) going.undone.doc) name going.undone) }
-    ensures lane { IfOk result (λ g. g.lane.items ≡ placed (items.now ++ g.undone.items)) }
+    requires may { MayUndo C.means rules.now (step.now ∷ []) (behind going.lane items.now ++ going.undone.items) going.undone.doc }
+    requires lane { maps_of going.lane ≡ paired (items.now ++ going.undone.items) }
+    requires place { length going.lane.before.items ≤ length items.now }
+    ensures made { IfOk result (λ g. g.undone ≡ put_one C.means rules.now client (tried C.means rules.now client (C.means.carry step.now (paired (behind going.lane items.now ++ going.undone.items))) going.undone.doc) name going.undone) }
+    ensures lane { IfOk result (λ g. maps_of g.lane ≡ paired (items.now ++ g.undone.items)) }
+    ensures place { IfOk result (λ g. length g.lane.before.items ≡ length going.lane.before.items) }
 {
-    let mapping = mapping_of(alloc, &going.lane[from..])?;
-    let carried = step.carry(alloc, &mapping)?;
+    let carried = step.carry(alloc, &going.lane.mapping)?;
     put_one(alloc, rules, client, name, carried, items, going)
 }
 
@@ -171,9 +236,10 @@ fn put_one<C: Change>(
     going: Going<C::Doc, C>,
 ) -> Result<Going<C::Doc, C>, AllocError>
     requires good { C.means.is_good rules.now going.undone.doc }
-    requires lane { going.lane.items ≡ placed (items.now ++ going.undone.items) }
+    requires lane { maps_of going.lane ≡ paired (items.now ++ going.undone.items) }
     ensures made { IfOk result (λ g. g.undone ≡ put_one C.means rules.now client (tried C.means rules.now client carried going.undone.doc) name going.undone) }
-    ensures lane { IfOk result (λ g. g.lane.items ≡ placed (items.now ++ g.undone.items)) }
+    ensures lane { IfOk result (λ g. maps_of g.lane ≡ paired (items.now ++ g.undone.items)) }
+    ensures place { IfOk result (λ g. length g.lane.before.items ≡ length going.lane.before.items) }
 {
     let Some(change) = carried else {
         return Ok(going);
@@ -198,11 +264,11 @@ fn put_in<C: Change>(
 ) -> Result<Going<C::Doc, C>, AllocError>
     requires good { C.means.is_good rules.now going.undone.doc }
     requires applies { C.means.outcome rules.now change going.undone.doc ≡ Ok next }
-    requires lane { going.lane.items ≡ placed (items.now ++ going.undone.items) }
+    requires lane { maps_of going.lane ≡ paired (items.now ++ going.undone.items) }
     ensures made { IfOk result (λ g. g.undone ≡ put_one C.means rules.now client (Some (change, next)) name going.undone) }
-    ensures lane { IfOk result (λ g. g.lane.items ≡ placed (items.now ++ g.undone.items)) }
+    ensures lane { IfOk result (λ g. maps_of g.lane ≡ paired (items.now ++ g.undone.items)) }
+    ensures place { IfOk result (λ g. length g.lane.before.items ≡ length going.lane.before.items) }
 {
-    let _ = items;
     let Going { undone, lane } = going;
     let Undone {
         doc,
@@ -219,7 +285,7 @@ fn put_in<C: Change>(
         inverse: Listed::from_vec(change.inverse(alloc, rules, &doc)?),
         undoes: Some(name),
     };
-    let lane = lay(lane, &item)?;
+    let lane = lane.with(items, more.as_slice(), &item)?;
     more.push(item)?;
     made.push(change)?;
     Ok(Going {

@@ -1,36 +1,53 @@
-use Rattle.std.proofs.Common.{◌-◌, ◌≤◌, drop, get_or, length, arith}
-use Rattle.pm_change.specs.declared.name.Name.{Name}
-use Rattle.pm_history.proofs.Steps.{drop-before, event-next, named-shows, event-end, event-made, event-whole}
+use Rattle.std.proofs.Common.{◌≡◌, ◌-◌, ◌++◌, ◌∙◌, drop, take, length, arith}
+use Rattle.std.proofs.lemmas.List.{take_rest}
+use Rattle.pm_history.specs.Made.{IsMade}
+use Rattle.pm_history.specs.Restores.{RestoresAll, IsOfWhole}
+use Rattle.pm_history.specs.Shows.{ShowsTo}
+use Rattle.pm_history.specs.Undos.{undo_event}
+use Rattle.pm_history.proofs.Starts.{event-from, if-ok-then, made-shows, shows-from}
+use Rattle.pm_history.proofs.Steps.{event-end, event-made, event-whole}
 use Rattle.pm_history.proofs.undoing.undo_event.Goals as goal
 
-pub loop-i-preserved : goal.loop-i-preserved
-loop-i-preserved g c =
+pub undo_all-requires : goal.undo_all-requires
+undo_all-requires g c =
+    let items = c.args.items.now in
+    let k = c.start_of-start.result in
+    shows-from g.C.Change.means c.args.rules.now g.met.C.Change.laws k items (take (length items - k) (drop k items)) c.args.doc (take_rest items k) c.requires
+
+pub returns-clause-made : goal.returns-clause-made
+returns-clause-made g c =
     let m = g.C.Change.means in
-    let rules = c.args.rules.now in
-    let i = c.loop-i.i in
-    let none : Name = record { client = 0; serial = 0 } in
-    let n : Name = get_or c.args.names.now (i - 1) none in
-    let known = c.loop-i.invariant in
-    let below : i ≤ length c.args.names.now = known.within in
-    record {
-      within = omega (arith, below);
-      shows = named-shows m rules c.args.client n c.args.items.now c.loop-i.going.undone c.in_ok-going.going.undone known.shows c.in_ok-going.ensures.made;
-      lane = c.in_ok-going.ensures.lane;
-      same = event-next m rules c.args.client n (drop i c.args.names.now) (drop (i - 1) c.args.names.now) c.args.items.now c.args.doc c.args.serial c.loop-i.going.undone c.in_ok-going.going.undone
-          (drop-before c.args.names.now i none c.loop-i-test.true below) known.same c.in_ok-going.ensures.made;
-    }
-
-pub returns-clause-whole : goal.returns-clause-whole
-returns-clause-whole g c =
-    event-whole g.C.Change.means c.args.rules.now c.args.client c.args.names.now c.args.items.now c.args.doc c.args.serial c.loop-i.i c.loop-i.going.undone
-    c.loop-i-test.false c.loop-i.invariant.same
-
-pub returns-clause-restores : goal.returns-clause-restores
-returns-clause-restores g c =
-    event-end g.C.Change.means c.args.rules.now c.args.client g.met.C.Change.laws c.args.names.now c.args.items.now c.args.doc c.args.serial c.loop-i.i c.loop-i.going.undone
-    c.loop-i-test.false c.loop-i.invariant.same
+    let items = c.args.items.now in
+    let k = c.start_of-start.result in
+    let from = take (length items - k) (drop k items) in
+    if-ok-then c.undo_all.result (λ w. w ≡ undo_event m c.args.rules.now c.args.client c.args.names.now from c.args.doc c.args.serial)
+    (λ w. w ≡ undo_event m c.args.rules.now c.args.client c.args.names.now items c.args.doc c.args.serial)
+    (λ w e. e ∙ event-from m c.args.rules.now c.args.client c.args.names.now items from k c.args.doc c.args.serial c.start_of-start.ensures.start (take_rest items k)) c.undo_all.ensures
 
 pub returns-clause-steps : goal.returns-clause-steps
 returns-clause-steps g c =
-    event-made g.C.Change.means c.args.rules.now c.args.client c.args.names.now c.args.items.now c.args.doc c.args.serial c.loop-i.i c.loop-i.going.undone
-    c.loop-i-test.false c.loop-i.invariant.same
+    let m = g.C.Change.means in
+    if-ok-then c.undo_all.result (λ w. w ≡ undo_event m c.args.rules.now c.args.client c.args.names.now c.args.items.now c.args.doc c.args.serial)
+    (IsMade m c.args.rules.now c.args.client c.args.doc c.args.serial)
+    (λ w e. event-made m c.args.rules.now c.args.client c.args.names.now c.args.items.now c.args.doc c.args.serial 0 w (omega arith) e) (returns-clause-made g c)
+
+pub returns-clause-shows : goal.returns-clause-shows
+returns-clause-shows g c =
+    let m = g.C.Change.means in
+    if-ok-then c.undo_all.result (λ w. w ≡ undo_event m c.args.rules.now c.args.client c.args.names.now c.args.items.now c.args.doc c.args.serial)
+    (λ w. ShowsTo m c.args.rules.now (c.args.items.now ++ w.items) w.doc)
+    (λ w e. made-shows m c.args.rules.now c.args.client c.args.names.now c.args.items.now c.args.doc c.args.serial w c.requires e) (returns-clause-made g c)
+
+pub returns-clause-whole : goal.returns-clause-whole
+returns-clause-whole g c =
+    let m = g.C.Change.means in
+    if-ok-then c.undo_all.result (λ w. w ≡ undo_event m c.args.rules.now c.args.client c.args.names.now c.args.items.now c.args.doc c.args.serial)
+    (IsOfWhole m c.args.rules.now c.args.client c.args.names.now c.args.items.now c.args.doc c.args.serial)
+    (λ w e. event-whole m c.args.rules.now c.args.client c.args.names.now c.args.items.now c.args.doc c.args.serial 0 w (omega arith) e) (returns-clause-made g c)
+
+pub returns-clause-restores : goal.returns-clause-restores
+returns-clause-restores g c =
+    let m = g.C.Change.means in
+    if-ok-then c.undo_all.result (λ w. w ≡ undo_event m c.args.rules.now c.args.client c.args.names.now c.args.items.now c.args.doc c.args.serial)
+    (RestoresAll m c.args.rules.now c.args.names.now c.args.items.now c.args.doc)
+    (λ w e. event-end m c.args.rules.now c.args.client g.met.C.Change.laws c.args.names.now c.args.items.now c.args.doc c.args.serial 0 w (omega arith) e) (returns-clause-made g c)
