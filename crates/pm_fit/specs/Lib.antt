@@ -1,0 +1,5 @@
+pub mod Candidates
+pub mod Paths
+pub mod Wrappings
+pub mod Fits
+pub mod Firsts

@@ -1,0 +1,63 @@
+//! The range that a slice is to replace, and one candidate for it.
+ghost use Rattle.std.specs.Prelude.{◌≡◌, Some, IfOk, option_map};
+ghost use Rattle.pm_tokens.specs.Faults.{Valid};
+ghost use Rattle.pm_schema.specs.Documents.{documents_of};
+ghost use Rattle.pm_step.specs.Steps.{step_of};
+ghost use Rattle.pm_fit.specs.Fits.{sided, step_with};
+
+use pm_change::Failed;
+use pm_node::{Document, Fragment};
+use pm_replace::replace;
+use pm_schema::Schema;
+use pm_slice::Slice;
+use pm_step::Step;
+use std::alloc::{AllocError, Global};
+
+/// The range from..to of a document. Positions are in tokens.
+#[derive(Drop)]
+pub struct Target<'a> {
+    pub schema: &'a Schema,
+    pub doc: &'a Document,
+    pub from: u64,
+    pub to: u64,
+}
+
+impl Target<'_> {
+    /// The step that replaces the range by the content with these open sides. None where that is no slice, or where the
+    /// document can't be replaced so.
+    pub fn try_sides(
+        &self,
+        alloc: Global,
+        content: &Fragment,
+        open_start: usize,
+        open_end: usize,
+    ) -> Result<Option<Step>, AllocError>
+        requires { Valid (documents_of self.now.schema.now.spec) self.now.doc.now }
+        ensures { IfOk result (λ o. option_map step_of o
+            ≡ step_with (documents_of self.now.schema.now.spec) self.now.doc.now self.now.from self.now.to (sided content.now open_start open_end)) }
+    {
+        let content = content.copy(alloc)?;
+        match Slice::new(alloc, content, open_start, open_end) {
+            Ok(slice) => self.try_slice(alloc, slice),
+            Err(_) => Ok(None),
+        }
+    }
+
+    /// The step that replaces the range by the slice. None where the document can't be replaced so.
+    fn try_slice(&self, alloc: Global, slice: Slice) -> Result<Option<Step>, AllocError>
+        requires { Valid (documents_of self.now.schema.now.spec) self.now.doc.now }
+        ensures { IfOk result (λ o. option_map step_of o
+            ≡ step_with (documents_of self.now.schema.now.spec) self.now.doc.now self.now.from self.now.to (Some slice)) }
+    {
+        match replace(alloc, self.schema, self.doc, self.from, self.to, &slice) {
+            Ok(_) => Ok(Some(Step::Replace {
+                from: self.from,
+                to: self.to,
+                slice,
+                structure: false,
+            })),
+            Err(Failed::Reason(_)) => Ok(None),
+            Err(Failed::NoMemory) => Err(AllocError),
+        }
+    }
+}
