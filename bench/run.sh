@@ -105,3 +105,8 @@ both "200 pending maps carried over 2,000 foreign ones" "  1,000 positions over 
 title "the word check, milliseconds" "ours" "ProseMirror"
 "$here/../pm" check </dev/null >"$work/empty" || true
 node "$here/check.js" "$here/../crates/pm_program/out/pm_program" $((10 * tries))
+
+title "the word replay, milliseconds" "ours" "ProseMirror"
+node "$here/undos.js" "$here/../crates/pm_program/out/pm_program" 5000 1000 $tries
+node "$here/typing.js" "$here/../crates/pm_program/out/pm_program" 1000
+node "$here/typing.js" "$here/../crates/pm_program/out/pm_program" 2000

@@ -5,6 +5,8 @@ mod answer;
 mod call;
 #[cfg(test)]
 mod check_tests;
+#[cfg(test)]
+mod edit_tests;
 mod making;
 #[cfg(test)]
 mod rebasing_tests;
@@ -19,6 +21,8 @@ mod tests;
 mod three_clients_tests;
 #[cfg(test)]
 mod tree_tests;
+#[cfg(test)]
+mod undo_table_tests;
 #[cfg(test)]
 mod undo_tests;
 mod words;

@@ -1,8 +1,9 @@
 //! Ops become steps.
-ghost use Rattle.std.specs.Prelude.{◌≡◌, ◌∷◌, [], IfOk};
+ghost use Rattle.std.specs.Prelude.{◌≡◌, map, IfOk};
 ghost use Rattle.pm_step.specs.Steps.{step_of};
 
 use pm_apply::DocChange;
+use pm_edit::{EditRefusal, steps_for};
 use pm_node::Document;
 use pm_ops::Op;
 use pm_schema::Schema;
@@ -10,10 +11,10 @@ use pm_session::{Maker, NoSteps};
 use pm_step::Step;
 use std::alloc::{AllocError, Global};
 
-/// Makes the step that an op is.
-pub struct StepMaker;
+/// Makes the step of each op.
+pub struct EditMaker;
 
-impl Maker<DocChange> for StepMaker {
+impl Maker<DocChange> for EditMaker {
     ghost use Rattle.pm_program.specs.Making.{makes};
     ghost use Rattle.pm_program.specs.Makers.{some_step, no_memory};
 
@@ -24,16 +25,19 @@ impl Maker<DocChange> for StepMaker {
     fn steps(
         &self,
         alloc: Global,
-        _schema: &Schema,
-        _doc: &Document,
+        schema: &Schema,
+        doc: &Document,
         op: &Op,
     ) -> Result<Vec<DocChange>, NoSteps> {
-        let Op::Step(step) = op else {
-            return Err(NoSteps::NoFit);
-        };
-        match one_step(alloc, step) {
-            Ok(steps) => Ok(steps),
-            Err(AllocError) => Err(NoSteps::NoMemory),
+        match steps_for(alloc, schema, doc, op) {
+            Ok(steps) => match as_changes(alloc, steps) {
+                Ok(changes) => Ok(changes),
+                Err(AllocError) => Err(NoSteps::NoMemory),
+            },
+            Err(EditRefusal::Range) => Err(NoSteps::Range),
+            Err(EditRefusal::NotThere) => Err(NoSteps::NotThere),
+            Err(EditRefusal::NoFit) => Err(NoSteps::NoFit),
+            Err(EditRefusal::NoMemory) => Err(NoSteps::NoMemory),
         }
     }
 
@@ -42,10 +46,12 @@ impl Maker<DocChange> for StepMaker {
     ghost meant = { λ maker schema doc op h. no_memory schema doc op h };
 }
 
-fn one_step(alloc: Global, step: &Step) -> Result<Vec<DocChange>, AllocError>
-    ensures { IfOk result (λ v. v.items ≡ step_of step.now ∷ []) }
+fn as_changes(alloc: Global, steps: Vec<Step>) -> Result<Vec<DocChange>, AllocError>
+    ensures { IfOk result (λ v. v.items ≡ map step_of steps.items) }
 {
-    let mut steps = Vec::new(alloc);
-    steps.push(DocChange::new(step.copy(alloc)?))?;
-    Ok(steps)
+    let mut changes = Vec::new(alloc);
+    for step in steps {
+        changes.push(DocChange::new(step))?;
+    }
+    Ok(changes)
 }

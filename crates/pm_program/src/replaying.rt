@@ -8,7 +8,7 @@ ghost use Rattle.pm_session.specs.Sounds.{Sound};
 ghost use Rattle.pm_program.specs.Playing.{room_of, report_of};
 ghost use Rattle.pm_script.specs.Held.{Holds};
 
-use crate::making::StepMaker;
+use crate::making::EditMaker;
 use pm_apply::DocChange;
 use pm_report::{client_lines, report};
 use pm_script::Session;
@@ -24,7 +24,7 @@ pub fn replay(alloc: Global, session: &Session) -> Result<String, AllocError>
     let entries = session.head.clients.as_slice();
     let lines = session.lines.as_slice();
     let mut room = open(alloc, session)?;
-    let outcomes = room.play_all(alloc, schema, &StepMaker, lines)?;
+    let outcomes = room.play_all(alloc, schema, &EditMaker, lines)?;
     let standing = client_lines(alloc, schema, entries, room.clients())?;
     room.settle(alloc, schema)?;
     report(

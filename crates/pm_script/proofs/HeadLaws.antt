@@ -1,5 +1,5 @@
 -- What the first three lines give: a valid document, and at most 32 clients.
-use Rattle.std.proofs.Common.{◌≡◌, ◌≤◌, ℕ, suc, Bool, true, false, List, [], ◌∷◌, ◌++◌, length, refl, ap, subst, sym, arith, Result, Ok, Err}
+use Rattle.std.proofs.Common.{◌≡◌, ◌≤◌, ℕ, suc, true, List, [], ◌∷◌, ◌++◌, length, refl, ap, subst, sym, arith, Result, Ok, Err}
 use Rattle.std.specs.Prelude.{◌==◌, ◌&&◌, nat_lt, nat_le, Option, Some, None, is_none}
 use Rattle.std.proofs.lemmas.Bool.{leb-true}
 use Rattle.serde_json.specs.Data.{Data, Items, no_items, item}
@@ -11,14 +11,13 @@ use Rattle.pm_tokens.specs.Faults.{Fault, Valid, fault}
 use Rattle.pm_tokens.proofs.ValidLaws.{fault-valid}
 use Rattle.pm_schema.specs.declared.schema.Schema.{Schema}
 use Rattle.pm_schema.specs.Documents.{documents_of}
-use Rattle.pm_node.specs.declared.node.Node.{Node}
 use Rattle.pm_node.specs.Documents.{doc_of}
 use Rattle.pm_head.specs.declared.clients.ClientEntry.{ClientEntry}
 use Rattle.pm_head.specs.declared.reading.Head.{Head}
 use Rattle.pm_head.specs.Lines.{json_line}
 use Rattle.pm_head.specs.Clients.{next_client, entries_of, count_of, bounded, clients_of, clients_line}
 use Rattle.pm_head.specs.Schemas.{OfValue}
-use Rattle.pm_head.specs.Documents.{top_of, may_be_first, DocIs, DocLine}
+use Rattle.pm_head.specs.Documents.{top_of, DocIs}
 use Rattle.pm_head.specs.Heads.{with_clients, AfterDoc, AfterSchema, HeadIs}
 use Rattle.pm_script.proofs.Came.{then-ok, when-ok, both-true}
 

@@ -1,5 +1,5 @@
 -- Op lines one by one.
-use Rattle.std.proofs.Common.{◌≡◌, ◌+◌, ℕ, List, [], ◌∷◌, ◌++◌, refl, ap, ◌∙◌, sym, Result, Ok, Err}
+use Rattle.std.proofs.Common.{◌≡◌, ◌+◌, ℕ, List, [], ◌∷◌, ◌++◌, refl, ap, ◌∙◌, sym, Result, Ok}
 use Rattle.pm_list.specs.Readings.{◌>>=◌, with_front, with_front-more}
 use Rattle.pm_schema.specs.declared.spec.SchemaSpec.{SchemaSpec}
 use Rattle.pm_head.specs.declared.clients.ClientEntry.{ClientEntry}

@@ -1,5 +1,5 @@
 -- There are no names of editors exactly where a client is raw.
-use Rattle.std.proofs.Common.{◌≡◌, Bool, true, false, List, [], ◌∷◌, refl, Result, ap, sym}
+use Rattle.std.proofs.Common.{◌≡◌, Bool, true, false, List, [], ◌∷◌, refl, Result, ap}
 use Rattle.std.specs.Prelude.{Option, Some, None, option_map, ◌||◌, if◌then◌else◌, ℕ}
 use Rattle.std.specs.List.{list_any}
 use Rattle.pm_list.specs.Readings.{◌>>=◌, or_fault}

@@ -1,6 +1,5 @@
 -- Steps as they are read.
-use Rattle.std.proofs.Common.{◌≡◌, ℕ, refl, Result, Ok, Err, ap, ◌∙◌}
-use Rattle.std.specs.Prelude.{Option, Some, None, unwrap_or}
+use Rattle.std.proofs.Common.{◌≡◌, ℕ, refl, Result, Ok, ap, sym, subst}
 use Rattle.pm_list.specs.Readings.{◌>>=◌}
 use Rattle.pm_meaning.specs.Steps as steps
 use Rattle.pm_step.specs.declared.step.Step.{Step}
@@ -8,9 +7,14 @@ use Rattle.pm_step.specs.declared.step.Step.TheVariants.{Replace, ReplaceAround,
 use Rattle.pm_step.specs.Steps.{step_of}
 use Rattle.pm_stepjson.specs.declared.fault.StepReadError.{StepReadError}
 use Rattle.pm_stepjson.specs.declared.fault.StepReadError.TheVariants.{Shape, UnknownKind, Slice, Mark, NoMemory}
-use Rattle.pm_stepjson.specs.Answers.{Fails}
+use Rattle.pm_stepjson.specs.Answers as step
+use Rattle.pm_head.specs.declared.fault.LineError.{LineError}
+use Rattle.pm_head.specs.Answers.{Fails}
+use Rattle.pm_head.specs.Codes.{node_code}
 use Rattle.pm_script.specs.Codes.{step_code, coded}
-use Rattle.pm_script.specs.Ops.{as_step}
+use Rattle.pm_script.specs.Faults.{fault_of}
+use Rattle.pm_script.specs.Parts.{as_step}
+use Rattle.pm_script.proofs.PartLaws.{with-code}
 
 pub step-back : (s : Step) → as_step (step_of s) ≡ s
 step-back (Replace from to slice structure) = refl
@@ -20,15 +24,22 @@ step-back (RemoveMark from to mark) = refl
 step-back (AddNodeMark pos mark) = refl
 step-back (RemoveNodeMark pos mark) = refl
 
+-- a reading of a step as the reading of a line
+abbrev of_line : Result steps.Step StepReadError → Result Step ℕ
+of_line r = coded r >>= (λ s. Ok (as_step s))
+
+line-of : (e : StepReadError) (r : Result steps.Step StepReadError) → step.Fails e r → Fails (fault_of (step_code e)) (of_line r)
+line-of Shape r f = ap of_line f
+line-of UnknownKind r f = ap of_line f
+line-of (Slice e) r f = with-code (node_code e) (of_line r) (ap of_line f)
+line-of (Mark e) r f = with-code (node_code e) (of_line r) (ap of_line f)
+line-of NoMemory r f = tt
+
 -- a reading that has this fault has its code
-pub code-of : (e : StepReadError) (code : ℕ) (r : Result steps.Step StepReadError) → Fails e r → step_code e ≡ Some code → (coded r >>= (λ s. Ok (as_step s))) ≡ Err code
-code-of Shape code r f h = rw f (ap (λ o. Err (unwrap_or o 0)) h)
-code-of UnknownKind code r f h = rw f (ap (λ o. Err (unwrap_or o 0)) h)
-code-of (Slice e) code r f h = rw f (ap (λ o. Err (unwrap_or o 0)) h)
-code-of (Mark e) code r f h = rw f (ap (λ o. Err (unwrap_or o 0)) h)
-code-of NoMemory code r f h = absurd (cc)
+pub step-fault : (e : StepReadError) (line : LineError) (r : Result steps.Step StepReadError) → step.Fails e r → line ≡ fault_of (step_code e) → Fails line (coded r >>= (λ s. Ok (as_step s)))
+step-fault e line r f h = subst (λ (l : LineError). Fails l (of_line r)) (sym h) (line-of e r f)
 
-pub read-of : (s : Step) (r : Result steps.Step StepReadError) → r ≡ Ok (step_of s) → (coded r >>= (λ x. Ok (as_step x))) ≡ Ok s
-read-of s r h = rw h (ap Ok (step-back s))
+pub step-read : (s : Step) (r : Result steps.Step StepReadError) → r ≡ Ok (step_of s) → (coded r >>= (λ x. Ok (as_step x))) ≡ Ok s
+step-read s r h = rw h (ap Ok (step-back s))
 
-pub ruleset read_steps = (code-of, read-of)
+pub ruleset read_steps = (step-fault, step-read)

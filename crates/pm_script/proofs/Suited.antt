@@ -1,10 +1,10 @@
 -- The op lines that are read name one of the clients, and messages and answers that are there.
-use Rattle.std.proofs.Common.{◌≡◌, ◌<◌, ◌+◌, ℕ, ℤ, pos, Bool, true, false, List, [], ◌∷◌, ◌++◌, length, refl, subst, inl, Result, Ok, Err}
-use Rattle.std.specs.Prelude.{position, nat_lt, nat_le, nat_eq, codes, ◌&&◌, if◌then◌else◌, Option, Some, None, IfSome, option_and_then}
+use Rattle.std.proofs.Common.{◌≡◌, ◌<◌, ◌+◌, ℕ, ℤ, pos, Bool, true, false, List, [], ◌∷◌, ◌++◌, length, refl, subst, inl, Result, Ok}
+use Rattle.std.specs.Prelude.{position, nat_lt, nat_le, nat_eq, codes, if◌then◌else◌, Option, Some, None, IfSome, option_and_then}
 use Rattle.std.specs.Cmp.Lexicographic.{pointwise}
 use Rattle.std.proofs.lemmas.Bool.{ltb-true, leb-true}
 use Rattle.serde_json.specs.Data.{Data}
-use Rattle.serde_json.specs.Find.{as_bool, as_i64, as_number}
+use Rattle.serde_json.specs.Find.{as_i64, as_number}
 use Rattle.pm_list.specs.Readings.{◌>>=◌, or_fault}
 use Rattle.pm_docjson.specs.Fields.{field}
 use Rattle.pm_schema.specs.declared.spec.SchemaSpec.{SchemaSpec}
@@ -12,15 +12,16 @@ use Rattle.pm_map.specs.Moves.{IsSide}
 use Rattle.pm_head.specs.declared.clients.ClientEntry.{ClientEntry}
 use Rattle.pm_head.specs.Lines.{json_line}
 use Rattle.pm_ops.specs.declared.op.Op.{Op}
-use Rattle.pm_ops.specs.declared.op.Op.TheVariants.{Step as StepOp}
 use Rattle.pm_session.specs.declared.line.Line.{Line}
 use Rattle.pm_session.specs.declared.line.Act.{Act}
 use Rattle.pm_session.specs.declared.line.Act.TheVariants.{Edit, Undo, Redo, Cursor, Submit, Ask, Present, Take, Push, Pull}
 use Rattle.pm_session.specs.Suits.{NamesOneOf, composed_by, answered_by, Suits, AllSuit}
+use Rattle.pm_script.specs.declared.kinds.EditKind.{EditKind}
 use Rattle.pm_script.specs.declared.word.Word.{Word}
 use Rattle.pm_script.specs.declared.word.Word.TheVariants as word
 use Rattle.pm_script.specs.Fields.{text_in, number_in, lost_in, is_side, as_side, side_of, side_in, event_in}
-use Rattle.pm_script.specs.Acts.{step_in, edit_in, cursor_in, act_in, names_one}
+use Rattle.pm_script.specs.Ops.{op_of}
+use Rattle.pm_script.specs.Acts.{edit_in, cursor_in, act_in, names_one}
 use Rattle.pm_script.specs.Lines.{last_line, client_in, word_in, said, named, op_in, op_line}
 use Rattle.pm_script.specs.Sessions.{at_line, ops_of}
 use Rattle.pm_script.proofs.Came.{then-ok, fault-ok, when-ok, unless-ok, line-ok, both-true}
@@ -53,12 +54,12 @@ side-read : (o : Option Data) (z : ℤ) → side_of o ≡ Ok z → IsSide z
 side-read None z h = let same : pos 1 ≡ z = cc in subst IsSide same (inl refl)
 side-read (Some d) z h = side-said (option_and_then as_i64 (as_number d)) z h
 
-edit-side : (s : SchemaSpec) (d : Data) (act : Act Op) → edit_in s d ≡ Ok act → HasSide act
+edit-side : (s : SchemaSpec) (kind : EditKind) (d : Data) (act : Act Op) → edit_in s kind d ≡ Ok act → HasSide act
 unfolding edit_in
-edit-side s d act h =
-    let one = then-ok (step_in s d) _ act h in
+edit-side s kind d act h =
+    let one = then-ok (op_of s kind d) _ act h in
     let two = then-ok (event_in d) _ act one.2 in
-    let is : Edit (StepOp one.0) two.0 ≡ act = cc in
+    let is : Edit one.0 two.0 ≡ act = cc in
     subst HasSide is tt
 
 cursor-side : (d : Data) (act : Act Op) → cursor_in d ≡ Ok act → HasSide act
@@ -82,8 +83,7 @@ plain-side : (a act : Act Op) → HasSide a → done a ≡ done act → HasSide 
 plain-side a act has h = let is : a ≡ act = cc in subst HasSide is has
 
 act-side : (s : SchemaSpec) (w : Word) (d : Data) (act : Act Op) → act_in s w d ≡ Ok act → HasSide act
-act-side s word.Step d act h = edit-side s d act h
-act-side s word.Unbuilt d act h = absurd (cc)
+act-side s (word.Edit kind) d act h = edit-side s kind d act h
 act-side s word.Undo d act h = plain-side Undo act tt h
 act-side s word.Redo d act h = plain-side Redo act tt h
 act-side s word.Cursor d act h = cursor-side d act h

@@ -1,36 +1,23 @@
 -- What an op line does, by its word. Its fields are read in the order in which they stand here.
-use Rattle.std.specs.Prelude.{ℕ, Bool, ◌&&◌, nat_lt, nat_le, true, false, List, codes, Result, Ok, Err}
+use Rattle.std.specs.Prelude.{ℕ, Bool, ◌&&◌, nat_lt, nat_le, true, false, codes, Result, Ok, Err}
 use Rattle.serde_json.specs.Data.{Data}
-use Rattle.serde_json.specs.Find.{get}
-use Rattle.pm_list.specs.Readings.{◌>>=◌, or_fault}
+use Rattle.pm_list.specs.Readings.{◌>>=◌}
 use Rattle.pm_schema.specs.declared.spec.SchemaSpec.{SchemaSpec}
-use Rattle.pm_step.specs.declared.step.Step.{Step}
-use Rattle.pm_stepjson.specs.Reading.{step_read}
 use Rattle.pm_ops.specs.declared.op.Op.{Op}
-use Rattle.pm_ops.specs.declared.op.Op.TheVariants.{Step as StepOp}
 use Rattle.pm_session.specs.declared.line.Act.{Act}
 use Rattle.pm_session.specs.declared.line.Act.TheVariants.{Edit, Undo, Redo, Cursor, Submit, Ask, Present, Take, Push, Pull}
+use Rattle.pm_script.specs.declared.kinds.EditKind.{EditKind}
 use Rattle.pm_script.specs.declared.word.Word.{Word}
 use Rattle.pm_script.specs.declared.word.Word.TheVariants as word
-use Rattle.pm_script.specs.Codes.{coded}
 use Rattle.pm_script.specs.Fields.{number_in, lost_in, side_in, event_in}
-use Rattle.pm_script.specs.Ops.{as_step}
+use Rattle.pm_script.specs.Ops.{op_of}
 
-module _ (s : SchemaSpec) where
-  -- the value as a step
-  abbrev pub step_from : Data → Result Step ℕ
-  step_from d = coded (step_read s d) >>= (λ read. Ok (as_step read))
-
-  -- the step at `step`
-  abbrev pub step_in : Data → Result Step ℕ
-  step_in d = or_fault 6 (get (codes "step") d) >>= step_from
-
-  -- `step`: a step, and an event number
-  unfoldable pub edit_in : Data → Result (Act Op) ℕ
-  edit_in d = do
-    step ← step_in d
-    event ← event_in d
-    Ok (Edit (StepOp step) event)
+-- an edit: the fields of its kind, and then an event number
+unfoldable pub edit_in : SchemaSpec → EditKind → Data → Result (Act Op) ℕ
+edit_in s kind d = do
+  op ← op_of s kind d
+  event ← event_in d
+  Ok (Edit op event)
 
 -- `cursor`: a position, and a side
 unfoldable pub cursor_in : Data → Result (Act Op) ℕ
@@ -39,10 +26,9 @@ cursor_in d = do
   side ← side_in d
   Ok (Cursor at side)
 
--- What the word does. An edit that isn't built yet has code 99.
+-- what the word does
 abbrev pub act_in : SchemaSpec → Word → Data → Result (Act Op) ℕ
-act_in s word.Step d = edit_in s d
-act_in s word.Unbuilt d = Err 99
+act_in s (word.Edit kind) d = edit_in s kind d
 act_in s word.Undo d = Ok Undo
 act_in s word.Redo d = Ok Redo
 act_in s word.Cursor d = cursor_in d

@@ -1,8 +1,8 @@
 -- The fields of an op line. One that is absent and must be there, and one of another kind than it must be, has code 6.
-use Rattle.std.specs.Prelude.{ℕ, ℤ, pos, negsuc, ◌==◌, Bool, true, false, List, codes, Option, Some, None, Result, Ok, Err, option_and_then, if◌then◌else◌}
+use Rattle.std.specs.Prelude.{ℕ, ℤ, pos, negsuc, ◌==◌, Bool, false, List, codes, Option, Some, None, Result, Ok, Err, option_and_then, if◌then◌else◌}
 use Rattle.serde_json.specs.Data.{Data}
 use Rattle.serde_json.specs.Find.{get, as_bool, as_str, as_number, as_i64}
-use Rattle.pm_list.specs.Readings.{◌>>=◌, or_fault}
+use Rattle.pm_list.specs.Readings.{or_fault}
 use Rattle.pm_docjson.specs.Fields.{field}
 use Rattle.pm_slicejson.specs.Numbers.{as_count}
 
@@ -37,6 +37,14 @@ side_of (Some d) = or_fault 6 (option_and_then as_side (option_and_then as_i64 (
 
 abbrev pub side_in : Data → Result ℤ ℕ
 side_in d = side_of (field (codes "side") d)
+
+-- how many nodes an edit splits or joins; 1 where nothing is said
+abbrev pub depth_of : Option Data → Result ℕ ℕ
+depth_of None = Ok 1
+depth_of (Some d) = or_fault 6 (as_count d)
+
+abbrev pub depth_in : Data → Result ℕ ℕ
+depth_in d = depth_of (field (codes "depth") d)
 
 -- an edit's event number, where one is said
 abbrev pub some_count : Result ℕ ℕ → Result (Option ℕ) ℕ

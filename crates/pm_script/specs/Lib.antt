@@ -1,6 +1,8 @@
 pub mod Codes
+pub mod Faults
 pub mod Words
 pub mod Fields
+pub mod Parts
 pub mod Ops
 pub mod Acts
 pub mod Lines

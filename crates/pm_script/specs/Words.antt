@@ -1,19 +1,31 @@
 -- The words of op lines.
-use Rattle.std.specs.Prelude.{ℕ, nat_eq, nat_lt, ◌||◌, Bool, true, false, List, codes, Option, Some, None, if◌then◌else◌}
+use Rattle.std.specs.Prelude.{ℕ, nat_eq, nat_lt, Bool, true, false, List, codes, Option, Some, None, if◌then◌else◌}
 use Rattle.std.specs.Cmp.Lexicographic.{pointwise}
+use Rattle.pm_script.specs.declared.kinds.EditKind.{EditKind}
+use Rattle.pm_script.specs.declared.kinds.EditKind.TheVariants as kind
 use Rattle.pm_script.specs.declared.word.Word.{Word}
-use Rattle.pm_script.specs.declared.word.Word.TheVariants.{Step, Unbuilt, Undo, Redo, Cursor, Submit, Ask, Present, Take, Push, Pull, Forge}
+use Rattle.pm_script.specs.declared.word.Word.TheVariants.{Edit, Undo, Redo, Cursor, Submit, Ask, Present, Take, Push, Pull, Forge}
 
 -- the text is this word
 abbrev pub says : List ℕ → List ℕ → Bool
 says text word = pointwise nat_eq text word
 
--- an edit that makes its steps of what the document holds
-abbrev pub is_edit : List ℕ → Bool
-is_edit text =
-    says text (codes "text") || (says text (codes "delete") || (says text (codes "paste") || (says text (codes "insert")
-    || (says text (codes "split") || (says text (codes "join") || (says text (codes "wrap") || (says text (codes "lift")
-    || (says text (codes "settype") || (says text (codes "addmark") || says text (codes "removemark"))))))))))
+-- an edit
+abbrev pub edit_named : List ℕ → Option EditKind
+edit_named text =
+    if says text (codes "step") then Some kind.Step
+    else (if says text (codes "text") then Some kind.Text
+    else (if says text (codes "delete") then Some kind.Delete
+    else (if says text (codes "paste") then Some kind.Paste
+    else (if says text (codes "insert") then Some kind.Insert
+    else (if says text (codes "split") then Some kind.Split
+    else (if says text (codes "join") then Some kind.Join
+    else (if says text (codes "wrap") then Some kind.Wrap
+    else (if says text (codes "lift") then Some kind.Lift
+    else (if says text (codes "settype") then Some kind.SetType
+    else (if says text (codes "addmark") then Some kind.AddMark
+    else (if says text (codes "removemark") then Some kind.RemoveMark
+    else None)))))))))))
 
 -- a word by which a client brings its steps to the authority, or takes others' steps from it
 abbrev pub exchange_named : List ℕ → Option Word
@@ -27,19 +39,22 @@ exchange_named text =
     else (if says text (codes "forge") then Some Forge
     else None))))))
 
+-- the edit, where the text names one, else the other word that it is
+abbrev pub or_word : Option EditKind → Option Word → Option Word
+or_word None other = other
+or_word (Some edit) other = Some (Edit edit)
+
 abbrev pub word_named : List ℕ → Option Word
 word_named text =
-    if says text (codes "step") then Some Step
-    else (if says text (codes "undo") then Some Undo
+    or_word (edit_named text)
+    (if says text (codes "undo") then Some Undo
     else (if says text (codes "redo") then Some Redo
     else (if says text (codes "cursor") then Some Cursor
-    else (if is_edit text then Some Unbuilt
-    else exchange_named text))))
+    else exchange_named text)))
 
 -- A line of an editor may say every word but `forge`, and `cursor` where fewer than 64 earlier lines of the client do.
 abbrev pub may_say : ℕ → Word → Bool
-may_say cursors Step = true
-may_say cursors Unbuilt = true
+may_say cursors (Edit edit) = true
 may_say cursors Undo = true
 may_say cursors Redo = true
 may_say cursors Cursor = nat_lt cursors 64

@@ -2,17 +2,16 @@
 ghost use Rattle.std.specs.Prelude.{◌≡◌};
 ghost use Rattle.serde_json.specs.View.{view};
 ghost use Rattle.pm_head.specs.Answers.{Gives};
-ghost use Rattle.pm_script.specs.Acts.{step_from, step_in, edit_in, cursor_in, act_in, names_one, sets_one};
+ghost use Rattle.pm_script.specs.Acts.{edit_in, cursor_in, act_in, names_one, sets_one};
 
-use crate::codes::step_code;
 use crate::fields::{event_in, lost_in, number_in, side_in};
+use crate::kinds::EditKind;
+use crate::ops::op_of;
 use crate::word::Word;
 use pm_head::LineError;
 use pm_ops::Op;
 use pm_schema::Schema;
 use pm_session::Act;
-use pm_step::Step;
-use pm_stepjson::read_step;
 use serde_json::Value;
 use std::alloc::Global;
 
@@ -26,8 +25,7 @@ pub(crate) fn act_in(
     ensures { Gives (λ a. a) result (act_in schema.now.spec word (view json.now)) }
 {
     match word {
-        Word::Step => edit_in(alloc, schema, json),
-        Word::Unbuilt => Err(LineError::Code(99)),
+        Word::Edit(kind) => edit_in(alloc, schema, kind, json),
         Word::Undo => Ok(Act::Undo),
         Word::Redo => Ok(Act::Redo),
         Word::Cursor => cursor_in(json),
@@ -53,41 +51,19 @@ pub(crate) fn act_in(
     }
 }
 
-/// A line that makes a step, which may have an event number.
+/// A line that edits the document, which may have an event number.
 #[tactic(auto, unfolding(crate::specs::Acts::edit_in))]
-fn edit_in(alloc: Global, schema: &Schema, json: &Value) -> Result<Act<Op>, LineError>
-    ensures { Gives (λ a. a) result (edit_in schema.now.spec (view json.now)) }
+fn edit_in(
+    alloc: Global,
+    schema: &Schema,
+    kind: EditKind,
+    json: &Value,
+) -> Result<Act<Op>, LineError>
+    ensures { Gives (λ a. a) result (edit_in schema.now.spec kind (view json.now)) }
 {
-    let step = step_in(alloc, schema, json)?;
+    let op = op_of(alloc, schema, kind, json)?;
     let event = event_in(json)?;
-    Ok(Act::Edit {
-        op: Op::Step(step),
-        event,
-    })
-}
-
-/// The step at `step`.
-fn step_in(alloc: Global, schema: &Schema, json: &Value) -> Result<Step, LineError>
-    ensures { Gives (λ s. s) result (step_in schema.now.spec (view json.now)) }
-{
-    match json.get("step") {
-        Some(step) => step_of(alloc, schema, step),
-        None => Err(LineError::Code(6)),
-    }
-}
-
-/// The value as a step.
-#[tactic(auto, using(crate::proofs::StepLaws::read_steps))]
-fn step_of(alloc: Global, schema: &Schema, json: &Value) -> Result<Step, LineError>
-    ensures { Gives (λ s. s) result (step_from schema.now.spec (view json.now)) }
-{
-    match read_step(alloc, schema, json) {
-        Ok(step) => Ok(step),
-        Err(error) => match step_code(error) {
-            Some(code) => Err(LineError::Code(code)),
-            None => Err(LineError::NoMemory),
-        },
-    }
+    Ok(Act::Edit { op, event })
 }
 
 /// A line that sets a cursor.

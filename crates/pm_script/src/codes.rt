@@ -1,18 +1,44 @@
-//! The codes of a step's faults.
+//! The codes of the faults of steps and of what edits put in.
 ghost use Rattle.std.specs.Prelude.{◌≡◌};
-ghost use Rattle.pm_script.specs.Codes.{step_code as code_of_step};
+ghost use Rattle.pm_head.specs.Codes.{node_code};
+ghost use Rattle.pm_script.specs.Codes.{step_code};
+ghost use Rattle.pm_script.specs.Faults.{fault_of};
 
-use pm_head::node_code;
+use pm_docjson::DocReadError;
+use pm_head::{LineError, node_code};
 use pm_stepjson::StepReadError;
 
+/// The fault of a line whose step has this fault.
+pub(crate) fn step_fault(error: StepReadError) -> LineError
+    ensures { result ≡ fault_of (step_code error) }
+{
+    fault_of(step_code(error))
+}
+
+/// The fault of a line whose node, mark, slice or attributes have this fault.
+pub(crate) fn node_fault(error: DocReadError) -> LineError
+    ensures { result ≡ fault_of (node_code error) }
+{
+    fault_of(node_code(error))
+}
+
 /// The code of a value that is no step; `None` for want of memory.
-pub(crate) fn step_code(error: StepReadError) -> Option<u32>
-    ensures { result ≡ code_of_step error }
+fn step_code(error: StepReadError) -> Option<u32>
+    ensures { result ≡ step_code error }
 {
     match error {
         StepReadError::Shape => Some(6),
         StepReadError::UnknownKind => Some(7),
         StepReadError::Slice(e) | StepReadError::Mark(e) => node_code(e),
         StepReadError::NoMemory => None,
+    }
+}
+
+fn fault_of(code: Option<u32>) -> LineError
+    ensures { result ≡ fault_of code }
+{
+    match code {
+        Some(code) => LineError::Code(code),
+        None => LineError::NoMemory,
     }
 }

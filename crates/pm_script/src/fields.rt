@@ -2,8 +2,10 @@
 ghost use Rattle.std.specs.Prelude.{◌≡◌, option_and_then};
 ghost use Rattle.serde_json.specs.Find.{as_i64, as_number};
 ghost use Rattle.serde_json.specs.View.{view};
+ghost use Rattle.pm_list.specs.Readings.{or_fault};
+ghost use Rattle.pm_slicejson.specs.Numbers.{as_count};
 ghost use Rattle.pm_head.specs.Answers.{Gives};
-ghost use Rattle.pm_script.specs.Fields.{text_in, number_in, lost_in, side_in, as_side, event_in};
+ghost use Rattle.pm_script.specs.Fields.{text_in, number_in, depth_in, lost_in, side_in, as_side, event_in};
 
 use pm_docjson::field;
 use pm_head::LineError;
@@ -11,7 +13,7 @@ use pm_slicejson::as_count;
 use serde_json::Value;
 
 /// A field that is absent or of another kind than it must be.
-const SHAPE: u32 = 6;
+pub(crate) const SHAPE: u32 = 6;
 
 /// A text, which must be there.
 pub(crate) fn text_in<'a>(json: &'a Value, key: &str) -> Result<&'a str, LineError>
@@ -31,10 +33,17 @@ pub(crate) fn number_in(json: &Value, key: &str) -> Result<u64, LineError>
     ensures { Gives (λ n. n) result (number_in key.now (view json.now)) }
 {
     match json.get(key) {
-        Some(value) => match as_count(value) {
-            Some(number) => Ok(number as u64),
-            None => Err(LineError::Code(SHAPE)),
-        },
+        Some(value) => count_of(value),
+        None => Err(LineError::Code(SHAPE)),
+    }
+}
+
+/// The value as a whole number from 0 to 4,294,967,295.
+fn count_of(json: &Value) -> Result<u64, LineError>
+    ensures { Gives (λ n. n) result (or_fault 6 (as_count (view json.now))) }
+{
+    match as_count(json) {
+        Some(number) => Ok(number as u64),
         None => Err(LineError::Code(SHAPE)),
     }
 }
@@ -74,6 +83,16 @@ fn side_of(json: &Value) -> Option<i8>
         Some(1) => Some(1),
         Some(-1) => Some(-1),
         _ => None,
+    }
+}
+
+/// How many nodes an edit splits or joins: a whole number from 0 to 4,294,967,295, which is 1 where it is absent or null.
+pub(crate) fn depth_in(json: &Value) -> Result<u64, LineError>
+    ensures { Gives (λ n. n) result (depth_in (view json.now)) }
+{
+    match field(json, "depth") {
+        None => Ok(1),
+        Some(value) => count_of(value),
     }
 }
 

@@ -6,7 +6,10 @@ mod codes;
 mod earlier;
 mod fault;
 mod fields;
+mod kinds;
 mod lines;
+mod ops;
+mod parts;
 mod session;
 mod word;
 

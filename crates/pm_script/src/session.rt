@@ -30,11 +30,10 @@ pub struct Session {
 /// The session that an input is; else its least faulty line with the code of that line's first fault. Codes 1 to 19 are those
 /// of the first three lines, and for op lines: 3 the line passes 1,048,576 bytes; 4 it is past line 100,003; 5 it is not UTF-8
 /// or no JSON; 6 a field is absent or of another kind than it must be; 7 a name is that of no client, op, kind of steps, node
-/// type or mark type; 12 an attribute is missing, unknown, or its value is none; 13 a text is empty; 14 marks are no set; 15 a
+/// type or mark type; 12 an attribute is missing, unknown, or its value is none; 13 a text node is empty; 14 marks are no set; 15 a
 /// side of a slice is deeper than its content, or a list has more than 4,294,967,295 tokens; 17 a message or an answer is named
 /// that no earlier line of the client composed or got; 18 the op is none of the client's, or it is the client's 65th cursor.
-/// Line 0 with code 1 is an input of more than 67,108,864 bytes. Code 99 stands where something isn't built yet: at line 3 for
-/// raw clients, and at an edit other than `step`.
+/// Line 0 with code 1 is an input of more than 67,108,864 bytes. Code 99 stands at line 3 for raw clients, which aren't built yet.
 pub fn read_session(alloc: Global, input: &[u8]) -> Result<Session, SessionError>
     ensures read { Reads (SessionIs input.now) result }
     ensures holds { IfOk result Holds }

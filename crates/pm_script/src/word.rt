@@ -1,6 +1,8 @@
 //! The words of op lines.
 ghost use Rattle.std.specs.Prelude.{◌≡◌};
-ghost use Rattle.pm_script.specs.Words.{is_edit, exchange_named, word_named, may_say};
+ghost use Rattle.pm_script.specs.Words.{exchange_named, word_named, may_say};
+
+use crate::kinds::EditKind;
 
 /// The greatest number of cursor lines of one client.
 const MAX_CURSORS: u64 = 64;
@@ -8,9 +10,7 @@ const MAX_CURSORS: u64 = 64;
 /// What an op line says by its `op`.
 #[derive(Clone, Copy, Debug, PartialEq, Eq)]
 pub(crate) enum Word {
-    Step,
-    /// One of the edits that make their steps of what the document holds.
-    Unbuilt,
+    Edit(EditKind),
     Undo,
     Redo,
     Cursor,
@@ -28,16 +28,15 @@ impl Word {
     pub(crate) fn named(text: &str) -> Option<Word>
         ensures { result ≡ word_named text.now }
     {
-        if text == "step" {
-            Some(Word::Step)
-        } else if text == "undo" {
+        if let Some(edit) = EditKind::named(text) {
+            return Some(Word::Edit(edit));
+        }
+        if text == "undo" {
             Some(Word::Undo)
         } else if text == "redo" {
             Some(Word::Redo)
         } else if text == "cursor" {
             Some(Word::Cursor)
-        } else if is_edit(text) {
-            Some(Word::Unbuilt)
         } else {
             exchange_named(text)
         }
@@ -50,8 +49,7 @@ impl Word {
         match self {
             Word::Cursor => cursors < MAX_CURSORS,
             Word::Forge => false,
-            Word::Step
-            | Word::Unbuilt
+            Word::Edit(_)
             | Word::Undo
             | Word::Redo
             | Word::Submit
@@ -62,23 +60,6 @@ impl Word {
             | Word::Pull => true,
         }
     }
-}
-
-/// Whether the text is the word of an edit that makes its steps of what the document holds.
-fn is_edit(text: &str) -> bool
-    ensures { result ≡ is_edit text.now }
-{
-    text == "text"
-        || text == "delete"
-        || text == "paste"
-        || text == "insert"
-        || text == "split"
-        || text == "join"
-        || text == "wrap"
-        || text == "lift"
-        || text == "settype"
-        || text == "addmark"
-        || text == "removemark"
 }
 
 /// The word of a text that sends messages or takes answers, if it is one.

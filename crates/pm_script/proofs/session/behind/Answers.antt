@@ -1,4 +1,4 @@
-use Rattle.std.proofs.Common.{◌≡◌, ◌∙◌, [], false, sym, subst}
+use Rattle.std.proofs.Common.{◌∙◌, [], sym, subst}
 use Rattle.pm_head.specs.Lines.{lines_of}
 use Rattle.pm_script.specs.Answers.{Gives}
 use Rattle.pm_script.specs.Sessions.{ops_of, with_ops}

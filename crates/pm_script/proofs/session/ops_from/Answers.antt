@@ -1,4 +1,4 @@
-use Rattle.std.proofs.Common.{◌≡◌, [], arith, rules}
+use Rattle.std.proofs.Common.{[], arith, rules}
 use Rattle.pm_head.specs.Lines.{lines_of}
 use Rattle.pm_script.specs.Sessions.{ops_of}
 use Rattle.pm_script.proofs.OpLists.{ops-step}

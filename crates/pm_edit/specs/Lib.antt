@@ -1,0 +1,5 @@
+pub mod Nodes
+pub mod Edits
+pub mod Ops
+pub mod Found
+pub mod Laws

@@ -1,0 +1,55 @@
+-- The steps of an op, and how a call answers with them.
+use Rattle.std.specs.Prelude.{◌≡◌, List, [], ◌∷◌, map, Vec, Result, Ok, Err}
+use Rattle.std.specs.declared.alloc.Global.{Global}
+use Rattle.pm_tokens.specs.Tokens.{Doc}
+use Rattle.pm_text.specs.Units.{utf16}
+use Rattle.pm_node.specs.Trees.{node_tokens}
+use Rattle.pm_meaning.specs.Steps as steps
+use Rattle.pm_step.specs.declared.step.Step.{Step}
+use Rattle.pm_step.specs.Steps.{step_of}
+use Rattle.pm_schema.specs.declared.schema.Schema.{Schema}
+use Rattle.pm_ops.specs.declared.op.Op.{Op}
+use Rattle.pm_ops.specs.declared.op.Op.TheVariants as op
+use Rattle.pm_edit.specs.declared.refusal.EditRefusal.{EditRefusal}
+use Rattle.pm_edit.specs.declared.refusal.EditRefusal.TheVariants.{Range, NotThere, NoFit, NoMemory}
+use Rattle.pm_edit.specs.Edits.{Answer, insert_text, delete, paste, insert_node, split, join, wrap, lift, set_type, add_mark, remove_mark}
+
+-- the step of an op on a document, or why there is none
+abbrev pub answer_of : Schema → Doc → Op → Answer
+answer_of s d (op.InsertText from to text) = insert_text s d from to (utf16 text)
+answer_of s d (op.Delete from to) = delete s d from to
+answer_of s d (op.Paste from to slice) = paste s d from to slice
+answer_of s d (op.InsertNode pos node) = insert_node s d pos (node_tokens node)
+answer_of s d (op.Split pos depth) = split d pos depth
+answer_of s d (op.Join pos depth) = join d pos depth
+answer_of s d (op.Wrap from to kind attrs) = wrap s d from to kind attrs
+answer_of s d (op.Lift pos) = lift d pos
+answer_of s d (op.SetType pos kind attrs) = set_type s d pos kind attrs
+answer_of s d (op.AddMark from to mark) = add_mark d from to mark
+answer_of s d (op.RemoveMark from to mark) = remove_mark d from to mark
+answer_of s d (op.Step step) = Ok (step_of step)
+
+-- a list of this one step
+abbrev pub one : Answer → Result (List steps.Step) EditRefusal
+one (Ok step) = Ok (step ∷ [])
+one (Err reason) = Err reason
+
+-- the steps of an op on a document: exactly one, or why there is none
+unfoldable pub steps_of : Schema → Doc → Op → Result (List steps.Step) EditRefusal
+steps_of s d o = one (answer_of s d o)
+
+-- the call gave this very step, or this very refusal, or memory ran out
+abbrev pub Answers : Answer → Result Step EditRefusal → Type 0
+Answers answer (Ok step) = answer ≡ Ok (step_of step)
+Answers answer (Err Range) = answer ≡ Err Range
+Answers answer (Err NotThere) = answer ≡ Err NotThere
+Answers answer (Err NoFit) = answer ≡ Err NoFit
+Answers answer (Err NoMemory) = Unit {0}
+
+-- the same of lists of steps
+abbrev pub AnswersList : Result (List steps.Step) EditRefusal → Result (Vec Step Global) EditRefusal → Type 0
+AnswersList answer (Ok made) = answer ≡ Ok (map step_of made.items)
+AnswersList answer (Err Range) = answer ≡ Err Range
+AnswersList answer (Err NotThere) = answer ≡ Err NotThere
+AnswersList answer (Err NoFit) = answer ≡ Err NoFit
+AnswersList answer (Err NoMemory) = Unit {0}

@@ -1,0 +1,32 @@
+//! The edits of an editor: each gives one step, or tells why there is none.
+#![tactic(auto)]
+
+mod empty;
+mod fitted;
+mod joining;
+pub mod laws;
+mod lifting;
+mod marking;
+mod nodes;
+mod places;
+mod refusal;
+mod slices;
+mod splitting;
+mod steps;
+mod typing;
+mod wrapping;
+
+pub use fitted::{delete, insert_node, insert_text, paste};
+pub use joining::join;
+pub use lifting::lift;
+pub use marking::{add_mark, remove_mark};
+pub use refusal::EditRefusal;
+pub use splitting::split;
+pub use steps::steps_for;
+pub use typing::set_type;
+pub use wrapping::wrap;
+
+#[cfg(test)]
+mod sample;
+#[cfg(test)]
+mod tests;

@@ -1,0 +1,73 @@
+//! The steps of an op.
+ghost use Rattle.std.specs.Prelude.{◌∷◌, []};
+ghost use Rattle.pm_tokens.specs.Faults.{Valid};
+ghost use Rattle.pm_schema.specs.Documents.{documents_of};
+ghost use Rattle.pm_step.specs.Steps.{step_of};
+ghost use Rattle.pm_edit.specs.Ops.{Answers, AnswersList, answer_of, steps_of};
+
+use crate::fitted::{delete, insert_node, insert_text, paste};
+use crate::joining::join;
+use crate::lifting::lift;
+use crate::marking::{add_mark, remove_mark};
+use crate::refusal::EditRefusal;
+use crate::splitting::split;
+use crate::typing::set_type;
+use crate::wrapping::wrap;
+use pm_node::Document;
+use pm_ops::Op;
+use pm_schema::Schema;
+use pm_step::Step;
+use std::alloc::Global;
+
+/// The steps of an op on a document: exactly one, or the refusal of the op's edit. `Op::Step` gives its step.
+pub fn steps_for(
+    alloc: Global,
+    schema: &Schema,
+    doc: &Document,
+    op: &Op,
+) -> Result<Vec<Step>, EditRefusal>
+    requires { Valid (documents_of schema.now.spec) doc.now }
+    ensures { AnswersList (steps_of schema.now doc.now op.now) result }
+{
+    match step_for(alloc, schema, doc, op) {
+        Ok(step) => list_of(alloc, step),
+        Err(refusal) => Err(refusal),
+    }
+}
+
+/// A list of this one step.
+fn list_of(alloc: Global, step: Step) -> Result<Vec<Step>, EditRefusal>
+    ensures { AnswersList (Ok (step_of step ∷ [])) result }
+{
+    let mut steps = Vec::new(alloc);
+    steps.push(step)?;
+    Ok(steps)
+}
+
+/// The step of the op's edit.
+fn step_for(alloc: Global, schema: &Schema, doc: &Document, op: &Op) -> Result<Step, EditRefusal>
+    requires { Valid (documents_of schema.now.spec) doc.now }
+    ensures { Answers (answer_of schema.now doc.now op.now) result }
+{
+    match op {
+        Op::InsertText { from, to, text } => {
+            insert_text(alloc, schema, doc, *from, *to, text.as_str())
+        }
+        Op::Delete { from, to } => delete(alloc, schema, doc, *from, *to),
+        Op::Paste { from, to, slice } => paste(alloc, schema, doc, *from, *to, slice),
+        Op::InsertNode { pos, node } => insert_node(alloc, schema, doc, *pos, node),
+        Op::Split { pos, depth } => split(alloc, schema, doc, *pos, *depth),
+        Op::Join { pos, depth } => join(alloc, schema, doc, *pos, *depth),
+        Op::Wrap {
+            from,
+            to,
+            kind,
+            attrs,
+        } => wrap(alloc, schema, doc, *from, *to, *kind, attrs),
+        Op::Lift { pos } => lift(alloc, schema, doc, *pos),
+        Op::SetType { pos, kind, attrs } => set_type(alloc, schema, doc, *pos, *kind, attrs),
+        Op::AddMark { from, to, mark } => add_mark(alloc, schema, doc, *from, *to, mark),
+        Op::RemoveMark { from, to, mark } => remove_mark(alloc, schema, doc, *from, *to, mark),
+        Op::Step(step) => Ok(step.copy(alloc)?),
+    }
+}

@@ -1,0 +1,56 @@
+//! Putting a node around a range.
+ghost use Rattle.pm_tokens.specs.Faults.{Valid};
+ghost use Rattle.pm_schema.specs.Documents.{documents_of};
+ghost use Rattle.pm_edit.specs.Edits.{wrap};
+ghost use Rattle.pm_edit.specs.Ops.{Answers};
+
+use crate::empty::{empty_node, is_leaf};
+use crate::places::{in_range, is_balanced};
+use crate::refusal::EditRefusal;
+use pm_attrs::Attrs;
+use pm_auto::TypeId;
+use pm_marks::MarkSet;
+use pm_node::Document;
+use pm_schema::Schema;
+use pm_step::Step;
+use std::alloc::Global;
+
+/// Puts a node of the type, without marks, around from..to. `Range` comes exactly where not from <= to <= size, and `NotThere`
+/// where the range is empty, or is not a whole number of nodes, or the type is a leaf or none of the schema's.
+pub fn wrap(
+    alloc: Global,
+    schema: &Schema,
+    doc: &Document,
+    from: u64,
+    to: u64,
+    kind: TypeId,
+    attrs: &Attrs,
+) -> Result<Step, EditRefusal>
+    requires { Valid (documents_of schema.now.spec) doc.now }
+    ensures { Answers (wrap schema.now doc.now from to kind attrs.now) result }
+{
+    if !in_range(doc, from, to) {
+        return Err(EditRefusal::Range);
+    }
+    if from == to {
+        return Err(EditRefusal::NotThere);
+    }
+    let leaf = is_leaf(schema, kind);
+    if leaf {
+        return Err(EditRefusal::NotThere);
+    }
+    let balanced = is_balanced(alloc, doc, from, to)?;
+    if !balanced {
+        return Err(EditRefusal::NotThere);
+    }
+    let slice = empty_node(alloc, kind, attrs, MarkSet::empty(alloc))?;
+    Ok(Step::ReplaceAround {
+        from,
+        to,
+        gap_from: from,
+        gap_to: to,
+        slice,
+        insert: 1,
+        structure: true,
+    })
+}

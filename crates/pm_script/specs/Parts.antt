@@ -1,0 +1,61 @@
+-- The parts of an edit that are read by the schema. One that is absent and must be there has code 6, and a name of no node type
+-- code 7.
+use Rattle.std.specs.Prelude.{ℕ, List, codes, Result, Ok}
+use Rattle.serde_json.specs.Data.{Data}
+use Rattle.serde_json.specs.Find.{get}
+use Rattle.pm_list.specs.Readings.{◌>>=◌, or_fault}
+use Rattle.pm_value.specs.Plain.{Plain}
+use Rattle.pm_marks.specs.declared.mark.Mark.{Mark}
+use Rattle.pm_tokens.specs.Slices.{Slice}
+use Rattle.pm_schema.specs.declared.spec.SchemaSpec.{SchemaSpec}
+use Rattle.pm_schema.specs.Names.{place_of}
+use Rattle.pm_schema.specs.Types.{names_of_nodes, node_at}
+use Rattle.pm_node.specs.declared.node.Node.{Node}
+use Rattle.pm_docjson.specs.declared.leaves.LeafContent.TheVariants.{Refused}
+use Rattle.pm_docjson.specs.Fields.{field}
+use Rattle.pm_docjson.specs.Reading.{attrs_read, mark_of, node_of}
+use Rattle.pm_slicejson.specs.Reading.{slice_of}
+use Rattle.pm_meaning.specs.Steps as steps
+use Rattle.pm_step.specs.declared.step.Step.{Step}
+use Rattle.pm_step.specs.declared.step.Step.TheVariants.{Replace, ReplaceAround, AddMark, RemoveMark, AddNodeMark, RemoveNodeMark}
+use Rattle.pm_stepjson.specs.Reading.{step_read}
+use Rattle.pm_script.specs.Codes.{coded, node_coded}
+use Rattle.pm_script.specs.Fields.{text_in}
+
+-- the step, as it is told apart by its kind and fields
+abbrev pub as_step : steps.Step → Step
+as_step (steps.Replace from to slice structure) = Replace from to slice structure
+as_step (steps.ReplaceAround from to gap_from gap_to slice insert structure) = ReplaceAround from to gap_from gap_to slice insert structure
+as_step (steps.AddMark from to mark) = AddMark from to mark
+as_step (steps.RemoveMark from to mark) = RemoveMark from to mark
+as_step (steps.AddNodeMark pos mark) = AddNodeMark pos mark
+as_step (steps.RemoveNodeMark pos mark) = RemoveNodeMark pos mark
+
+module _ (s : SchemaSpec) where
+  -- the value as a step
+  abbrev pub step_from : Data → Result Step ℕ
+  step_from d = coded (step_read s d) >>= (λ read. Ok (as_step read))
+
+  -- the step at `step`
+  abbrev pub step_in : Data → Result Step ℕ
+  step_in d = or_fault 6 (get (codes "step") d) >>= step_from
+
+  -- the slice at `slice`, which must be there; null is the empty slice
+  abbrev pub slice_in : Data → Result Slice ℕ
+  slice_in d = or_fault 6 (get (codes "slice") d) >>= (λ v. node_coded (slice_of s v))
+
+  -- the node at `node`, in which leaf types have no content
+  abbrev pub node_in : Data → Result Node ℕ
+  node_in d = or_fault 6 (get (codes "node") d) >>= (λ v. node_coded (node_of s Refused v))
+
+  -- the mark at `mark`
+  abbrev pub mark_in : Data → Result (Mark (List Plain)) ℕ
+  mark_in d = or_fault 6 (get (codes "mark") d) >>= (λ v. node_coded (mark_of s v))
+
+  -- the node type that `type` names
+  abbrev pub type_in : Data → Result ℕ ℕ
+  type_in d = text_in (codes "type") d >>= (λ name. or_fault 7 (place_of name (names_of_nodes s)))
+
+  -- the attributes of a node of this type, where `attrs` gives their values; where it is absent none is given
+  abbrev pub attrs_in : ℕ → Data → Result (List Plain) ℕ
+  attrs_in kind d = node_coded (attrs_read (node_at s kind).attrs (field (codes "attrs") d))
