@@ -49,9 +49,5 @@ impl Maker<DocChange> for EditMaker {
 fn as_changes(alloc: Global, steps: Vec<Step>) -> Result<Vec<DocChange>, AllocError>
     ensures { IfOk result (λ v. v.items ≡ map step_of steps.items) }
 {
-    let mut changes = Vec::new(alloc);
-    for step in steps {
-        changes.push(DocChange::new(step))?;
-    }
-    Ok(changes)
+    steps.into_iter().map(DocChange::new).collect(alloc)
 }
