@@ -21,21 +21,28 @@ const nodes = [{name: "doc", content: "paragraph+"}, {name: "paragraph", content
 const first = {type: "doc", content: []}
 for (let i = 0; i < count; i++) first.content.push({type: "paragraph", content: [{type: "text", text: "abcdefghij".repeat(5).slice(0, letters)}]})
 
-// Turns of a client: it types some letters one after another into a paragraph, pulls and pushes. Positions are those of the
-// first document, so that each lies within the document however it has grown.
-function* acts() {
+// Turns of a client: it types some letters one after another into a paragraph, pulls and pushes. Where the paragraph stands in
+// the client's document by then, `start` tells.
+function* acts(start) {
   for (let turn = 0, line = 0; line < lines; turn++) {
     const client = turn % names.length
-    const from = ((turn * 7919) % count) * (letters + 2) + 1 + turn % letters
+    const from = start(client, (turn * 7919) % count) + 1 + turn % letters
     for (let i = 0; i < run && line < lines; i++, line++) yield {client, op: "text", from: from + i}
     if (line++ < lines) yield {client, op: "pull"}
     if (line++ < lines) yield {client, op: "push"}
   }
 }
 
-function session() {
+// The position at which a child of the document begins.
+function startOf(doc, index) {
+  let pos = 0
+  for (let i = 0; i < index; i++) pos += doc.child(i).nodeSize
+  return pos
+}
+
+function session(all) {
   const text = [JSON.stringify({nodes}), JSON.stringify(first), JSON.stringify(names)]
-  for (const {client, op, from} of acts())
+  for (const {client, op, from} of all)
     text.push(JSON.stringify(op == "text" ? {c: names[client], op, from, to: from, text: "x"} : {c: names[client], op}))
   return text.join("\n") + "\n"
 }
@@ -57,13 +64,15 @@ function rebased(pending, over, transform) {
   return kept
 }
 
-function played() {
+// Plays the acts as they come; `clients` is filled first, so that the acts may depend on it.
+function played(clients, all) {
   const schema = new Schema({nodes: Object.fromEntries(nodes.map(({name, ...rest}) => [name, rest]))})
   const doc = Node.fromJSON(schema, first)
   const authority = {doc, log: []}
-  const clients = names.map(() => ({doc, version: 0, pending: []}))
+  for (const _ of names) clients.push({doc, version: 0, pending: []})
   const slice = new Slice(Fragment.from(schema.text("x")), 0, 0)
-  for (const {client, op, from} of acts()) {
+  for (const act of all) {
+    const {client, op, from} = act
     const me = clients[client]
     if (op == "text") {
       const step = new ReplaceStep(from, from, slice)
@@ -91,18 +100,28 @@ function played() {
 
 // ---- both
 
-const input = session()
+// The acts are made once, by playing them.
+const made = [], makers = []
+function* noted() {
+  for (const act of acts((client, index) => startOf(makers[client].doc, index))) {
+    made.push(act)
+    yield act
+  }
+}
+played(makers, noted())
+
+const input = session(made)
 const start = process.hrtime.bigint()
 const child = spawnSync("/usr/bin/time", ["-f", "%M", program, "replay"], {input, maxBuffer: 1 << 30})
 const ours = Number(process.hrtime.bigint() - start) / 1e6
 const begun = process.hrtime.bigint()
-const {log} = played()
+const {log} = played([], made)
 const theirs = Number(process.hrtime.bigint() - begun) / 1e6
 
 const report = child.stdout.toString()
 const memory = Number(child.stderr.toString().trim().split("\n").pop())
 const accepted = report.split("\n").filter(line => / accepted \d+ \d+; confirmed /.test(line)).length
-const pushes = [...acts()].filter(act => act.op == "push").length
+const pushes = made.filter(act => act.op == "push").length
 if (child.status !== 0 || accepted !== pushes) {
   console.error(`bench: the session was not played as meant: status ${child.status}, ${accepted} of ${pushes} pushes accepted`)
   process.exit(1)
