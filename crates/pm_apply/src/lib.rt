@@ -18,8 +18,3 @@ mod sides;
 mod taking;
 
 pub use change::DocChange;
-
-#[cfg(test)]
-mod sample;
-#[cfg(test)]
-mod tests;

@@ -6,8 +6,6 @@ pub mod machine;
 pub mod message;
 pub mod named;
 pub mod running;
-#[cfg(test)]
-mod tests;
 
 pub use authority::Authority;
 pub use machine::Request;

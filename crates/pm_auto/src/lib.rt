@@ -11,16 +11,8 @@ mod fills;
 mod layout;
 mod mixed;
 pub mod places;
-#[cfg(test)]
-mod plain;
-#[cfg(test)]
-mod postfix;
 mod search;
 pub mod sets;
-#[cfg(test)]
-mod table_tests;
-#[cfg(test)]
-mod tests;
 mod width;
 mod wraps;
 

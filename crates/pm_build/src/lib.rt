@@ -12,6 +12,3 @@ pub use builder::Builder;
 pub use crossing::OpenTypes;
 pub use position::{depth_at, parts_pair, unit_at};
 pub use refused::Refused;
-
-#[cfg(test)]
-mod tests;

@@ -12,10 +12,6 @@ pub mod rebasing;
 pub mod serials;
 pub mod taken;
 pub mod taking;
-#[cfg(test)]
-mod tests;
-#[cfg(test)]
-mod undo_tests;
 
 pub use client::Client;
 pub use failing::{CursorError, EditError, UndoError};

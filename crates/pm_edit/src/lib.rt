@@ -25,8 +25,3 @@ pub use splitting::split;
 pub use steps::steps_for;
 pub use typing::set_type;
 pub use wrapping::wrap;
-
-#[cfg(test)]
-mod sample;
-#[cfg(test)]
-mod tests;

@@ -8,8 +8,6 @@ pub mod names;
 mod reader;
 mod reading;
 mod scan;
-#[cfg(test)]
-mod tests;
 mod tokens;
 
 pub use error::ExprError;

@@ -16,6 +16,3 @@ pub use fault::{HeadError, LineError};
 pub use lines::{after_head, first_line, json_line, json_of};
 pub use names::is_name;
 pub use reading::{Head, read_head};
-
-#[cfg(test)]
-mod tests;

@@ -18,6 +18,3 @@ pub use sink::{Put, Sink};
 pub use source::{Got, Source};
 pub use sure::{SureSink, SureSource};
 pub use whole::{ReadError, WriteFault, read_all, write_all};
-
-#[cfg(test)]
-mod tests;

@@ -4,6 +4,3 @@
 mod loose;
 
 pub use loose::is_loose;
-
-#[cfg(test)]
-mod tests;

@@ -6,8 +6,6 @@ pub mod mapping;
 mod passing;
 mod ranges;
 pub mod step_map;
-#[cfg(test)]
-mod tests;
 
 pub use mapping::{Mapping, Mirrored};
 pub use step_map::{Moved, Recover, Span, StepMap};

@@ -12,6 +12,3 @@ pub use mark::{Mark, MarkId};
 pub use rules::MarkRules;
 pub use same::Same;
 pub use set::MarkSet;
-
-#[cfg(test)]
-mod tests;

@@ -20,8 +20,3 @@ pub use fault::CheckError;
 pub use filled::{FillError, make_filled};
 pub use node::{Body, Fragment, Node};
 pub use units::Units;
-
-#[cfg(test)]
-mod filled_tests;
-#[cfg(test)]
-mod tests;

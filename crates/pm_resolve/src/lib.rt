@@ -11,6 +11,3 @@ mod walk;
 pub use fault::PlaceError;
 pub use place::Place;
 pub use walk::resolve;
-
-#[cfg(test)]
-mod tests;

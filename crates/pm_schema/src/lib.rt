@@ -24,6 +24,3 @@ pub use kinds::AnyType;
 pub use pm_attrs::Attrs;
 pub use schema::Schema;
 pub use spec::{AttrSpec, MarkSpec, NodeSpec, SchemaSpec};
-
-#[cfg(test)]
-mod tests;

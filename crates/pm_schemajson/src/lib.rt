@@ -10,8 +10,6 @@ mod marks;
 mod named;
 mod nodes;
 mod reading;
-#[cfg(test)]
-mod tests;
 mod words;
 
 pub use error::{Field, SchemaReadError};

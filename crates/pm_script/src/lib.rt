@@ -15,6 +15,3 @@ mod word;
 
 pub use fault::SessionError;
 pub use session::{Session, read_session};
-
-#[cfg(test)]
-mod tests;

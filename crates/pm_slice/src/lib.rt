@@ -11,6 +11,3 @@ pub use clipping::clip;
 pub use cutting::{cut, cut_content};
 pub use fault::CutError;
 pub use slice::Slice;
-
-#[cfg(test)]
-mod tests;

@@ -6,6 +6,3 @@ mod maps;
 mod step;
 
 pub use step::Step;
-
-#[cfg(test)]
-mod tests;

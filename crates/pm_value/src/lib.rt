@@ -13,6 +13,3 @@ pub use fault::ValueError;
 pub use reading::MAX_DEPTH;
 pub use text::Text;
 pub use value::{Field, Fields, Items, Value};
-
-#[cfg(test)]
-mod tests;

@@ -1,4 +1,0 @@
-use Rattle.pm_apply.proofs.sample.+write.Given as goal
-
-abbrev pub decreases-write : goal.decreases-write
-decreases-write l = l.levels

@@ -1,0 +1,11 @@
+//! Tests of the authority and of its clients.
+#![tactic(auto)]
+
+#[cfg(test)]
+mod authority;
+#[cfg(test)]
+mod client;
+#[cfg(test)]
+mod client_undo;
+#[cfg(test)]
+mod number;

@@ -1,0 +1,5 @@
+//! Tests of session files.
+#![tactic(auto)]
+
+#[cfg(test)]
+mod script;

@@ -1,0 +1,78 @@
+//! Schemas as texts: the fault that each has, and one that is accepted.
+mod builds;
+mod rows;
+
+use builds::BUILDS;
+use pm_schemajson::{SchemaReadError, read_schema};
+use rows::{CONTENTS, NAMES, SHAPES, VALUES};
+use serde_json::Value;
+use std::alloc::Global;
+use std::test::Fail;
+
+/// The fault of a text, if it has one.
+fn fault_of(alloc: Global, text: &str) -> Result<Option<SchemaReadError>, Fail> {
+    let json = Value::from_str(alloc, text)?;
+    Ok(read_schema(alloc, &json).err())
+}
+
+#[test]
+fn tells_the_first_field_of_another_kind(rt: HostRuntime) -> Result<(), Fail> {
+    for (text, field) in SHAPES {
+        let told = fault_of(rt.alloc(), text)?;
+        assert!(rt; told == Some(SchemaReadError::Shape { field }), "{text}");
+    }
+    Ok(())
+}
+
+#[test]
+fn tells_the_first_ill_formed_name(rt: HostRuntime) -> Result<(), Fail> {
+    for (text, field) in NAMES {
+        let told = fault_of(rt.alloc(), text)?;
+        assert!(rt; told == Some(SchemaReadError::Name { field }), "{text}");
+    }
+    Ok(())
+}
+
+#[test]
+fn tells_the_first_default_that_is_no_value(rt: HostRuntime) -> Result<(), Fail> {
+    for (text, fault) in VALUES {
+        let told = fault_of(rt.alloc(), text)?;
+        assert!(rt; told == Some(SchemaReadError::Attr(fault)), "{text}");
+    }
+    Ok(())
+}
+
+#[test]
+fn tells_the_first_faulty_expression(rt: HostRuntime) -> Result<(), Fail> {
+    for (text, kind, error) in CONTENTS {
+        let told = fault_of(rt.alloc(), text)?;
+        assert!(rt;
+            told == Some(SchemaReadError::Expr { kind, error }),
+            "{text}"
+        );
+    }
+    Ok(())
+}
+
+#[test]
+fn tells_why_types_make_no_schema(rt: HostRuntime) -> Result<(), Fail> {
+    for (text, fault) in BUILDS {
+        let told = fault_of(rt.alloc(), text)?;
+        assert!(rt; told == Some(SchemaReadError::Schema(fault)), "{text}");
+    }
+    Ok(())
+}
+
+/// ProseMirror's basic schema with its lists, in this form.
+const BASIC: &str =
+    "{\"nodes\":[{\"name\":\"doc\",\"content\":\"block+\"},{\"name\":\"paragraph\",\"content\":\"inline*\",\"group\":\"block\"},{\"name\":\"blockquote\",\"content\":\"block+\",\"group\":\"block\"},{\"name\":\"horizontal_rule\",\"group\":\"block\"},{\"name\":\"heading\",\"content\":\"inline*\",\"group\":\"block\",\"attrs\":{\"level\":{\"default\":1}}},{\"name\":\"code_block\",\"content\":\"text*\",\"group\":\"block\",\"marks\":\"\"},{\"name\":\"text\",\"group\":\"inline\"},{\"name\":\"image\",\"group\":\"inline\",\"inline\":true,\"attrs\":{\"src\":{},\"alt\":{\"default\":null},\"title\":{\"default\":null}}},{\"name\":\"hard_break\",\"group\":\"inline\",\"inline\":true},{\"name\":\"ordered_list\",\"content\":\"list_item+\",\"group\":\"block\",\"attrs\":{\"order\":{\"default\":1}}},{\"name\":\"bullet_list\",\"content\":\"list_item+\",\"group\":\"block\"},{\"name\":\"list_item\",\"content\":\"paragraph block*\"}],\"marks\":[{\"name\":\"link\",\"attrs\":{\"href\":{},\"title\":{\"default\":null}},\"inclusive\":false},{\"name\":\"em\"},{\"name\":\"strong\"},{\"name\":\"code\"}]}";
+
+#[test]
+fn accepts_the_basic_schema_with_lists(rt: HostRuntime) -> Result<(), Fail> {
+    let alloc = rt.alloc();
+    let json = Value::from_str(alloc, BASIC)?;
+    let schema = read_schema(alloc, &json)?;
+    assert!(rt; schema.node_named("list_item") == Some(11));
+    assert!(rt; schema.mark_named("code") == Some(3));
+    Ok(())
+}
