@@ -1,0 +1,16 @@
+//! Tests of nodes, marks, slices and steps as JSON. Each is a row of a table: a text that is read, and the text that is written
+//! of what was read, or the first fault.
+#![tactic(auto)]
+
+#[cfg(test)]
+mod again;
+#[cfg(test)]
+mod nodes;
+#[cfg(test)]
+mod rows;
+#[cfg(test)]
+mod slices;
+#[cfg(test)]
+mod steps;
+#[cfg(test)]
+mod unread;
