@@ -1,0 +1,26 @@
+//! Tests of replacing, fitting and applying, of steps that are carried and steps that are taken back, on documents that are
+//! written as short texts. Each is a row of a table, and what it wants was worked out by hand from the rules.
+#![tactic(auto)]
+
+#[cfg(test)]
+mod applying;
+#[cfg(test)]
+mod carrying;
+#[cfg(test)]
+mod changes;
+#[cfg(test)]
+mod fitting;
+#[cfg(test)]
+mod letters;
+#[cfg(test)]
+mod parts;
+#[cfg(test)]
+mod replacing;
+#[cfg(test)]
+mod rows;
+#[cfg(test)]
+mod sample;
+#[cfg(test)]
+mod templates;
+#[cfg(test)]
+mod undoing;
