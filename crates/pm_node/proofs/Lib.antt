@@ -8,5 +8,7 @@ pub mod ValueLaws
 pub mod AutoWalk
 pub mod ValidAnswers
 pub mod PlaceLaws
+pub mod ChangeLaws
+pub mod HoldLaws
 pub mod FillLaws
 pub mod FilledLaws

@@ -5,5 +5,6 @@ pub mod Documents
 pub mod Kinds
 pub mod Checks
 pub mod Places
+pub mod Changes
 pub mod Filled
 pub mod Sizes

@@ -1,6 +1,7 @@
 //! Documents as trees, which contracts see as lists of tokens.
 #![tactic(auto)]
 
+mod around;
 mod check;
 mod depth;
 mod document;
@@ -14,6 +15,7 @@ mod rules;
 mod units;
 mod values;
 
+pub use around::{Change, stays_valid_around};
 pub use check::{MAX_DEPTH, MAX_SIZE, text_alone};
 pub use document::Document;
 pub use fault::CheckError;

@@ -1,0 +1,193 @@
+//! The check of a change by the innermost node around it.
+ghost use Rattle.std.specs.Prelude.{◌<◌, ◌≤◌, ◌^◌, length, IsTrue, IfSome};
+ghost use Rattle.pm_schema.specs.Documents.{documents_of};
+ghost use Rattle.pm_node.specs.Trees.{node_tokens, list_tokens};
+ghost use Rattle.pm_node.specs.Changes.{Holds, Keeps, NodeKeeps, IsPlace, IsSameBehind};
+
+use crate::check::nodes_fault;
+use crate::depth::nests_within;
+use crate::node::{Body, Fragment, Node};
+use crate::pairs::first_broken;
+use crate::rules::accepts;
+use pm_auto::TypeId;
+use pm_schema::Schema;
+use std::alloc::Global;
+use std::sync::Arc;
+
+/// Where two contents differ: the tokens from..to of the one are from..new_to of the other.
+#[derive(Clone, Copy)]
+pub struct Change {
+    pub from: usize,
+    pub to: usize,
+    pub new_to: usize,
+}
+
+/// Two nodes that begin at one place, by their numbers in two lists.
+#[derive(Drop)]
+struct Pair {
+    start: usize,
+    before: usize,
+    after: usize,
+}
+
+/// Whether content that had no fault before a change has none after it, told by a check of the innermost node around the
+/// change alone. `false` says nothing: there may be a fault, or no memory for the check.
+#[cycle(around)]
+pub fn stays_valid_around(
+    alloc: Global,
+    schema: &Schema,
+    kind: TypeId,
+    before: &Fragment,
+    after: &Fragment,
+    change: Change,
+    levels: usize,
+) -> bool
+    requires order { change.from ≤ change.to }
+    requires new_order { change.from ≤ change.new_to }
+    ensures { IsTrue result → Keeps (documents_of schema.now.spec) kind levels before.now after.now change.from change.to change.new_to }
+{
+    let _ = before.size();
+    let _ = after.size();
+    let old = before.children();
+    let new = after.children();
+    match child_around(old, new, change) {
+        Some(pair) => {
+            let inner = Change {
+                from: change.from - pair.start,
+                to: change.to - pair.start,
+                new_to: change.new_to - pair.start,
+            };
+            node_stays_valid(
+                alloc,
+                schema,
+                &old[pair.before],
+                &new[pair.after],
+                inner,
+                levels,
+            )
+        }
+        None => content_holds(alloc, schema, kind, after, levels),
+    }
+}
+
+/// The same for a node, whose content the change is in. The change is told from the node's first token on.
+#[cycle(around)]
+fn node_stays_valid(
+    alloc: Global,
+    schema: &Schema,
+    before: &Node,
+    after: &Node,
+    change: Change,
+    levels: usize,
+) -> bool
+    requires inside { 0 < change.from }
+    requires order { change.from ≤ change.to }
+    requires new_order { change.from ≤ change.new_to }
+    ensures { IsTrue result → NodeKeeps (documents_of schema.now.spec) levels (node_tokens before.now) (node_tokens after.now) change.from change.to change.new_to }
+{
+    match (&before.body, &after.body) {
+        (Body::Children(old), Body::Children(new)) => {
+            let inner = Change {
+                from: change.from - 1,
+                to: change.to - 1,
+                new_to: change.new_to - 1,
+            };
+            if levels == 0 {
+                return false;
+            }
+            if !same_behind(old.size(), inner.to, new.size(), inner.new_to) {
+                return false;
+            }
+            stays_valid_around(alloc, schema, before.kind, old, new, inner, levels - 1)
+        }
+        _ => false,
+    }
+}
+
+/// Whether both ends are within their sizes, with as many tokens behind them.
+fn same_behind(size: usize, to: usize, new_size: usize, new_to: usize) -> bool
+    ensures { IsTrue result → IsSameBehind size to new_size new_to }
+{
+    to <= size && new_to <= new_size && size - to == new_size - new_to
+}
+
+/// The node around a change in both of two lists, unless it is a text or a leaf in one of them.
+fn child_around(
+    old: &[Arc<Node, Global>],
+    new: &[Arc<Node, Global>],
+    change: Change,
+) -> Option<Pair>
+    requires room { length (list_tokens old.now) < 2 ^ 32 }
+    requires new_room { length (list_tokens new.now) < 2 ^ 32 }
+    requires order { change.from ≤ change.to }
+    ensures before { IfSome result (λ p. IsPlace old.now p.before p.start) }
+    ensures after { IfSome result (λ p. IsPlace new.now p.after p.start) }
+    ensures inside { IfSome result (λ p. p.start < change.from) }
+{
+    let (before, start) = child_at(old, change.from)?;
+    let (after, new_start) = child_at(new, change.from)?;
+    let inside = start == new_start
+        && start < change.from
+        && change.to - start < old[before].size()
+        && is_inner(&old[before])
+        && is_inner(&new[after]);
+    if inside {
+        Some(Pair {
+            start,
+            before,
+            after,
+        })
+    } else {
+        None
+    }
+}
+
+/// The number of the child that has the token at a position, and where its first token stands.
+fn child_at(children: &[Arc<Node, Global>], position: usize) -> Option<(usize, usize)>
+    requires { length (list_tokens children.now) < 2 ^ 32 }
+    ensures { IfSome result (λ p. IsPlace children.now p.0 p.1) }
+{
+    let mut start = 0;
+    for (i, child) in children.iter().enumerate() {
+        let size = child.size();
+        if position < start + size {
+            return Some((i, start));
+        }
+        start += size;
+    }
+    None
+}
+
+/// Whether the node holds nodes.
+fn is_inner(node: &Node) -> bool {
+    matches!(node.body, Body::Children(_))
+}
+
+/// Whether content of a node of the type has no fault. Want of memory counts as a fault.
+fn content_holds(
+    alloc: Global,
+    schema: &Schema,
+    kind: TypeId,
+    content: &Fragment,
+    levels: usize,
+) -> bool
+    ensures { IsTrue result → Holds (documents_of schema.now.spec) kind levels content.now }
+{
+    let _ = content.size();
+    if kind >= schema.node_count() {
+        return false;
+    }
+    if !accepts(schema, kind, content) {
+        return false;
+    }
+    if !nests_within(content, levels) {
+        return false;
+    }
+    if let Some(_) = first_broken(content, 0) {
+        return false;
+    }
+    match nodes_fault(alloc, schema, kind, content, 0) {
+        Ok(()) => true,
+        Err(_) => false,
+    }
+}
