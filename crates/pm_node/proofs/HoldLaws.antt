@@ -1,6 +1,6 @@
 -- Content without a fault is that of a valid document.
-use Rattle.std.specs.Prelude.{◌≡◌, ℕ, ◌+◌, Bool, true, ◌&&◌, Option, Some, None, List, [], ◌∷◌}
-use Rattle.std.proofs.Common.{refl, ap, sym, ◌∙◌}
+use Rattle.std.specs.Prelude.{◌≡◌, ℕ, ◌+◌, true, ◌&&◌, Option, Some, None, List, [], ◌∷◌}
+use Rattle.std.proofs.Common.{refl, ap, ◌∙◌}
 use Rattle.pm_tokens.specs.Tokens.{Marks, Token, Doc, with_tokens}
 use Rattle.pm_tokens.specs.Schemas.{Schema, max_depth}
 use Rattle.pm_tokens.specs.Scan.{head_of}

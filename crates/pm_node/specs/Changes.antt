@@ -1,5 +1,5 @@
 -- What a change of some tokens of a content keeps.
-use Rattle.std.specs.Prelude.{◌≡◌, ◌≤◌, ◌<◌, ℕ, ◌+◌, ◌-◌, Option, None, List, ◌∷◌, ◌++◌, length, take, drop, true}
+use Rattle.std.specs.Prelude.{◌≡◌, ◌≤◌, ◌<◌, ℕ, ◌+◌, ◌-◌, None, List, ◌∷◌, ◌++◌, length, take, drop, true}
 use Rattle.std.specs.declared.sync.Arc.{Arc}
 use Rattle.pm_tokens.specs.Tokens.{Token}
 use Rattle.pm_tokens.specs.Schemas.{Schema}

@@ -1,4 +1,4 @@
-use Rattle.std.proofs.Common.{◌≡◌, [], ap, sym, ◌∙◌}
+use Rattle.std.proofs.Common.{[], ap, sym, ◌∙◌}
 use Rattle.std.specs.Prelude.{None, option_map}
 use Rattle.pm_tokens.specs.Faults.{first_broken, Pair}
 use Rattle.pm_schema.specs.Documents.{documents_of}
