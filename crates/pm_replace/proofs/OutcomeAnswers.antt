@@ -1,19 +1,21 @@
 -- What the tests of a replace, in their order, say of its outcome.
-use Rattle.std.specs.Prelude.{◌≡◌, ℕ, ◌+◌, ◌-◌, ◌≤◌, ◌<◌, ◌==◌, Bool, true, false, ◌&&◌, not, nat_le, List, [], ◌∷◌, length, Result, Err}
+use Rattle.std.specs.Prelude.{◌≡◌, ℕ, ◌+◌, ◌-◌, ◌≤◌, ◌<◌, ◌==◌, Bool, true, false, ◌&&◌, not, nat_le, List, [], ◌∷◌, length, Result, Ok, Err}
 use Rattle.std.proofs.Common.{refl, ap, sym, ◌∙◌, subst, arith}
 use Rattle.std.proofs.lemmas.Bool.{leb-true, le-leb, lt-leb, ne_eqb}
 use Rattle.pm_tokens.specs.Tokens.{Attrs, Marks, Token, Doc, with_tokens}
 use Rattle.pm_node.specs.declared.node.Node.{Node}
 use Rattle.pm_node.specs.Documents.{doc_with}
+use Rattle.pm_node.specs.Changes.{Changed, Keeps}
+use Rattle.pm_node.proofs.HoldLaws.{valid-holds, holds-place}
 use Rattle.pm_tokens.specs.Schemas.{Schema, compatible, max_size, max_depth}
 use Rattle.pm_tokens.specs.Scan.{Owned, plain, joins, depth_at, parts_pair, deepest, Balanced}
-use Rattle.pm_tokens.specs.Faults.{fault_place}
-use Rattle.pm_tokens.specs.Slices.{Slice, is_slice, slice_size, spliced, depths_fit}
+use Rattle.pm_tokens.specs.Faults.{Valid, fault_place}
+use Rattle.pm_tokens.specs.Slices.{Slice, is_slice, slice_size, slice_tokens, spliced, depths_fit}
 use Rattle.pm_tokens.proofs.ScanLaws.{and-true}
-use Rattle.pm_tokens.proofs.PartLaws.{slice-is}
+use Rattle.pm_tokens.proofs.PartLaws.{slice-is, slice-length}
 use Rattle.pm_tokens.proofs.BalanceLaws.{balanced-whole}
 use Rattle.pm_meaning.proofs.ReplaceLaws.{depths-of, of-depths}
-use Rattle.pm_tokens.proofs.SpliceLaws.{spliced-size}
+use Rattle.pm_tokens.proofs.SpliceLaws.{spliced-plain, spliced-size}
 use Rattle.pm_meaning.specs.declared.reason.Reason.{Reason}
 use Rattle.pm_meaning.specs.declared.reason.Reason.TheVariants.{Range, Depth, Pair, Join, Large, Deep}
 use Rattle.pm_meaning.specs.Steps.{Replace}
@@ -50,6 +52,14 @@ module _ (s : Schema) (d : Doc) (size : length d.tokens ≤ max_size) where
 
   pub by-place : deepest 0 d.tokens ≤ max_depth → checked s d ≡ unless_fault (fault_place s d) d
   by-place h = passes (nat_le (length d.tokens) max_size) Large _ fits ∙ passes (nat_le (deepest 0 d.tokens) max_depth) Deep _ (le-leb (deepest 0 d.tokens) max_depth h)
+
+-- where what is around a change stays without a fault, so does the document
+pub stays-checked : (s : Schema) (n : Node) (before after : List Token) (from to new_to : ℕ) → Valid s (doc_with n before) → Changed before after from to new_to → Keeps s n.kind max_depth before after from to new_to
+    → length after ≤ max_size → checked s (doc_with n after) ≡ Ok (doc_with n after)
+stays-checked s n before after from to new_to v c keep l =
+    let d = doc_with n before in
+    let h = keep c (valid-holds s d v) in
+    by-place s (doc_with n after) l h.shallow ∙ ap (λ p. unless_fault p (doc_with n after)) (holds-place s d after v h)
 
 -- ---- replace
 
@@ -151,9 +161,19 @@ large-splice s ts from to sl b w h i e =
     let d = depths-of ts from to sl e in
     spliced-size (compatible s) ts from to sl (balanced-whole b) (slice-is sl w) h i d.0 d.1
 
+-- what a splice changes: the range, for the slice's own tokens
+pub spliced-changed : (s : Schema) (ts made : List Token) (from to new_to : ℕ) (sl : Slice) → Balanced ts → is_slice sl ≡ true → from ≤ to → to ≤ length ts → depths_fit ts from to sl ≡ true
+    → made ≡ plain (spliced ts from to sl) → new_to ≡ from + slice_size sl → Changed ts made from to new_to
+spliced-changed s ts made from to new_to sl b w h i e is n =
+    let d = depths-of ts from to sl e in
+    record {
+      put_in = slice_tokens sl;
+      ends = omega (arith, n, slice-length sl (slice-is sl w));
+      is = is ∙ spliced-plain (compatible s) ts from to sl (balanced-whole b) (slice-is sl w) h i d.0 d.1;
+    }
+
 -- a document with the head of a node and other content
-pub same-head : (s : Schema) (n : Node) (ts : List Token) (attrs : Attrs) (marks : Marks) (d : Doc) (r : Result Doc (Failed Reason)) → attrs ≡ n.attrs → marks ≡ n.marks
-    → d ≡ (let e : Doc = record { kind = n.kind; attrs = attrs; marks = marks; tokens = ts } in e) → Answers (checked s d) r → Answers (checked s (doc_with n ts)) r
-same-head s n ts attrs marks d r a m e h =
-    let same : d ≡ doc_with n ts = e ∙ (ap (λ z. (let e : Doc = record { kind = n.kind; attrs = z; marks = marks; tokens = ts } in e)) a ∙ ap (λ z. (let e : Doc = record { kind = n.kind; attrs = n.attrs; marks = z; tokens = ts } in e)) m) in
-    subst (λ z. Answers (checked s z) r) same h
+pub same-head : (n : Node) (ts : List Token) (attrs : Attrs) (marks : Marks) (d : Doc) → attrs ≡ n.attrs → marks ≡ n.marks
+    → d ≡ (let e : Doc = record { kind = n.kind; attrs = attrs; marks = marks; tokens = ts } in e) → d ≡ doc_with n ts
+same-head n ts attrs marks d a m e =
+    e ∙ (ap (λ z. (let e : Doc = record { kind = n.kind; attrs = z; marks = marks; tokens = ts } in e)) a ∙ ap (λ z. (let e : Doc = record { kind = n.kind; attrs = n.attrs; marks = z; tokens = ts } in e)) m)

@@ -1,8 +1,8 @@
 -- What splicing gives.
-use Rattle.std.specs.Prelude.{◌≡◌, ℕ, Bool, true, false, List, [], Result, MatchResult}
+use Rattle.std.specs.Prelude.{◌≡◌, ◌≤◌, ℕ, Bool, true, false, List, [], length, Result, MatchResult}
 use Rattle.pm_tokens.specs.Tokens.{Token, Doc, with_tokens}
 use Rattle.pm_tokens.specs.Scan.{Owned, plain, joins}
-use Rattle.pm_tokens.specs.Schemas.{Schema, compatible}
+use Rattle.pm_tokens.specs.Schemas.{Schema, compatible, max_size}
 use Rattle.pm_build.specs.Fed.{ForJoin}
 use Rattle.pm_build.specs.declared.refused.Refused.{Refused}
 use Rattle.pm_build.specs.declared.refused.Refused.TheVariants as refused
@@ -28,3 +28,9 @@ failed_of refused.NoMemory = failed.NoMemory
 -- the document with these tokens, where they join and have no fault
 abbrev pub spliced_outcome : Schema → Doc → List Owned → Result Doc Reason
 spliced_outcome s d piece = unless (joins (compatible s) [] piece) reason.Join (checked s (with_tokens d (plain piece)))
+
+-- the list joins, and these are its tokens, which are not too many for a document
+pub record Made (s : Schema) (piece : List Owned) (ts : List Token) : Type 0 where
+  pub joined : joins (compatible s) [] piece ≡ true
+  pub is : ts ≡ plain piece
+  pub size : length ts ≤ max_size

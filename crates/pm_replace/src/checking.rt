@@ -1,15 +1,18 @@
 //! The check of a document that a step made.
+ghost use Rattle.std.specs.Prelude.{◌≡◌, ◌≤◌, length, IfOk};
 ghost use Rattle.pm_change.specs.Failing.{Answers};
 ghost use Rattle.pm_meaning.specs.Outcomes.{checked};
 ghost use Rattle.pm_node.specs.Documents.{doc_with};
+ghost use Rattle.pm_node.specs.Changes.{Changed};
 ghost use Rattle.pm_schema.specs.Documents.{documents_of};
+ghost use Rattle.pm_tokens.specs.Faults.{Valid};
 
 use pm_change::Failed;
 use pm_marks::Same;
 use pm_meaning::Reason;
-use pm_node::{Body, Document, Fragment, MAX_DEPTH, MAX_SIZE, Node};
+use pm_node::{Body, Change, Document, Fragment, MAX_DEPTH, MAX_SIZE, Node, stays_valid_around};
 use pm_schema::Schema;
-use std::alloc::Global;
+use std::alloc::{AllocError, Global};
 
 /// The document, unless it has more than 500,000 tokens (Large), a position is in more than 48 nodes (Deep), or a node or
 /// unit has a fault of attributes, marks or children or is a broken unit (Content, with the least such place).
@@ -40,6 +43,39 @@ pub fn checked_content(
 ) -> Result<Document, Failed<Reason>>
     ensures { Answers (checked (documents_of schema.now.spec) (doc_with top.now content)) result }
 {
+    let next = document_with(alloc, top, content)?;
+    checked(alloc, schema, next)
+}
+
+/// The same, where a valid document had the content `before` and the change from it is known. The node around the change is
+/// checked alone: only where that does not tell that there is no fault the whole document is.
+pub fn checked_change(
+    alloc: Global,
+    schema: &Schema,
+    top: &Node,
+    before: &Fragment,
+    content: Fragment,
+    change: Change,
+) -> Result<Document, Failed<Reason>>
+    requires valid { Valid (documents_of schema.now.spec) (doc_with top.now before.now) }
+    requires changed { Changed before.now content change.from change.to change.new_to }
+    requires order { change.from ≤ change.to }
+    requires new_order { change.from ≤ change.new_to }
+    requires size { length content ≤ MAX_SIZE }
+    ensures { Answers (checked (documents_of schema.now.spec) (doc_with top.now content)) result }
+{
+    let stays = stays_valid_around(alloc, schema, top.kind, before, &content, change, MAX_DEPTH);
+    if !stays {
+        return checked_content(alloc, schema, top, content);
+    }
+    let next = document_with(alloc, top, content)?;
+    Ok(next)
+}
+
+/// The document with the type, attributes and marks of a node and this content.
+fn document_with(alloc: Global, top: &Node, content: Fragment) -> Result<Document, AllocError>
+    ensures { IfOk result (λ d. d ≡ doc_with top.now content) }
+{
     let attrs = top.attrs.copy(alloc)?;
     let marks = top.marks.copy(alloc)?;
     let next = Node {
@@ -49,5 +85,5 @@ pub fn checked_content(
         body: Body::Children(content),
     };
     let next = Document::new(alloc, next)?;
-    checked(alloc, schema, next)
+    Ok(next)
 }

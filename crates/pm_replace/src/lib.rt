@@ -7,8 +7,8 @@ mod refusing;
 mod replacing;
 mod splicing;
 
-pub use checking::{checked, checked_content};
+pub use checking::{checked, checked_change, checked_content};
 pub use pm_meaning::Reason;
 pub use refusing::failed;
-pub use replacing::{replace, splice_document};
+pub use replacing::{replace, splice_document, splice_valid};
 pub use splicing::{join, splice};

@@ -1,5 +1,6 @@
 //! Replacing a range by a slice.
-ghost use Rattle.std.specs.Prelude.{◌≡◌, ◌≤◌, true, false, length};
+ghost use Rattle.std.specs.Prelude.{◌≡◌, ◌≤◌, true, false, length, Err, IfOk, IfErr};
+ghost use Rattle.pm_tokens.specs.Tokens.{Doc};
 ghost use Rattle.pm_tokens.specs.Slices.{spliced, depths_fit};
 ghost use Rattle.pm_tokens.specs.Faults.{Valid};
 ghost use Rattle.pm_change.specs.Failing.{Answers};
@@ -7,15 +8,15 @@ ghost use Rattle.pm_meaning.specs.Steps.{Replace};
 ghost use Rattle.pm_meaning.specs.Outcomes.{outcome};
 ghost use Rattle.pm_node.specs.Documents.{doc_of, doc_with};
 ghost use Rattle.pm_schema.specs.Documents.{documents_of};
-ghost use Rattle.pm_replace.specs.Splices.{spliced_outcome};
+ghost use Rattle.pm_replace.specs.Splices.{spliced_outcome, Made};
 
-use crate::checking::checked_content;
+use crate::checking::{checked_change, checked_content};
 use crate::refusing::failed;
 use crate::splicing::{join, splice};
 use pm_build::{depth_at, parts_pair};
 use pm_change::Failed;
 use pm_meaning::Reason;
-use pm_node::{Body, Document, Fragment, MAX_SIZE, Node, text_alone};
+use pm_node::{Body, Change, Document, Fragment, MAX_SIZE, Node, text_alone};
 use pm_schema::Schema;
 use pm_slice::Slice;
 use std::alloc::Global;
@@ -74,6 +75,7 @@ fn replace_in(
     to: usize,
     slice: &Slice,
 ) -> Result<Document, Failed<Reason>>
+    requires { Valid (documents_of schema.now.spec) (doc_with top.now content.now) }
     ensures { Answers (outcome (documents_of schema.now.spec) (Replace from to slice.now false) (doc_with top.now content.now)) result }
 {
     let size = content.size();
@@ -100,7 +102,7 @@ fn replace_in(
     if parts_pair(content, to) {
         return Err(Failed::Reason(Reason::Pair));
     }
-    splice_document(alloc, schema, top, content, from, to, slice)
+    splice_valid(alloc, schema, top, content, from, to, slice)
 }
 
 /// The document with the top node's type, attributes and marks and this content, with the range from..to replaced by the
@@ -120,6 +122,51 @@ pub fn splice_document(
     requires fits { depths_fit content.now from to slice.now ≡ true }
     ensures { Answers (spliced_outcome (documents_of schema.now.spec) (doc_with top.now content.now) (spliced content.now from to slice.now)) result }
 {
+    let made = splice_within(alloc, schema, content, from, to, slice)?;
+    checked_content(alloc, schema, top, made)
+}
+
+/// The same of a valid document, in which a change is checked by the node around it where that is enough.
+pub fn splice_valid(
+    alloc: Global,
+    schema: &Schema,
+    top: &Node,
+    content: &Fragment,
+    from: usize,
+    to: usize,
+    slice: &Slice,
+) -> Result<Document, Failed<Reason>>
+    requires valid { Valid (documents_of schema.now.spec) (doc_with top.now content.now) }
+    requires order { from ≤ to }
+    requires within { to ≤ length content.now }
+    requires fits { depths_fit content.now from to slice.now ≡ true }
+    ensures { Answers (spliced_outcome (documents_of schema.now.spec) (doc_with top.now content.now) (spliced content.now from to slice.now)) result }
+{
+    let _ = content.size();
+    let made = splice_within(alloc, schema, content, from, to, slice)?;
+    let change = Change {
+        from,
+        to,
+        new_to: from + slice.size(),
+    };
+    checked_change(alloc, schema, top, content, made, change)
+}
+
+/// The content with the range from..to replaced by the slice, or the first reason why not, in the order Join, Large.
+fn splice_within(
+    alloc: Global,
+    schema: &Schema,
+    content: &Fragment,
+    from: usize,
+    to: usize,
+    slice: &Slice,
+) -> Result<Fragment, Failed<Reason>>
+    requires order { from ≤ to }
+    requires within { to ≤ length content.now }
+    requires fits { depths_fit content.now from to slice.now ≡ true }
+    ensures made { IfOk result (λ ts. Made (documents_of schema.now.spec) (spliced content.now from to slice.now) ts) }
+    ensures refused { IfErr result (λ e. (d : Doc) → Answers (spliced_outcome (documents_of schema.now.spec) d (spliced content.now from to slice.now)) (Err e)) }
+{
     let size = content.size();
     let added = slice.size();
     let total = from + added + (size - to);
@@ -130,7 +177,7 @@ pub fn splice_document(
         };
     }
     match splice(alloc, schema, content, from, to, slice) {
-        Ok(made) => checked_content(alloc, schema, top, made),
+        Ok(made) => Ok(made),
         Err(refused) => Err(failed(refused)),
     }
 }

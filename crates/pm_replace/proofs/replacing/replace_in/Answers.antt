@@ -40,8 +40,9 @@ returns-then-parts_pair-2 c =
     pair-to (documents_of c.args.schema.now.spec) (doc_with c.args.top.now c.args.content.now) c.args.from c.args.to c.args.slice.now c.size.ensures.slice
     c.if-to-from.false (omega (arith, c.if-size-to.false, c.size-size.ensures.size)) fits (sym c.parts_pair-2.ensures ∙ c.if-parts_pair-2.true)
 
-pub splice_document-requires : goal.splice_document-requires
-splice_document-requires c = record {
+pub splice_valid-requires : goal.splice_valid-requires
+splice_valid-requires c = record {
+  valid = c.requires;
   order = c.if-to-from.false;
   within = omega (arith, c.if-size-to.false, c.size-size.ensures.size);
   fits = fit-depths c.args.content.now c.args.from c.args.to c.args.slice.now c.depth_at-left.result c.depth_at-right.result c.open_start-start.result c.open_end-end.result
@@ -52,6 +53,6 @@ pub returns : goal.returns
 returns c =
     let fits = fit-depths c.args.content.now c.args.from c.args.to c.args.slice.now c.depth_at-left.result c.depth_at-right.result c.open_start-start.result c.open_end-end.result
     c.depth_at-left.ensures.depth c.depth_at-right.ensures.depth c.open_start-start.ensures.side c.open_end-end.ensures.side c.if-left-start.false c.if-left-end.false in
-    joined-answers (documents_of c.args.schema.now.spec) (doc_with c.args.top.now c.args.content.now) c.args.from c.args.to c.args.slice.now c.splice_document.result c.size.ensures.slice
+    joined-answers (documents_of c.args.schema.now.spec) (doc_with c.args.top.now c.args.content.now) c.args.from c.args.to c.args.slice.now c.splice_valid.result c.size.ensures.slice
     c.if-to-from.false (omega (arith, c.if-size-to.false, c.size-size.ensures.size)) fits (sym c.parts_pair.ensures ∙ c.if-parts_pair.false) (sym c.parts_pair-2.ensures ∙ c.if-parts_pair-2.false)
-    c.splice_document.ensures
+    c.splice_valid.ensures

@@ -1,21 +1,23 @@
-use Rattle.std.proofs.Common.{arith}
+use Rattle.std.specs.Prelude.{Err}
+use Rattle.std.proofs.lemmas.Result.{err_from_is_err_and}
 use Rattle.pm_tokens.specs.Slices.{spliced}
+use Rattle.pm_change.specs.Failing.{Answers}
 use Rattle.pm_schema.specs.Documents.{documents_of}
 use Rattle.pm_node.specs.Documents.{doc_with}
-use Rattle.pm_replace.proofs.OutcomeAnswers.{large-answers, large-splice}
+use Rattle.pm_replace.specs.Splices.{spliced_outcome}
+use Rattle.pm_replace.proofs.OutcomeAnswers.{made-answers}
 use Rattle.pm_replace.proofs.replacing.splice_document.Goals as goal
 
-pub splice-requires : goal.splice-requires
-splice-requires c = record {
-  order = c.requires.order;
-  within = c.requires.within;
-  fits = c.requires.fits;
-  room = omega (arith, c.if-total-gt-MAX_SIZE.false, c.size-size.ensures.size, c.size-added.ensures.size);
-}
+pub returns : goal.returns
+returns c =
+    let m = c.in_ok-made.ensures in
+    made-answers (documents_of c.args.schema.now.spec) (doc_with c.args.top.now c.args.content.now) (spliced c.args.content.now c.args.from c.args.to c.args.slice.now) c.in_ok-made.made c.checked_content.result
+    (m.made.joined, m.made.is) c.checked_content.ensures
 
-pub returns-in-Ok : goal.returns-in-Ok
-returns-in-Ok c =
+pub returns-in_err-made : goal.returns-in_err-made
+returns-in_err-made c =
     let s = documents_of c.args.schema.now.spec in
-    let e = large-splice s c.args.content.now c.args.from c.args.to c.args.slice.now c.size-size.ensures.whole c.size-added.ensures.slice c.requires.order c.requires.within c.requires.fits in
-    large-answers s (doc_with c.args.top.now c.args.content.now) (spliced c.args.content.now c.args.from c.args.to c.args.slice.now) c.in-Ok.ensures
-    (omega (arith, e, c.requires.order, c.requires.within, c.if-total-gt-MAX_SIZE.true, c.size-size.ensures.size, c.size-added.ensures.size))
+    let d = doc_with c.args.top.now c.args.content.now in
+    let p = err_from_is_err_and c.from_residual.result c.from_residual.ensures.1 in
+    let answers : Answers (spliced_outcome s d (spliced c.args.content.now c.args.from c.args.to c.args.slice.now)) (Err c.in_err-made.field-0.0) = c.in_err-made.ensures.refused d in
+    rw (p.1, p.2) answers
