@@ -59,7 +59,7 @@ fn copy_exprs(alloc: Global, items: &[Expr]) -> Result<Vec<Expr>, AllocError>
 pub fn copy_plain<T: Copy + Drop>(alloc: Global, items: &[T]) -> Result<Listed<T>, AllocError>
     ensures { IfOk result (λ l. l ≡ items.now) }
 {
-    let mut copies = Listed::new(alloc);
+    let mut copies = Listed::from_vec(Vec::with_capacity(alloc, items.len())?);
     for item in items {
         copies.push(*item)?;
     }

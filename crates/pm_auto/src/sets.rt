@@ -48,11 +48,22 @@ fn mark(marks: &mut Vec<bool>, numbers: &[usize])
     }
 }
 
-/// The marked numbers, ascending.
+/// How many marks are set.
+fn count(marks: &[bool]) -> usize {
+    let mut count: usize = 0;
+    for marked in marks {
+        if *marked {
+            count = count.saturating_add(1);
+        }
+    }
+    count
+}
+
+/// The marked numbers, ascending. They are counted first, so that the list takes memory once.
 fn choose(alloc: Global, marks: &[bool]) -> Result<Listed<usize>, AllocError>
     ensures { IfOk result (λ l. l ≡ chosen 0 marks.now) }
 {
-    let mut list = Listed::new(alloc);
+    let mut list = Listed::from_vec(Vec::with_capacity(alloc, count(marks))?);
     for (number, marked) in marks.iter().enumerate() {
         if *marked {
             list.push(number)?;
