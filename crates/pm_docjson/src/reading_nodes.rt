@@ -221,7 +221,7 @@ fn node_list(
 ) -> Result<Vec<Node>, DocReadError>
     ensures { Gives (λ v. nodes_tokens v.items) result (node_list schema.now.spec leaves (items_view items.now)) }
 {
-    let mut nodes = Vec::new(alloc);
+    let mut nodes = Vec::with_capacity(alloc, items.len())?;
     for item in items {
         nodes.push(node_of(alloc, schema, leaves, item)?)?;
     }
