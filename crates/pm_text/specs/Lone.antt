@@ -22,6 +22,10 @@ is_lone before unit after = (is_high_surrogate unit || is_low_surrogate unit) &&
 abbrev pub is_lone_at : List ℕ → ℕ → Bool
 is_lone_at units i = is_lone (unit_before units i) (slice_index units i) (slice_index units (suc i))
 
+-- no unit is a surrogate
+abbrev pub HasNoSurrogate : List ℕ → Type 0
+HasNoSurrogate units = (i : ℕ) → (is_high_surrogate (slice_index units i) || is_low_surrogate (slice_index units i)) ≡ false
+
 -- no unit is lone
 abbrev pub HasNoLone : List ℕ → Type 0
 HasNoLone units = (i : ℕ) → is_lone_at units i ≡ false

@@ -1,7 +1,7 @@
 //! Surrogate units: pairs, and lone ones.
-ghost use Rattle.std.specs.Prelude.{◌≡◌, ◌<◌, length, not, slice_index, IfSome, IsNone};
+ghost use Rattle.std.specs.Prelude.{◌≡◌, ◌<◌, ◌||◌, false, length, not, slice_index, IfSome, IsNone};
 ghost use Rattle.std.specs.Char.Utf16.{is_high_surrogate, is_low_surrogate};
-ghost use Rattle.pm_text.specs.Lone.{is_pair, is_lone_at, unit_before, parts_pair, HasNoLone, IsFirstLone};
+ghost use Rattle.pm_text.specs.Lone.{is_pair, is_lone_at, unit_before, parts_pair, HasNoLone, HasNoSurrogate, IsFirstLone};
 
 /// Whether the place `at`, counted in units, does not part a pair: it is not between a high surrogate and a low one.
 /// A place at an end or past it parts none.
@@ -16,12 +16,27 @@ pub fn first_lone(units: &[u16]) -> Option<usize>
     ensures found { IfSome result (λ at. IsFirstLone units.now at) }
     ensures none { IsNone result → HasNoLone units.now }
 {
+    if !has_surrogate(units) {
+        return None;
+    }
     for i in 0..units.len() {
         if is_lone_at(units, i) {
             return Some(i);
         }
     }
     None
+}
+
+/// Whether some unit is a surrogate. Most texts have none. It reads every unit and leaves the loop at none, so that the
+/// compiler can test many at once.
+fn has_surrogate(units: &[u16]) -> bool
+    ensures { result ≡ false → HasNoSurrogate units.now }
+{
+    let mut any = false;
+    for unit in units {
+        any |= is_surrogate(*unit);
+    }
+    any
 }
 
 /// Whether the unit at `i` is a surrogate in no pair.
@@ -56,6 +71,13 @@ fn is_pair(first: u16, second: u16) -> bool
     ensures { result ≡ is_pair first second }
 {
     is_high(first) && is_low(second)
+}
+
+/// The one or the other unit of a pair.
+fn is_surrogate(unit: u16) -> bool
+    ensures { result ≡ (is_high_surrogate unit || is_low_surrogate unit) }
+{
+    0xD800 <= unit && unit < 0xE000
 }
 
 /// The first unit of a pair.
