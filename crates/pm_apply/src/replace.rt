@@ -1,5 +1,6 @@
 //! Steps that replace a range by a slice.
 ghost use Rattle.pm_change.specs.Failing.{Answers};
+ghost use Rattle.pm_tokens.specs.Faults.{Valid};
 ghost use Rattle.pm_meaning.specs.Steps.{Replace};
 ghost use Rattle.pm_meaning.specs.Outcomes.{outcome};
 ghost use Rattle.pm_node.specs.Documents.{doc_with};
@@ -10,7 +11,7 @@ use pm_build::parts_pair;
 use pm_change::Failed;
 use pm_meaning::Reason;
 use pm_node::{Document, Fragment, Node};
-use pm_replace::splice_document;
+use pm_replace::splice_valid;
 use pm_schema::Schema;
 use pm_slice::Slice;
 use std::alloc::Global;
@@ -27,6 +28,7 @@ pub fn replace(
     slice: &Slice,
     structure: bool,
 ) -> Result<Document, Failed<Reason>>
+    requires { Valid (documents_of schema.now.spec) (doc_with top.now content.now) }
     ensures { Answers (outcome (documents_of schema.now.spec) (Replace from to slice.now structure) (doc_with top.now content.now)) result }
 {
     let _ = slice.size();
@@ -51,5 +53,5 @@ pub fn replace(
     if parts_pair(content, to) {
         return Err(Failed::Reason(Reason::Pair));
     }
-    splice_document(alloc, schema, top, content, from, to, slice)
+    splice_valid(alloc, schema, top, content, from, to, slice)
 }

@@ -38,8 +38,9 @@ returns-then-parts_pair-2 c =
     c.if-to-from.false (omega (arith, c.if-size-to.false, c.size-size.ensures.size)) (sym c.in_ok-keeps.ensures ∙ c.if-not-keeps.false)
     (sym c.sides_fit-fits.ensures ∙ c.if-not-fits.false) false (sym c.parts_pair.ensures ∙ c.if-parts_pair.false) (λ e. sym c.parts_pair-2.ensures ∙ c.if-parts_pair-2.true)
 
-pub splice_document-requires : goal.splice_document-requires
-splice_document-requires c = record {
+pub splice_valid-requires : goal.splice_valid-requires
+splice_valid-requires c = record {
+  valid = c.requires;
   order = c.if-to-from.false;
   within = omega (arith, c.if-size-to.false, c.size-size.ensures.size);
   fits = sym c.sides_fit-fits.ensures ∙ c.if-not-fits.false;
@@ -47,8 +48,8 @@ splice_document-requires c = record {
 
 pub returns : goal.returns
 returns c =
-    subst (λ z. Answers z c.splice_document.result)
+    subst (λ z. Answers z c.splice_valid.result)
     (sym (replace-spliced (documents_of c.args.schema.now.spec) (doc_with c.args.top.now c.args.content.now) c.args.from c.args.to c.args.slice.now c.args.structure c.size.ensures.slice
     c.if-to-from.false (omega (arith, c.if-size-to.false, c.size-size.ensures.size)) (sym c.in_ok-keeps.ensures ∙ c.if-not-keeps.false)
     (sym c.sides_fit-fits.ensures ∙ c.if-not-fits.false) (sym c.parts_pair.ensures ∙ c.if-parts_pair.false) (sym c.parts_pair-2.ensures ∙ c.if-parts_pair-2.false)))
-    c.splice_document.ensures
+    c.splice_valid.ensures
