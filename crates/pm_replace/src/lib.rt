@@ -10,5 +10,5 @@ mod splicing;
 pub use checking::{checked, checked_change, checked_content};
 pub use pm_meaning::Reason;
 pub use refusing::failed;
-pub use replacing::{replace, splice_document, splice_valid};
+pub use replacing::{replace, splice_valid};
 pub use splicing::{join, splice};

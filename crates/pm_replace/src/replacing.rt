@@ -10,7 +10,7 @@ ghost use Rattle.pm_node.specs.Documents.{doc_of, doc_with};
 ghost use Rattle.pm_schema.specs.Documents.{documents_of};
 ghost use Rattle.pm_replace.specs.Splices.{spliced_outcome, Made};
 
-use crate::checking::{checked_change, checked_content};
+use crate::checking::checked_change;
 use crate::refusing::failed;
 use crate::splicing::{join, splice};
 use pm_build::{depth_at, parts_pair};
@@ -105,28 +105,9 @@ fn replace_in(
     splice_valid(alloc, schema, top, content, from, to, slice)
 }
 
-/// The document with the top node's type, attributes and marks and this content, with the range from..to replaced by the
-/// slice, or the first reason why not, in the order Join, Large, Deep, Content. A result that is too large is not built,
-/// since only its joins are asked for.
-pub fn splice_document(
-    alloc: Global,
-    schema: &Schema,
-    top: &Node,
-    content: &Fragment,
-    from: usize,
-    to: usize,
-    slice: &Slice,
-) -> Result<Document, Failed<Reason>>
-    requires order { from ≤ to }
-    requires within { to ≤ length content.now }
-    requires fits { depths_fit content.now from to slice.now ≡ true }
-    ensures { Answers (spliced_outcome (documents_of schema.now.spec) (doc_with top.now content.now) (spliced content.now from to slice.now)) result }
-{
-    let made = splice_within(alloc, schema, content, from, to, slice)?;
-    checked_content(alloc, schema, top, made)
-}
-
-/// The same of a valid document, in which a change is checked by the node around it where that is enough.
+/// A valid document, told by its top node and its content, with the range from..to replaced by the slice, or the first reason
+/// why not, in the order Join, Large, Deep, Content. A result that is too large is not built, since only its joins are asked
+/// for; any other is checked by the node around the range where that is enough.
 pub fn splice_valid(
     alloc: Global,
     schema: &Schema,
