@@ -1,4 +1,4 @@
-//! Tests of places, of built contents and of slices.
+//! Tests of places, of built contents, of slices and of steps.
 #![tactic(auto)]
 
 #[cfg(test)]
@@ -7,3 +7,5 @@ mod build;
 mod resolve;
 #[cfg(test)]
 mod slice;
+#[cfg(test)]
+mod step;
