@@ -1,11 +1,9 @@
-//! Tests of places, of built contents, of slices and of steps.
+//! Tests of places, of built contents and of steps.
 #![tactic(auto)]
 
 #[cfg(test)]
 mod build;
 #[cfg(test)]
 mod resolve;
-#[cfg(test)]
-mod slice;
 #[cfg(test)]
 mod step;
