@@ -1,5 +1,6 @@
 pub mod TreeLaws
 pub mod WalkLaws
+pub mod RunLaws
 pub mod KindLaws
 pub mod DeepLaws
 pub mod PairWalk

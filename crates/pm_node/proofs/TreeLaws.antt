@@ -1,5 +1,5 @@
 -- What a node and a list of nodes are seen as, and how a fragment's form is kept.
-use Rattle.std.specs.Prelude.{◌≡◌, ℕ, ◌+◌, ◌<◌, ◌^◌, Option, Some, None, List, [], ◌∷◌, ◌++◌, length, take, drop, set, get_or}
+use Rattle.std.specs.Prelude.{◌≡◌, ℕ, ◌+◌, ◌≤◌, ◌<◌, ◌^◌, Option, Some, None, List, [], ◌∷◌, ◌++◌, length, take, drop, set, get_or}
 use Rattle.std.specs.declared.sync.Arc.{Arc}
 use Rattle.std.specs.Arc.{arc_value}
 use Rattle.std.proofs.Common.{suc, refl, ap, sym, ◌∙◌, subst, arith, append_assoc, length-append}
@@ -130,3 +130,8 @@ joined-tokens a b us vs ws m e f g =
 pub nodes-rest : (ns : List Node) (i : ℕ) (n : Node) → i < length ns → n ≡ get_or ns i n → length (nodes_tokens (drop i ns)) ≡ length (node_tokens n) + length (nodes_tokens (drop (i + 1) ns))
 nodes-rest ns i n h r =
     ap length (at_drop_more nodes_tokens ns i n h ∙ ap (λ m. node_tokens m ++ nodes_tokens (drop (i + 1) ns)) (sym r)) ∙ length-append (node_tokens n) (nodes_tokens (drop (i + 1) ns))
+
+-- there are no more nodes than tokens
+pub no-more-nodes : {Z : Type 0} (xs : List (Arc Node Z)) → IsNormal xs → length xs ≤ length (list_tokens xs)
+no-more-nodes [] n = omega arith
+no-more-nodes (x ∷ xs) n = omega (arith, n.0, no-more-nodes xs n.2, length-append (node_tokens (arc_value x)) (list_tokens xs))

@@ -1,5 +1,6 @@
 pub mod Codes
 pub mod Trees
+pub mod Among
 pub mod Falls
 pub mod Documents
 pub mod Kinds

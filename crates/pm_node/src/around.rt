@@ -1,10 +1,11 @@
 //! The check of a change by the innermost node around it.
-ghost use Rattle.std.specs.Prelude.{◌<◌, ◌≤◌, ◌^◌, length, IsTrue, IfSome};
+ghost use Rattle.std.specs.Prelude.{◌<◌, ◌≤◌, IsTrue, IfSome};
 ghost use Rattle.pm_schema.specs.Documents.{documents_of};
-ghost use Rattle.pm_node.specs.Trees.{node_tokens, list_tokens};
+ghost use Rattle.pm_node.specs.Trees.{node_tokens};
 ghost use Rattle.pm_node.specs.Changes.{Holds, Keeps, NodeKeeps, IsPlace, IsSameBehind};
 
 use crate::check::nodes_fault;
+use crate::children::Children;
 use crate::depth::nests_within;
 use crate::node::{Body, Fragment, Node};
 use crate::pairs::first_broken;
@@ -12,7 +13,6 @@ use crate::rules::accepts;
 use pm_auto::TypeId;
 use pm_schema::Schema;
 use std::alloc::Global;
-use std::sync::Arc;
 
 /// Where two contents differ: the tokens from..to of the one are from..new_to of the other.
 #[derive(Clone, Copy)]
@@ -50,7 +50,7 @@ pub fn stays_valid_around(
     let _ = after.size();
     let old = before.children();
     let new = after.children();
-    match child_around(old, new, change) {
+    match child_around(&old, &new, change) {
         Some(pair) => {
             let inner = Change {
                 from: change.from - pair.start,
@@ -60,8 +60,8 @@ pub fn stays_valid_around(
             node_stays_valid(
                 alloc,
                 schema,
-                &old[pair.before],
-                &new[pair.after],
+                old.get(pair.before),
+                new.get(pair.after),
                 inner,
                 levels,
             )
@@ -112,13 +112,7 @@ fn same_behind(size: usize, to: usize, new_size: usize, new_to: usize) -> bool
 }
 
 /// The node around a change in both of two lists, unless it is a text or a leaf in one of them.
-fn child_around(
-    old: &[Arc<Node, Global>],
-    new: &[Arc<Node, Global>],
-    change: Change,
-) -> Option<Pair>
-    requires room { length (list_tokens old.now) < 2 ^ 32 }
-    requires new_room { length (list_tokens new.now) < 2 ^ 32 }
+fn child_around(old: &Children<'_>, new: &Children<'_>, change: Change) -> Option<Pair>
     requires order { change.from ≤ change.to }
     ensures before { IfSome result (λ p. IsPlace old.now p.before p.start) }
     ensures after { IfSome result (λ p. IsPlace new.now p.after p.start) }
@@ -128,9 +122,9 @@ fn child_around(
     let (after, new_start) = child_at(new, change.from)?;
     let inside = start == new_start
         && start < change.from
-        && change.to - start < old[before].size()
-        && is_inner(&old[before])
-        && is_inner(&new[after]);
+        && change.to - start < old.get(before).size()
+        && is_inner(old.get(before))
+        && is_inner(new.get(after));
     if inside {
         Some(Pair {
             start,
@@ -143,19 +137,18 @@ fn child_around(
 }
 
 /// The number of the child that has the token at a position, and where its first token stands.
-fn child_at(children: &[Arc<Node, Global>], position: usize) -> Option<(usize, usize)>
-    requires { length (list_tokens children.now) < 2 ^ 32 }
+fn child_at(children: &Children<'_>, position: usize) -> Option<(usize, usize)>
     ensures { IfSome result (λ p. IsPlace children.now p.0 p.1) }
 {
-    let mut start = 0;
-    for (i, child) in children.iter().enumerate() {
-        let size = child.size();
-        if position < start + size {
-            return Some((i, start));
-        }
-        start += size;
+    if position > children.size() {
+        return None;
     }
-    None
+    let found = children.find(position);
+    if found.index < children.len() {
+        Some((found.index, position - found.rest))
+    } else {
+        None
+    }
 }
 
 /// Whether the node holds nodes.

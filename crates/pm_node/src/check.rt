@@ -126,7 +126,9 @@ pub(crate) fn nodes_fault(
     ensures { (ps : List ℕ) → Checks result (first_fault (documents_of schema.now.spec) at (parent ∷ ps) content.now) }
 {
     let mut at = at;
-    for child in content.children() {
+    let children = content.children();
+    for i in 0..children.len() {
+        let child = children.get(i);
         let size = child.size();
         node_fault(alloc, schema, parent, child, at)?;
         at += size;

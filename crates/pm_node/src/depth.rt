@@ -10,7 +10,9 @@ use crate::node::{Body, Fragment, Node};
 pub fn nests_within(content: &Fragment, levels: usize) -> bool
     ensures { IsTrue result ↔ (deepest 0 content.now ≤ levels) }
 {
-    for child in content.children() {
+    let children = content.children();
+    for i in 0..children.len() {
+        let child = children.get(i);
         if !node_nests_within(child, levels) {
             return false;
         }

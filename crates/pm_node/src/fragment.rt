@@ -1,8 +1,10 @@
 //! Fragments: made of nodes, copied, and their children by number.
-ghost use Rattle.std.specs.Prelude.{◌≡◌, ◌<◌, ◌^◌, length, slice_index_or, [], ◌++◌, ◌↔◌, IsTrue, IfOk};
+ghost use Rattle.std.specs.Prelude.{◌≡◌, ◌<◌, ◌≤◌, ◌+◌, ◌^◌, length, slice_index_or, [], ◌++◌, ◌↔◌, IsTrue, IfOk, OnOk};
+ghost use Rattle.pm_tokens.specs.Scan.{part};
 ghost use Rattle.pm_tokens.specs.Kids.{children};
-ghost use Rattle.pm_node.specs.Trees.{node_tokens, nodes_tokens, Meets};
+ghost use Rattle.pm_node.specs.Trees.{node_tokens, nodes_tokens, list_tokens, Meets, IsNormal, EachWhole};
 
+use crate::children::Children;
 use crate::node::{Body, Fragment, Node};
 use std::alloc::{AllocError, Global};
 use std::sync::Arc;
@@ -58,11 +60,32 @@ impl Fragment {
     {
         let mut made = Fragment::new(alloc);
         let _ = self.size();
-        for child in self.children() {
-            let child = Arc::try_clone(child)?;
-            made.push(alloc, child)?;
-        }
+        let children = self.children();
+        made.append(alloc, &children, 0, children.len())?;
         Ok(made)
+    }
+
+    /// Puts the children from..to of another fragment behind the last node, shared with it. A text is joined with a text
+    /// of equal marks before it. After an error the fragment may hold some of them.
+    pub fn append(
+        &mut self,
+        alloc: Global,
+        source: &Children<'_>,
+        from: usize,
+        to: usize,
+    ) -> Result<(), AllocError>
+        requires order { from ≤ to }
+        requires within { to ≤ length source.now }
+        requires normal { IsNormal source.now }
+        requires each { EachWhole source.now }
+        requires room { length self.old + length (list_tokens (part from to source.now)) < 2 ^ 32 }
+        ensures { OnOk result (self.new ≡ self.old ++ list_tokens (part from to source.now)) }
+    {
+        for i in from..to {
+            let child = Arc::try_clone(source.get(i))?;
+            self.push(alloc, child)?;
+        }
+        Ok(())
     }
 
     /// The number of children: each leaf, each open up to its close, and each longest run of neighbouring units with equal
@@ -70,7 +93,8 @@ impl Fragment {
     pub fn len(&self) -> usize
         ensures { result ≡ length (children self.now) }
     {
-        self.children().len()
+        let children = self.children();
+        children.len()
     }
 
     /// Child `i`, counted from 0. It takes no memory.
@@ -78,7 +102,8 @@ impl Fragment {
         requires { i < length (children self.now) }
         ensures { node_tokens result.now ≡ slice_index_or (children self.now) i [] }
     {
-        &self.children()[i]
+        let children = self.children();
+        children.get(i)
     }
 }
 

@@ -3,6 +3,7 @@
 
 mod around;
 mod check;
+mod children;
 mod depth;
 mod document;
 mod fault;
@@ -17,6 +18,7 @@ mod values;
 
 pub use around::{Change, stays_valid_around};
 pub use check::{MAX_DEPTH, MAX_SIZE, text_alone};
+pub use children::{Children, Found};
 pub use document::Document;
 pub use fault::CheckError;
 pub use filled::{FillError, make_filled};

@@ -4,6 +4,7 @@ ghost use Rattle.std.specs.Arc.{arc_value};
 ghost use Rattle.pm_tokens.specs.Scan.{Balanced};
 ghost use Rattle.pm_node.specs.Trees.{node_tokens, list_tokens, Joined, IsNormal, WholeBody, EachWhole};
 
+use crate::children::Children;
 use crate::units::Units;
 use pm_attrs::Attrs;
 use pm_auto::TypeId;
@@ -99,12 +100,13 @@ impl Fragment {
     }
 
     /// The nodes in order. It takes no memory.
-    pub fn children(&self) -> &[Arc<Node, Global>]
-        ensures tokens { list_tokens result.now ≡ self.now }
-        ensures normal { IsNormal result.now }
-        ensures each { EachWhole result.now }
+    pub fn children(&self) -> Children<'_>
+        ensures tokens { list_tokens result ≡ self.now }
+        ensures normal { IsNormal result }
+        ensures each { EachWhole result }
+        ensures bound { length (list_tokens result) < 2 ^ 32 }
     {
-        self.children.as_slice()
+        Children::new(self.children.as_slice(), self.size)
     }
 
     /// Puts a node behind the last one. A text is joined with a text of equal marks before it, and an empty text is let

@@ -13,7 +13,9 @@ pub fn first_broken(content: &Fragment, at: usize) -> Option<usize>
     ensures { option_map Pair result ≡ first_broken at None content.now }
 {
     let mut at = at;
-    for child in content.children() {
+    let children = content.children();
+    for i in 0..children.len() {
+        let child = children.get(i);
         let size = child.size();
         if let Some(place) = broken_in(child, at) {
             return Some(place);

@@ -110,7 +110,9 @@ pub fn accepts(schema: &Schema, kind: TypeId, content: &Fragment) -> bool
 {
     let automaton = schema.auto(kind);
     let mut state = automaton.start();
-    for child in content.children() {
+    let children = content.children();
+    for i in 0..children.len() {
+        let child = children.get(i);
         match automaton.next(state, kind_among(schema, child)) {
             Some(next) => state = next,
             None => return false,

@@ -10,7 +10,7 @@ use Rattle.pm_node.proofs.around.+around.Goals as goal
 pub stays_valid_around-node_stays_valid-requires : goal.stays_valid_around-node_stays_valid-requires
 stays_valid_around-node_stays_valid-requires t c =
     let d : 2 * length c.args.before.now + 1 ≡ t = c.decreases in
-    let w = child-within c.children-old.result.now c.in-Some.pair.before c.index-old-pair.result c.in-Some.ensures.before.within c.index-old-pair.is in
+    let w = child-within c.children-old.result c.in-Some.pair.before c.get.result.now c.in-Some.ensures.before.within c.get.ensures in
     let g : 2 * length (node_tokens c.deref.result.now) < t = omega (arith, d, w, ap (λ m. length (node_tokens m)) c.deref.ensures, ap length c.children-old.ensures.tokens) in
     (g, (omega (arith, c.in-Some.ensures.inside), (omega (arith, c.in-Some.ensures.inside, c.requires.order), omega (arith, c.in-Some.ensures.inside, c.requires.new_order))))
 
@@ -22,11 +22,11 @@ stays_valid_around-returns-in-Some t c = λ r.
     let to = c.args.change.to in
     let new_to = c.args.change.new_to in
     let told = subst (λ n. NodeKeeps s c.args.levels (node_tokens n) (node_tokens c.deref-in-Some.result.now) (from - p.start) (to - p.start) (new_to - p.start)) c.deref.ensures (c.node_stays_valid.ensures r) in
-    let keep = subst (λ n. NodeKeeps s c.args.levels (node_tokens (arc_value c.index-old-pair.result)) (node_tokens n) (from - p.start) (to - p.start) (new_to - p.start)) c.deref-in-Some.ensures told in
-    let lists = list-kept s c.args.kind c.args.levels c.children-old.result.now c.children-new.result.now p.before p.after p.start c.index-old-pair.result c.index-new-pair.result from to new_to
-    c.children-old.ensures.each c.in-Some.ensures.before c.in-Some.ensures.after c.index-old-pair.is c.index-new-pair.is c.in-Some.ensures.inside c.requires.order c.requires.new_order keep in
+    let keep = subst (λ n. NodeKeeps s c.args.levels (node_tokens (arc_value c.get.result.now)) (node_tokens n) (from - p.start) (to - p.start) (new_to - p.start)) c.deref-in-Some.ensures told in
+    let lists = list-kept s c.args.kind c.args.levels c.children-old.result c.children-new.result p.before p.after p.start c.get.result.now c.get-in-Some.result.now from to new_to
+    c.children-old.ensures.each c.in-Some.ensures.before c.in-Some.ensures.after c.get.ensures c.get-in-Some.ensures c.in-Some.ensures.inside c.requires.order c.requires.new_order keep in
     subst (λ u. Keeps s c.args.kind c.args.levels u c.args.after.now from to new_to) c.children-old.ensures.tokens
-    (subst (λ v. Keeps s c.args.kind c.args.levels (list_tokens c.children-old.result.now) v from to new_to) c.children-new.ensures.tokens lists)
+    (subst (λ v. Keeps s c.args.kind c.args.levels (list_tokens c.children-old.result) v from to new_to) c.children-new.ensures.tokens lists)
 
 pub node_stays_valid-returns-else-not-same_behind : goal.node_stays_valid-returns-else-not-same_behind
 node_stays_valid-returns-else-not-same_behind t c = λ r.

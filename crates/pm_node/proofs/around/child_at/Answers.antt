@@ -1,17 +1,8 @@
-use Rattle.std.proofs.Common.{◌≡◌, length, arith, ap, ◌∙◌}
-use Rattle.std.specs.Arc.{arc_value}
-use Rattle.pm_node.specs.Trees.{node_tokens}
-use Rattle.pm_node.proofs.ChangeLaws.{front-within, front-length}
+use Rattle.std.proofs.Common.{arith}
 use Rattle.pm_node.proofs.around.child_at.Goals as goal
 
-pub overflow_add-start : goal.overflow_add-start
-overflow_add-start c =
-    let size : c.size-size.result ≡ length (node_tokens (arc_value c.index-children-i.result)) = c.size-size.ensures.size ∙ ap (λ m. length (node_tokens m)) c.deref.ensures in
-    let w = front-within c.args.children.now c.loop-i.i c.index-children-i.result c.loop-i-test.true c.index-children-i.is in
-    omega (arith, size, w, c.loop-i.invariant, c.requires)
+pub overflow_sub-result : goal.overflow_sub-result
+overflow_sub-result c = omega (arith, c.find-found.ensures.offset)
 
-pub loop-i-preserved : goal.loop-i-preserved
-loop-i-preserved c =
-    let size : c.size-size.result ≡ length (node_tokens (arc_value c.index-children-i.result)) = c.size-size.ensures.size ∙ ap (λ m. length (node_tokens m)) c.deref.ensures in
-    let w = front-length c.args.children.now c.loop-i.i c.index-children-i.result c.loop-i-test.true c.index-children-i.is in
-    omega (arith, size, w, c.loop-i.invariant)
+pub returns-then-found-len : goal.returns-then-found-len
+returns-then-found-len c = record { within = omega (arith, c.if-found-len.true, c.len.ensures); before = omega (arith, c.find-found.ensures.offset) }

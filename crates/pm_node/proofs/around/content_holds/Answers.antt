@@ -1,6 +1,6 @@
 use Rattle.std.proofs.Common.{[], ap, sym, ◌∙◌}
 use Rattle.std.specs.Prelude.{None, option_map}
-use Rattle.pm_tokens.specs.Faults.{first_broken, Pair}
+use Rattle.pm_tokens.specs.Faults.{Pair}
 use Rattle.pm_schema.specs.Documents.{documents_of}
 use Rattle.pm_node.proofs.ChangeLaws.{fault-moved, broken-moved}
 use Rattle.pm_node.proofs.around.content_holds.Goals as goal

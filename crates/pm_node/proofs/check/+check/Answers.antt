@@ -4,7 +4,7 @@ use Rattle.pm_tokens.specs.Faults.{first_fault}
 use Rattle.pm_schema.specs.Documents.{documents_of}
 use Rattle.pm_node.specs.Trees.{node_tokens}
 use Rattle.pm_node.specs.Checks.{Tells, Checks}
-use Rattle.pm_node.proofs.WalkLaws.{Child, child-within, child-at}
+use Rattle.pm_node.proofs.WalkLaws.{Child, child-within, child-at, in-range}
 use Rattle.pm_node.proofs.FaultWalk.{Sound, sound-more, sound-fault, sound-room, fault-text, node-bad-content, node-inner}
 use Rattle.pm_node.proofs.check.+check.Goals as goal
 
@@ -28,33 +28,33 @@ node_fault-returns-else-not-content_fits t c = λ ps.
 pub nodes_fault-node_fault-requires : goal.nodes_fault-node_fault-requires
 nodes_fault-node_fault-requires t c =
     let s = documents_of c.args.schema.now.spec in
-    let xs = c.children-child-items.result.now in
-    let e = c.children-child-items.ensures in
+    let xs = c.children-children.result in
+    let e = c.children-children.ensures in
     let d : 2 * length c.args.content.now + 1 ≡ t = c.decreases in
-    let w = child-within xs _ c.child-item.result c.loop-child-test.true c.child-item.is in
-    let n = ap (λ m. length (node_tokens m)) c.deref-in-loop-child.ensures in
-    let room = sound-room s c.args.parent xs _ _ (child-at xs c.loop-child.child-index c.child-item.result e.normal e.each c.loop-child-test.true c.child-item.is) c.args.at c.loop-child.at c.loop-child.invariant in
-    let g : 2 * length (node_tokens c.deref-in-loop-child.result.now) < t = omega (arith, d, w, n, ap length e.tokens) in
+    let w = child-within xs _ c.get-child.result.now (in-range c.len-i-end.ensures c.loop-i-test.true) c.get-child.ensures in
+    let n = ap (λ m. length (node_tokens m)) c.deref-in-loop-i.ensures in
+    let room = sound-room s c.args.parent xs _ _ (child-at xs c.loop-i.i c.get-child.result.now e.normal e.each (in-range c.len-i-end.ensures c.loop-i-test.true) c.get-child.ensures) c.args.at c.loop-i.at c.loop-i.invariant in
+    let g : 2 * length (node_tokens c.deref-in-loop-i.result.now) < t = omega (arith, d, w, n, ap length e.tokens) in
     (g, (c.requires.known, omega (arith, room, n, c.requires.room, ap length e.tokens)))
 
 pub nodes_fault-returns-in_err-node_fault : goal.nodes_fault-returns-in_err-node_fault
 nodes_fault-returns-in_err-node_fault t c = λ ps.
     let s = documents_of c.args.schema.now.spec in
-    let xs = c.children-child-items.result.now in
-    let e = c.children-child-items.ensures in
-    let i = c.loop-child.child-index in
-    let n = c.deref-in-loop-child.result.now in
-    let k : Child xs i n = subst (Child xs i) (sym c.deref-in-loop-child.ensures) (child-at xs i c.child-item.result e.normal e.each c.loop-child-test.true c.child-item.is) in
+    let xs = c.children-children.result in
+    let e = c.children-children.ensures in
+    let i = c.loop-i.i in
+    let n = c.deref-in-loop-i.result.now in
+    let k : Child xs i n = subst (Child xs i) (sym c.deref-in-loop-i.ensures) (child-at xs i c.get-child.result.now e.normal e.each (in-range c.len-i-end.ensures c.loop-i-test.true) c.get-child.ensures) in
     let p = err_from_is_err_and c.from_residual.result c.from_residual.ensures.1 in
-    rw (p.1, p.2) (subst (λ ts. Tells c.in_err-node_fault.field-0.0 (first_fault s c.args.at (c.args.parent ∷ ps) ts)) e.tokens (sound-fault s c.args.parent xs i n k c.args.at c.loop-child.at c.in_err-node_fault.field-0.0 c.loop-child.invariant c.in_err-node_fault.ensures ps))
+    rw (p.1, p.2) (subst (λ ts. Tells c.in_err-node_fault.field-0.0 (first_fault s c.args.at (c.args.parent ∷ ps) ts)) e.tokens (sound-fault s c.args.parent xs i n k c.args.at c.loop-i.at c.in_err-node_fault.field-0.0 c.loop-i.invariant c.in_err-node_fault.ensures ps))
 
-pub nodes_fault-loop-child-preserved : goal.nodes_fault-loop-child-preserved
-nodes_fault-loop-child-preserved t c =
+pub nodes_fault-loop-i-preserved : goal.nodes_fault-loop-i-preserved
+nodes_fault-loop-i-preserved t c =
     let s = documents_of c.args.schema.now.spec in
-    let xs = c.children-child-items.result.now in
-    let e = c.children-child-items.ensures in
-    let i = c.loop-child.child-index in
-    let n = c.deref-in-loop-child.result.now in
-    let k : Child xs i n = subst (Child xs i) (sym c.deref-in-loop-child.ensures) (child-at xs i c.child-item.result e.normal e.each c.loop-child-test.true c.child-item.is) in
-    let size : length (node_tokens n) ≡ c.size-size.result = ap (λ m. length (node_tokens m)) (c.deref-in-loop-child.ensures ∙ sym c.deref.ensures) ∙ sym c.size-size.ensures.size in
-    subst (λ z. Sound s c.args.parent xs (i + 1) c.args.at (c.loop-child.at + z)) size (sound-more s c.args.parent xs i n k c.args.at c.loop-child.at c.loop-child.invariant c.in_ok-node_fault.ensures)
+    let xs = c.children-children.result in
+    let e = c.children-children.ensures in
+    let i = c.loop-i.i in
+    let n = c.deref-in-loop-i.result.now in
+    let k : Child xs i n = subst (Child xs i) (sym c.deref-in-loop-i.ensures) (child-at xs i c.get-child.result.now e.normal e.each (in-range c.len-i-end.ensures c.loop-i-test.true) c.get-child.ensures) in
+    let size : length (node_tokens n) ≡ c.size-size.result = ap (λ m. length (node_tokens m)) (c.deref-in-loop-i.ensures ∙ sym c.deref.ensures) ∙ sym c.size-size.ensures.size in
+    subst (λ z. Sound s c.args.parent xs (i + 1) c.args.at (c.loop-i.at + z)) size (sound-more s c.args.parent xs i n k c.args.at c.loop-i.at c.loop-i.invariant c.in_ok-node_fault.ensures)

@@ -4,8 +4,8 @@ use Rattle.pm_node.specs.Trees.{node_tokens}
 use Rattle.pm_node.proofs.WalkLaws.{rest}
 use Rattle.pm_node.proofs.depth.+depth.Given as goal
 
-abbrev pub invariant-nests_within-loop-child : goal.invariant-nests_within-loop-child
-invariant-nests_within-loop-child l = (deepest 0 l.content ≤ l.levels) ↔ (deepest 0 (rest l.child-items l.child-index) ≤ l.levels)
+abbrev pub invariant-nests_within-loop-i : goal.invariant-nests_within-loop-i
+invariant-nests_within-loop-i l = (deepest 0 l.content ≤ l.levels) ↔ (deepest 0 (rest l.children l.i) ≤ l.levels)
 
 abbrev pub decreases-nests_within : goal.decreases-nests_within
 decreases-nests_within l = 2 * length l.content.now + 1

@@ -2,7 +2,7 @@ use Rattle.std.proofs.Common.{◌≡◌, ◌+◌, ◌*◌, ◌<◌, length, arit
 use Rattle.std.specs.Prelude.{None, option_map}
 use Rattle.pm_tokens.specs.Faults.{Pair, first_broken}
 use Rattle.pm_node.specs.Trees.{node_tokens}
-use Rattle.pm_node.proofs.WalkLaws.{Child, child-within, child-at}
+use Rattle.pm_node.proofs.WalkLaws.{Child, child-within, child-at, in-range}
 use Rattle.pm_text.specs.Lone.{HasNoLone, IsFirstLone}
 use Rattle.pm_node.proofs.PairWalk.{Walked, walked-more, walked-broken, walked-room, broken-content, broken-lone, broken-none}
 use Rattle.pm_node.proofs.pairs.+pairs.Goals as goal
@@ -18,29 +18,29 @@ broken_in-returns-in-Children t c = c.first_broken.ensures ∙ sym (broken-conte
 
 pub first_broken-broken_in-requires : goal.first_broken-broken_in-requires
 first_broken-broken_in-requires t c =
-    let xs = c.children-child-items.result.now in
-    let e = c.children-child-items.ensures in
+    let xs = c.children-children.result in
+    let e = c.children-children.ensures in
     let d : 2 * length c.args.content.now + 1 ≡ t = c.decreases in
-    let w = child-within xs _ c.child-item.result c.loop-child-test.true c.child-item.is in
-    let room = walked-room xs _ _ (child-at xs c.loop-child.child-index c.child-item.result e.normal e.each c.loop-child-test.true c.child-item.is) c.args.at c.loop-child.at c.loop-child.invariant in
-    let g : 2 * length (node_tokens c.deref-in-loop-child.result.now) < t = omega (arith, d, w, ap (λ m. length (node_tokens m)) c.deref-in-loop-child.ensures, ap length e.tokens) in
-    (g, omega (arith, room, c.requires, ap (λ m. length (node_tokens m)) c.deref-in-loop-child.ensures, ap length e.tokens))
+    let w = child-within xs _ c.get-child.result.now (in-range c.len-i-end.ensures c.loop-i-test.true) c.get-child.ensures in
+    let room = walked-room xs _ _ (child-at xs c.loop-i.i c.get-child.result.now e.normal e.each (in-range c.len-i-end.ensures c.loop-i-test.true) c.get-child.ensures) c.args.at c.loop-i.at c.loop-i.invariant in
+    let g : 2 * length (node_tokens c.deref-in-loop-i.result.now) < t = omega (arith, d, w, ap (λ m. length (node_tokens m)) c.deref-in-loop-i.ensures, ap length e.tokens) in
+    (g, omega (arith, room, c.requires, ap (λ m. length (node_tokens m)) c.deref-in-loop-i.ensures, ap length e.tokens))
 
 pub first_broken-returns-in-Some : goal.first_broken-returns-in-Some
 first_broken-returns-in-Some t c =
-    let xs = c.children-child-items.result.now in
-    let e = c.children-child-items.ensures in
-    let i = c.loop-child.child-index in
-    let n = c.deref-in-loop-child.result.now in
-    let k : Child xs i n = subst (Child xs i) (sym c.deref-in-loop-child.ensures) (child-at xs i c.child-item.result e.normal e.each c.loop-child-test.true c.child-item.is) in
-    sym (ap (first_broken c.args.at None) (sym e.tokens) ∙ walked-broken xs i n k c.args.at c.loop-child.at (Pair c.in-Some.place) c.loop-child.invariant (sym c.in-Some.ensures))
+    let xs = c.children-children.result in
+    let e = c.children-children.ensures in
+    let i = c.loop-i.i in
+    let n = c.deref-in-loop-i.result.now in
+    let k : Child xs i n = subst (Child xs i) (sym c.deref-in-loop-i.ensures) (child-at xs i c.get-child.result.now e.normal e.each (in-range c.len-i-end.ensures c.loop-i-test.true) c.get-child.ensures) in
+    sym (ap (first_broken c.args.at None) (sym e.tokens) ∙ walked-broken xs i n k c.args.at c.loop-i.at (Pair c.in-Some.place) c.loop-i.invariant (sym c.in-Some.ensures))
 
-pub first_broken-loop-child-preserved : goal.first_broken-loop-child-preserved
-first_broken-loop-child-preserved t c =
-    let xs = c.children-child-items.result.now in
-    let e = c.children-child-items.ensures in
-    let i = c.loop-child.child-index in
-    let n = c.deref-in-loop-child.result.now in
-    let k : Child xs i n = subst (Child xs i) (sym c.deref-in-loop-child.ensures) (child-at xs i c.child-item.result e.normal e.each c.loop-child-test.true c.child-item.is) in
-    let size : length (node_tokens n) ≡ c.size-size.result = ap (λ m. length (node_tokens m)) (c.deref-in-loop-child.ensures ∙ sym c.deref.ensures) ∙ sym c.size-size.ensures.size in
-    subst (λ s. Walked xs (i + 1) c.args.at (c.loop-child.at + s)) size (walked-more xs i n k c.args.at c.loop-child.at c.loop-child.invariant (sym c.broken_in.ensures ∙ ap (option_map Pair) c.in_default.is))
+pub first_broken-loop-i-preserved : goal.first_broken-loop-i-preserved
+first_broken-loop-i-preserved t c =
+    let xs = c.children-children.result in
+    let e = c.children-children.ensures in
+    let i = c.loop-i.i in
+    let n = c.deref-in-loop-i.result.now in
+    let k : Child xs i n = subst (Child xs i) (sym c.deref-in-loop-i.ensures) (child-at xs i c.get-child.result.now e.normal e.each (in-range c.len-i-end.ensures c.loop-i-test.true) c.get-child.ensures) in
+    let size : length (node_tokens n) ≡ c.size-size.result = ap (λ m. length (node_tokens m)) (c.deref-in-loop-i.ensures ∙ sym c.deref.ensures) ∙ sym c.size-size.ensures.size in
+    subst (λ s. Walked xs (i + 1) c.args.at (c.loop-i.at + s)) size (walked-more xs i n k c.args.at c.loop-i.at c.loop-i.invariant (sym c.broken_in.ensures ∙ ap (option_map Pair) c.in_default.is))

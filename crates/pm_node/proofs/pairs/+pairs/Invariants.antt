@@ -3,8 +3,8 @@ use Rattle.pm_node.specs.Trees.{node_tokens}
 use Rattle.pm_node.proofs.PairWalk.{Walked}
 use Rattle.pm_node.proofs.pairs.+pairs.Given as goal
 
-abbrev pub invariant-first_broken-loop-child : goal.invariant-first_broken-loop-child
-invariant-first_broken-loop-child l = Walked l.child-items l.child-index l.fn.at l.at
+abbrev pub invariant-first_broken-loop-i : goal.invariant-first_broken-loop-i
+invariant-first_broken-loop-i l = Walked l.children l.i l.fn.at l.at
 
 abbrev pub decreases-first_broken : goal.decreases-first_broken
 decreases-first_broken l = 2 * length l.content.now + 1

@@ -4,7 +4,7 @@ use Rattle.pm_schema.specs.Documents.{documents_of}
 use Rattle.pm_node.specs.Kinds.{kinds}
 use Rattle.pm_node.proofs.rules.accepts.Given as goal
 
-abbrev pub invariant-loop-child : goal.invariant-loop-child
-invariant-loop-child l =
+abbrev pub invariant-loop-i : goal.invariant-loop-i
+invariant-loop-i l =
     let text = (documents_of l.schema.spec).text in
-    (l.state < length l.automaton.sets) × (accepted l.automaton.sets l.automaton.edges 0 (kinds text l.child-items) ≡ accepted l.automaton.sets l.automaton.edges l.state (kinds text (drop l.child-index l.child-items)))
+    (l.state < length l.automaton.sets) × (accepted l.automaton.sets l.automaton.edges 0 (kinds text l.children) ≡ accepted l.automaton.sets l.automaton.edges l.state (kinds text (drop l.i l.children)))

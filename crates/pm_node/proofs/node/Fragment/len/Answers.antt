@@ -5,6 +5,6 @@ use Rattle.pm_node.proofs.node.Fragment.len.Goals as goal
 
 pub returns : goal.returns
 returns c =
-    let xs = c.children.result.now in
-    let e = c.children.ensures in
-    sym (length-child_tokens xs) ∙ ap length (sym (children-list xs e.normal e.each) ∙ ap children e.tokens)
+    let xs = c.children-children.result in
+    let e = c.children-children.ensures in
+    c.len.ensures ∙ (sym (length-child_tokens xs) ∙ ap length (sym (children-list xs e.normal e.each) ∙ ap children e.tokens))

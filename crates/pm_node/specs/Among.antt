@@ -1,0 +1,19 @@
+-- Where a position stands among children.
+use Rattle.std.specs.Prelude.{◌≡◌, ℕ, ◌+◌, ◌≤◌, ◌<◌, ◌^◌, List, length, take, get_or}
+use Rattle.std.specs.declared.sync.Arc.{Arc}
+use Rattle.std.specs.Arc.{arc_value}
+use Rattle.pm_node.specs.declared.node.Node.{Node}
+use Rattle.pm_node.specs.Trees.{node_tokens, list_tokens}
+
+-- A position stands behind `index` children, which end at or before it, and `rest` tokens into the next one, where there
+-- is one.
+pub record Stands {Z : Type 0} (xs : List (Arc Node Z)) (pos index rest : ℕ) : Type 0 where
+  pub within : index ≤ length xs
+  pub offset : length (list_tokens (take index xs)) + rest ≡ pos
+  pub at_end : index ≡ length xs → rest ≡ 0
+  pub inside : (x : Arc Node Z) → index < length xs → x ≡ get_or xs index x → rest < length (node_tokens (arc_value x))
+
+-- what is true of borrowed children: their size is that of their tokens, and there are not too many
+pub record IsBorrowed {Z : Type 0} (size : ℕ) (xs : List (Arc Node Z)) : Type 0 where
+  pub counted : size ≡ length (list_tokens xs)
+  pub few : length xs < 2 ^ 32
