@@ -1,6 +1,7 @@
 pub mod TreeLaws
 pub mod WalkLaws
 pub mod RunLaws
+pub mod ChunkLaws
 pub mod KindLaws
 pub mod DeepLaws
 pub mod PairWalk

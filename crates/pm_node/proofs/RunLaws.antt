@@ -1,14 +1,16 @@
 -- Neighbours among children: parts of a list of nodes.
-use Rattle.std.specs.Prelude.{◌≡◌, ℕ, ◌+◌, ◌-◌, ◌≤◌, ◌<◌, List, [], ◌∷◌, ◌++◌, length, take, drop, get_or}
+use Rattle.std.specs.Prelude.{◌≡◌, ℕ, ◌+◌, ◌-◌, ◌≤◌, ◌<◌, ◌^◌, List, [], ◌∷◌, ◌++◌, length, take, drop, get_or}
 use Rattle.std.specs.declared.sync.Arc.{Arc}
 use Rattle.std.specs.Arc.{arc_value}
-use Rattle.std.proofs.Common.{ap, sym, ◌∙◌, arith, length-append}
+use Rattle.std.proofs.Common.{zero, suc, ap, sym, ◌∙◌, subst, arith, length-append}
 use Rattle.std.proofs.lemmas.List.{append-nil, drop_more, drop-drop}
 use Rattle.std.proofs.Math.Seq.{take-add}
-use Rattle.pm_tokens.specs.Scan.{part}
+use Rattle.pm_tokens.specs.Scan.{Balanced, none, part}
+use Rattle.pm_tokens.proofs.BalanceLaws.{balanced-append}
 use Rattle.pm_node.specs.declared.node.Node.{Node}
-use Rattle.pm_node.specs.Trees.{node_tokens, list_tokens}
-use Rattle.pm_node.proofs.TreeLaws.{list_tokens-append}
+use Rattle.pm_node.specs.Trees.{node_tokens, list_tokens, IsText, IsNormal, EachWhole, Form}
+use Rattle.pm_node.proofs.TreeLaws.{list_tokens-append, normal-append, each-append}
+use Rattle.pm_node.proofs.WalkLaws.{whole-node, normal-rest, each-rest}
 
 -- a part is what comes before a place in it, and what comes behind
 pub part-at : {A : Type 0} (f m t : ℕ) (xs : List A) → f ≤ m → m ≤ t → part f t xs ≡ part f m xs ++ part m t xs
@@ -34,3 +36,37 @@ module _ {Z : Type 0} (xs : List (Arc Node Z)) (f : ℕ) where
   pub run-room : (i t : ℕ) → f ≤ i → i ≤ t → length (list_tokens (part f i xs)) ≤ length (list_tokens (part f t xs))
   run-room i t h k =
       omega (arith, ap (λ z. length (list_tokens z)) (part-at f i t xs h k), ap length (list_tokens-append (part f i xs) (part i t xs)), length-append (list_tokens (part f i xs)) (list_tokens (part i t xs)))
+
+-- a run of nodes in normal form is in normal form
+normal-front : {Z : Type 0} (n : ℕ) (xs : List (Arc Node Z)) → IsNormal xs → IsNormal (take n xs)
+normal-front zero xs h = tt
+normal-front (suc n) [] h = tt
+normal-front (suc zero) (x ∷ xs) h = (h.0, tt, tt)
+normal-front (suc (suc n)) (x ∷ []) h = h
+normal-front (suc (suc n)) (x ∷ (y ∷ ys)) h = (h.0, h.1, normal-front (suc n) (y ∷ ys) h.2)
+
+each-front-part : {Z : Type 0} (n : ℕ) (xs : List (Arc Node Z)) → EachWhole xs → EachWhole (take n xs)
+each-front-part zero xs h = tt
+each-front-part (suc n) [] h = tt
+each-front-part (suc n) (x ∷ xs) h = (h.0, each-front-part n xs h.1)
+
+pub normal-run : {Z : Type 0} (f t : ℕ) (xs : List (Arc Node Z)) → IsNormal xs → IsNormal (part f t xs)
+normal-run f t xs h = normal-front (t - f) (drop f xs) (normal-rest xs f h)
+
+pub each-run : {Z : Type 0} (f t : ℕ) (xs : List (Arc Node Z)) → EachWhole xs → EachWhole (part f t xs)
+each-run f t xs h = each-front-part (t - f) (drop f xs) (each-rest xs f h)
+
+-- a run of whole nodes is a whole number of nodes
+pub whole-nodes : {Z : Type 0} (xs : List (Arc Node Z)) → EachWhole xs → Balanced (list_tokens xs)
+whole-nodes [] h = none
+whole-nodes (x ∷ xs) h = balanced-append (whole-node (arc_value x) h.0) (whole-nodes xs h.1)
+
+-- a fragment with a run of nodes more, of which the first is no text
+pub form-append : {Z : Type 0} (size n : ℕ) (xs ys : List (Arc Node Z)) → Form size xs → IsNormal ys → EachWhole ys → n ≡ length (list_tokens ys) → size + n < 2 ^ 32 → ((x : Arc Node Z) (rest : List (Arc Node Z)) → ys ≡ x ∷ rest → ¬ IsText (arc_value x).body) → Form (size + n) (xs ++ ys)
+form-append size n xs ys f m e s b h = record {
+  counted = omega (arith, f.counted, s, ap length (list_tokens-append xs ys), length-append (list_tokens xs) (list_tokens ys));
+  bounded = b;
+  whole = subst Balanced (sym (list_tokens-append xs ys)) (balanced-append f.whole (whole-nodes ys e));
+  normal = normal-append xs ys f.normal m h;
+  each = each-append xs ys f.each e;
+}

@@ -135,3 +135,15 @@ nodes-rest ns i n h r =
 pub no-more-nodes : {Z : Type 0} (xs : List (Arc Node Z)) → IsNormal xs → length xs ≤ length (list_tokens xs)
 no-more-nodes [] n = omega arith
 no-more-nodes (x ∷ xs) n = omega (arith, n.0, no-more-nodes xs n.2, length-append (node_tokens (arc_value x)) (list_tokens xs))
+
+-- ---- nodes put behind others
+
+pub normal-append : {Z : Type 0} (xs ys : List (Arc Node Z)) → IsNormal xs → IsNormal ys → ((x : Arc Node Z) (rest : List (Arc Node Z)) → ys ≡ x ∷ rest → ¬ IsText (arc_value x).body) → IsNormal (xs ++ ys)
+normal-append [] ys n m h = m
+normal-append (x ∷ []) [] n m h = n
+normal-append (x ∷ []) (y ∷ ys) n m h = (n.0, (λ q. h y ys refl q.1), m)
+normal-append (x ∷ (z ∷ zs)) ys n m h = (n.0, n.1, normal-append (z ∷ zs) ys n.2 m h)
+
+pub each-append : {Z : Type 0} (xs ys : List (Arc Node Z)) → EachWhole xs → EachWhole ys → EachWhole (xs ++ ys)
+each-append [] ys e f = f
+each-append (x ∷ xs) ys e f = (e.0, each-append xs ys e.1 f)

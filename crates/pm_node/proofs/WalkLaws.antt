@@ -43,12 +43,12 @@ whole-node n w = by n.kind n.attrs n.marks n.body w
     by k a m Childless w = leaf k a m none
     by k a m (Children ts) w = balanced-node k a m w
 
-normal-rest : {Z : Type 0} (xs : List (Arc Node Z)) (i : ℕ) → IsNormal xs → IsNormal (drop i xs)
+pub normal-rest : {Z : Type 0} (xs : List (Arc Node Z)) (i : ℕ) → IsNormal xs → IsNormal (drop i xs)
 normal-rest xs zero n = n
 normal-rest [] (suc i) n = tt
 normal-rest (x ∷ xs) (suc i) n = normal-rest xs i n.2
 
-each-rest : {Z : Type 0} (xs : List (Arc Node Z)) (i : ℕ) → EachWhole xs → EachWhole (drop i xs)
+pub each-rest : {Z : Type 0} (xs : List (Arc Node Z)) (i : ℕ) → EachWhole xs → EachWhole (drop i xs)
 each-rest xs zero w = w
 each-rest [] (suc i) w = tt
 each-rest (x ∷ xs) (suc i) w = each-rest xs i w.1

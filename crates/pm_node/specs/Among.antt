@@ -1,7 +1,9 @@
--- Where a position stands among children.
-use Rattle.std.specs.Prelude.{◌≡◌, ℕ, ◌+◌, ◌≤◌, ◌<◌, ◌^◌, List, length, take, get_or}
+-- Where a position stands among children, and runs of them.
+use Rattle.std.specs.Prelude.{◌≡◌, ℕ, ◌+◌, ◌≤◌, ◌<◌, List, ◌++◌, length, take, get_or}
 use Rattle.std.specs.declared.sync.Arc.{Arc}
 use Rattle.std.specs.Arc.{arc_value}
+use Rattle.pm_tokens.specs.Tokens.{Token}
+use Rattle.pm_tokens.specs.Scan.{part}
 use Rattle.pm_node.specs.declared.node.Node.{Node}
 use Rattle.pm_node.specs.Trees.{node_tokens, list_tokens}
 
@@ -13,7 +15,8 @@ pub record Stands {Z : Type 0} (xs : List (Arc Node Z)) (pos index rest : ℕ) :
   pub at_end : index ≡ length xs → rest ≡ 0
   pub inside : (x : Arc Node Z) → index < length xs → x ≡ get_or xs index x → rest < length (node_tokens (arc_value x))
 
--- what is true of borrowed children: their size is that of their tokens, and there are not too many
-pub record IsBorrowed {Z : Type 0} (size : ℕ) (xs : List (Arc Node Z)) : Type 0 where
-  pub counted : size ≡ length (list_tokens xs)
-  pub few : length xs < 2 ^ 32
+-- n of the nodes from i on, and none from `to` on, were put behind those that were there
+pub record Appended {Z : Type 0} (before : List Token) (xs : List (Arc Node Z)) (i to n : ℕ) (after : List Token) : Type 0 where
+  pub some : 0 < n
+  pub within : i + n ≤ to
+  pub tokens : after ≡ before ++ list_tokens (part i (i + n) xs)

@@ -1,6 +1,7 @@
 pub mod Codes
 pub mod Trees
 pub mod Among
+pub mod Chunks
 pub mod Falls
 pub mod Documents
 pub mod Kinds

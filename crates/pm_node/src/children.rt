@@ -1,8 +1,10 @@
 //! The children of a fragment, by their numbers.
-ghost use Rattle.std.specs.Prelude.{◌≡◌, ◌<◌, ◌≤◌, length, get_or};
+ghost use Rattle.std.specs.Prelude.{◌≡◌, ◌+◌, ◌<◌, ◌≤◌, ◌^◌, length, get_or, IfSome};
 ghost use Rattle.pm_node.specs.Trees.{list_tokens};
-ghost use Rattle.pm_node.specs.Among.{Stands, IsBorrowed};
+ghost use Rattle.pm_node.specs.Among.{Stands};
+ghost use Rattle.pm_node.specs.Chunks.{nodes_of, IsBorrowed, IsChunkAt};
 
+use crate::chunks::{CHUNK, Chunks, Piece};
 use crate::node::Node;
 use std::alloc::Global;
 use std::marker::Model;
@@ -11,7 +13,7 @@ use std::sync::Arc;
 /// The nodes of a fragment in order, borrowed from it. A contract sees them as a list.
 #[derive(Drop)]
 pub struct Children<'a> {
-    nodes: &'a [Arc<Node, Global>],
+    nodes: &'a Chunks,
     size: usize,
 }
 
@@ -28,9 +30,9 @@ impl<'a> Model for Children<'a> {
 
     ghost coded = { Prim.hlevel (codes, node.the_row.coded) };
 
-    ghost view = { λ c. c.nodes.now };
+    ghost use Rattle.pm_node.specs.Chunks.{nodes_of, IsBorrowed};
 
-    ghost use Rattle.pm_node.specs.Among.{IsBorrowed};
+    ghost view = { λ c. nodes_of c.nodes.now };
 
     ghost invariant = { λ c. IsBorrowed c.size c.nodes.now };
 }
@@ -45,9 +47,9 @@ pub struct Found {
 }
 
 impl<'a> Children<'a> {
-    pub(crate) fn new(nodes: &'a [Arc<Node, Global>], size: usize) -> Children<'a>
+    pub(crate) fn new(nodes: &'a Chunks, size: usize) -> Children<'a>
         requires { IsBorrowed size nodes.now }
-        ensures { result ≡ nodes.now }
+        ensures { result ≡ nodes_of nodes.now }
     {
         Children { nodes, size }
     }
@@ -71,8 +73,7 @@ impl<'a> Children<'a> {
         requires { i < length self.now }
         ensures { result.now ≡ get_or self.now i result.now }
     {
-        let nodes = self.nodes;
-        &nodes[i]
+        self.nodes.get(i)
     }
 
     /// Where a position stands among them, counted in tokens from the start of the first one. It takes no memory.
@@ -80,8 +81,40 @@ impl<'a> Children<'a> {
         requires { pos ≤ length (list_tokens self.now) }
         ensures { Stands self.now pos result.index result.rest }
     {
-        let nodes = self.nodes;
-        found_among(nodes, pos)
+        let mut rest = pos;
+        for (at, piece) in self.nodes.full.iter().enumerate() {
+            if rest < piece.size {
+                return found_among(&piece.chunk.nodes, rest).behind(at * CHUNK);
+            }
+            rest -= piece.size;
+        }
+        found_among(&self.nodes.last, rest).behind(self.nodes.full.len() * CHUNK)
+    }
+
+    /// The chunk that begins at child `i` and ends before `to`, if there is one. It takes no memory.
+    pub(crate) fn chunk_at(&self, i: usize, to: usize) -> Option<&'a Piece>
+        ensures { IfSome result (λ p. IsChunkAt self.now i to p.now) }
+    {
+        let at = i / CHUNK;
+        if i % CHUNK == 0 && at < self.nodes.full.len() && i < to && CHUNK <= to - i {
+            Some(&self.nodes.full[at])
+        } else {
+            None
+        }
+    }
+}
+
+impl Found {
+    /// The same place, where so many children stand before those that it was found among.
+    fn behind(self, count: usize) -> Found
+        requires { count + self.index < 2 ^ 64 }
+        ensures index { result.index ≡ count + self.index }
+        ensures rest { result.rest ≡ self.rest }
+    {
+        Found {
+            index: count + self.index,
+            rest: self.rest,
+        }
     }
 }
 

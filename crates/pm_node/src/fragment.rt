@@ -2,9 +2,11 @@
 ghost use Rattle.std.specs.Prelude.{◌≡◌, ◌<◌, ◌≤◌, ◌+◌, ◌^◌, length, slice_index_or, [], ◌++◌, ◌↔◌, IsTrue, IfOk, OnOk};
 ghost use Rattle.pm_tokens.specs.Scan.{part};
 ghost use Rattle.pm_tokens.specs.Kids.{children};
+ghost use Rattle.pm_node.specs.Among.{Appended};
 ghost use Rattle.pm_node.specs.Trees.{node_tokens, nodes_tokens, list_tokens, Meets, IsNormal, EachWhole};
 
 use crate::children::Children;
+use crate::chunks::CHUNK;
 use crate::node::{Body, Fragment, Node};
 use std::alloc::{AllocError, Global};
 use std::sync::Arc;
@@ -65,8 +67,9 @@ impl Fragment {
         Ok(made)
     }
 
-    /// Puts the children from..to of another fragment behind the last node, shared with it. A text is joined with a text
-    /// of equal marks before it. After an error the fragment may hold some of them.
+    /// Puts the children from..to of another fragment behind the last node. They are shared with it, whole chunks at once
+    /// where that can be. A text is joined with a text of equal marks before it. After an error the fragment may hold some
+    /// of them.
     pub fn append(
         &mut self,
         alloc: Global,
@@ -81,11 +84,37 @@ impl Fragment {
         requires room { length self.old + length (list_tokens (part from to source.now)) < 2 ^ 32 }
         ensures { OnOk result (self.new ≡ self.old ++ list_tokens (part from to source.now)) }
     {
-        for i in from..to {
-            let child = Arc::try_clone(source.get(i))?;
-            self.push(alloc, child)?;
+        let mut i = from;
+        while i < to {
+            i += self.append_next(alloc, source, i, to)?;
         }
         Ok(())
+    }
+
+    /// Puts child `i` behind the last node, or the whole chunk that begins with it and ends before `to`. It answers how many
+    /// children it put.
+    fn append_next(
+        &mut self,
+        alloc: Global,
+        source: &Children<'_>,
+        i: usize,
+        to: usize,
+    ) -> Result<usize, AllocError>
+        requires some { i < to }
+        requires within { to ≤ length source.now }
+        requires normal { IsNormal source.now }
+        requires each { EachWhole source.now }
+        requires room { length self.old + length (list_tokens (part i to source.now)) < 2 ^ 32 }
+        ensures { IfOk result (λ n. Appended self.old source.now i to n self.new) }
+    {
+        if let Some(piece) = source.chunk_at(i, to) {
+            if self.share(alloc, piece)? {
+                return Ok(CHUNK);
+            }
+        }
+        let child = Arc::try_clone(source.get(i))?;
+        self.push(alloc, child)?;
+        Ok(1)
     }
 
     /// The number of children: each leaf, each open up to its close, and each longest run of neighbouring units with equal

@@ -4,6 +4,7 @@
 mod around;
 mod check;
 mod children;
+mod chunks;
 mod depth;
 mod document;
 mod fault;

@@ -1,10 +1,12 @@
 //! Nodes, and lists of nodes.
-ghost use Rattle.std.specs.Prelude.{◌≡◌, ◌+◌, ◌<◌, ◌^◌, [], ◌++◌, length, IfOk, OnOk, OnErr};
+ghost use Rattle.std.specs.Prelude.{◌≡◌, ◌+◌, ◌<◌, ◌^◌, if◌then◌else◌, [], ◌++◌, length, IfOk, OnOk, OnErr};
 ghost use Rattle.std.specs.Arc.{arc_value};
 ghost use Rattle.pm_tokens.specs.Scan.{Balanced};
+ghost use Rattle.pm_node.specs.Chunks.{piece_nodes, IsChunk};
 ghost use Rattle.pm_node.specs.Trees.{node_tokens, list_tokens, Joined, IsNormal, WholeBody, EachWhole};
 
 use crate::children::Children;
+use crate::chunks::{Chunks, Piece};
 use crate::units::Units;
 use pm_attrs::Attrs;
 use pm_auto::TypeId;
@@ -33,11 +35,11 @@ pub enum Body {
 }
 
 /// Nodes in normal form: no text is empty, and neighbouring texts have different marks. A contract sees their tokens, at
-/// most 2^32 - 1 of them. Nodes are shared, so that a copy copies none.
+/// most 2^32 - 1 of them. Nodes are shared, and so are chunks of neighbours, so that a copy copies none and a change few.
 #[cycle(tree)]
 #[derive(Drop)]
 pub struct Fragment {
-    children: Vec<Arc<Node, Global>>,
+    nodes: Chunks,
     size: usize,
 }
 
@@ -51,16 +53,17 @@ impl Model for Fragment {
     ghost coded = { tokens_code };
 
     ghost use Rattle.pm_node.specs.Trees.{list_tokens, Form};
+    ghost use Rattle.pm_node.specs.Chunks.{nodes_of, Laid};
 
-    ghost view = { λ f. list_tokens f.children.items };
+    ghost view = { λ f. list_tokens (nodes_of f.nodes) };
 
-    ghost invariant = { λ f. Form f.size f.children.items };
+    ghost invariant = { λ f. Form f.size (nodes_of f.nodes) × Laid f.nodes };
 
     ghost size = { length };
 
     ghost use Rattle.pm_node.specs.Falls.{falls};
 
-    ghost size_decreases = { λ f h. falls f.children.items };
+    ghost size_decreases = { λ f h. falls f.nodes };
 }
 
 impl Node {
@@ -85,7 +88,7 @@ impl Fragment {
         ensures { result ≡ [] }
     {
         Fragment {
-            children: Vec::new(alloc),
+            nodes: Chunks::new(alloc),
             size: 0,
         }
     }
@@ -106,7 +109,7 @@ impl Fragment {
         ensures each { EachWhole result }
         ensures bound { length (list_tokens result) < 2 ^ 32 }
     {
-        Children::new(self.children.as_slice(), self.size)
+        Children::new(&self.nodes, self.size)
     }
 
     /// Puts a node behind the last one. A text is joined with a text of equal marks before it, and an empty text is let
@@ -120,18 +123,35 @@ impl Fragment {
         if size == 0 {
             return Ok(());
         }
-        let len = self.children.len();
+        let len = self.nodes.last.len();
         if len > 0 {
-            if let Some(joined) = join_texts(alloc, &self.children[len - 1], &node)? {
+            if let Some(joined) = join_texts(alloc, &self.nodes.last[len - 1], &node)? {
                 let joined = Arc::new(alloc, joined)?;
-                self.children[len - 1] = joined;
+                self.nodes.last[len - 1] = joined;
                 self.size += size;
                 return Ok(());
             }
         }
-        self.children.push(node)?;
+        self.nodes.push(alloc, node)?;
         self.size += size;
         Ok(())
+    }
+
+    /// Puts the nodes of a chunk behind the last node, and shares the chunk, where it can stand there and no text can join
+    /// another one. `false` says that it can't, and then nothing changes.
+    pub(crate) fn share(&mut self, alloc: Global, piece: &Piece) -> Result<bool, AllocError>
+        requires chunk { IsChunk piece.now }
+        requires normal { IsNormal (piece_nodes piece.now) }
+        requires each { EachWhole (piece_nodes piece.now) }
+        requires room { length self.old + length (list_tokens (piece_nodes piece.now)) < 2 ^ 32 }
+        ensures { IfOk result (λ done. self.new ≡ (if done then self.old ++ list_tokens (piece_nodes piece.now) else self.old)) }
+    {
+        if !piece.apart || !self.nodes.is_whole() {
+            return Ok(false);
+        }
+        self.nodes.share(alloc, piece)?;
+        self.size += piece.size;
+        Ok(true)
     }
 }
 

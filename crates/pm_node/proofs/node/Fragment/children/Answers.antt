@@ -1,11 +1,9 @@
-use Rattle.std.proofs.Common.{◌≡◌, arith, subst, sym}
+use Rattle.std.proofs.Common.{arith}
+use Rattle.pm_node.specs.Chunks.{nodes_of}
 use Rattle.pm_node.proofs.TreeLaws.{no-more-nodes}
-use Rattle.pm_node.specs.Among.{IsBorrowed}
 use Rattle.pm_node.proofs.node.Fragment.children.Goals as goal
 
 pub new-requires : goal.new-requires
 new-requires c =
-    let f = c.self.invariant in
-    let xs = c.self.inside.children.items in
-    let e : c.as_slice.result.now ≡ xs = c.as_slice.ensures.value in
-    subst (IsBorrowed c.self.inside.size) (sym e) (record { counted = f.counted; few = omega (arith, f.counted, f.bounded, no-more-nodes xs f.normal) })
+    let f = c.self.invariant.0 in
+    record { counted = f.counted; laid = c.self.invariant.1; few = omega (arith, f.counted, f.bounded, no-more-nodes (nodes_of c.self.inside.nodes) f.normal) }
