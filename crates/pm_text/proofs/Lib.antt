@@ -1,2 +1,3 @@
+pub mod AsciiText
 pub mod Spelled
 pub mod Steps

@@ -39,7 +39,7 @@ both : (a b : Bool) → (a && b) ≡ true → (a ≡ true) × (b ≡ true)
 both true b h = (refl, h)
 both false b h = absurd (cc)
 
-abbrev IsPlain : ℕ → Type 0
+abbrev pub IsPlain : ℕ → Type 0
 IsPlain u = (u < 0xD800) ⊎ ((0xE000 ≤ u) × (u < 0x1_0000))
 
 plain_scalar : (u : ℕ) → IsPlain u → scalar u ≡ true
@@ -56,7 +56,7 @@ plain_apart u v (inr h) p = omega arith
 plain_not_high : (u : ℕ) → IsPlain u → is_high_surrogate u ≡ false
 plain_not_high u h = grind (arith, nat_tests)
 
-plain_not_lone : (before u after : ℕ) → IsPlain u → is_lone before u after ≡ false
+pub plain_not_lone : (before u after : ℕ) → IsPlain u → is_lone before u after ≡ false
 plain_not_lone before u after h = grind (arith, nat_tests)
 
 pair_not_high : (u v : ℕ) → IsPair u v → is_high_surrogate v ≡ false
@@ -65,7 +65,7 @@ pair_not_high u v h = grind (arith, nat_tests)
 pair_is : (u v : ℕ) → IsPair u v → is_pair u v ≡ true
 pair_is u v h = grind (arith, nat_tests)
 
-one_more : (u : ℕ) (us cs : List ℕ) → IsPlain u → u < 0x1_0000 → Spells us cs → Spells (u ∷ us) (u ∷ cs)
+pub one_more : (u : ℕ) (us cs : List ℕ) → IsPlain u → u < 0x1_0000 → Spells us cs → Spells (u ∷ us) (u ∷ cs)
 one_more u us cs h small s = record {
   scalar = rw (plain_scalar u h) s.scalar;
   units_of = rw (one_unit u small) (ap (λ vs. u ∷ vs) s.units_of);

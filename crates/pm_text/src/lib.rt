@@ -1,6 +1,7 @@
 //! Text as UTF-16 units, which positions of a document count, and units as text.
 #![tactic(auto)]
 
+mod ascii;
 mod fault;
 mod lone;
 mod units;

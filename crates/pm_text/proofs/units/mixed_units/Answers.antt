@@ -3,7 +3,7 @@ use Rattle.pm_text.specs.Units.{utf16, IsOneText}
 use Rattle.pm_text.specs.Lone.{HasNoLone}
 use Rattle.pm_text.proofs.Spelled.{text_units, text_whole}
 use Rattle.pm_text.proofs.Steps.{step_on, at_end}
-use Rattle.pm_text.proofs.units.units_of.Goals as goal
+use Rattle.pm_text.proofs.units.mixed_units.Goals as goal
 
 pub loop-unit-preserved : goal.loop-unit-preserved
 loop-unit-preserved c =

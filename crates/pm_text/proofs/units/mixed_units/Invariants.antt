@@ -2,7 +2,7 @@ use Rattle.std.proofs.Common.{◌≡◌, ◌++◌}
 use Rattle.std.specs.Str.{IsUtf8}
 use Rattle.std.specs.Str.Iter.{encode_utf16_pending, encode_utf16_rest}
 use Rattle.pm_text.specs.Units.{utf16}
-use Rattle.pm_text.proofs.units.units_of.Given as goal
+use Rattle.pm_text.proofs.units.mixed_units.Given as goal
 
 abbrev pub invariant-loop-unit : goal.invariant-loop-unit
 invariant-loop-unit l = record {
