@@ -6,3 +6,4 @@ pub mod Fields
 pub mod Reading
 pub mod Contents
 pub mod Views
+pub mod Known

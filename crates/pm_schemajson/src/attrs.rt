@@ -48,7 +48,7 @@ fn push_attr(
 fn attr_list(alloc: Global, members: &Map<String, Json>) -> Result<AttrSpecs, SchemaReadError>
     ensures { Gives attributes result (attr_list_of (members_view members.now.entries)) }
 {
-    let mut attrs = Listed::new(alloc);
+    let mut attrs = Listed::from_vec(Vec::with_capacity(alloc, members.len())?);
     for (name, value) in members.iter() {
         object(value, Field::Attrs)?;
         let default = default_of(alloc, value)?;

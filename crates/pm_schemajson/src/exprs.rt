@@ -1,16 +1,16 @@
 //! The content expressions of the node types.
 ghost use Rattle.std.specs.Prelude.{◌≡◌, IfOk, map};
 ghost use Rattle.pm_auto.specs.Tree.{tree};
-ghost use Rattle.pm_expr.specs.Reader.{expr_of as text_says};
 ghost use Rattle.pm_expr.specs.Tables.{named as name_groups, texts};
 ghost use Rattle.pm_schemajson.specs.Answers.{Gives};
-ghost use Rattle.pm_schemajson.specs.Contents.{named, content_of as content_from, contents_of as contents_from, with_content};
+ghost use Rattle.pm_schemajson.specs.Contents.{named, contents_of as contents_from, with_content};
 ghost use Rattle.pm_schemajson.specs.Views.{node_text, node_texts, node_type, node_types};
 
+use crate::content::content_of;
 use crate::error::SchemaReadError;
 use crate::kinds::NodeText;
-use pm_auto::{Expr, TypeId};
-use pm_expr::{ExprError, NameGroups, Names, parse};
+use pm_auto::Expr;
+use pm_expr::{NameGroups, Names};
 use pm_list::Listed;
 use pm_schema::NodeSpec;
 use pm_value::Text;
@@ -67,30 +67,15 @@ fn contents_of(
     ensures { Gives node_types result (contents_from names.now 0 (node_texts nodes.items)) }
 {
     let mut kinds = Listed::new(alloc);
+    let mut known = Vec::new(alloc);
     let mut kind = 0;
     nodes.reverse();
     while let Some(node) = nodes.pop() {
-        let content = content_of(alloc, names, kind, node.content.as_str())?;
+        let content = content_of(alloc, names, &mut known, kind, node.content.as_str())?;
         kinds.push(filled(node, content))?;
         kind += 1;
     }
     Ok(kinds)
-}
-
-/// The content of the type of this number.
-fn content_of(
-    alloc: Global,
-    names: &Names,
-    kind: TypeId,
-    text: &str,
-) -> Result<Expr, SchemaReadError>
-    ensures { Gives tree result (content_from kind (text_says names.now text.now)) }
-{
-    match parse(alloc, text, names) {
-        Ok(content) => Ok(content),
-        Err(ExprError::NoMemory) => Err(SchemaReadError::NoMemory),
-        Err(error) => Err(SchemaReadError::Expr { kind, error }),
-    }
 }
 
 /// The node type with this content.

@@ -2,6 +2,7 @@
 #![tactic(auto)]
 
 mod attrs;
+mod content;
 mod error;
 mod exprs;
 mod fields;
