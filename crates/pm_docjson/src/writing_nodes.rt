@@ -1,5 +1,5 @@
 //! Nodes as JSON values.
-ghost use Rattle.std.specs.Prelude.{◌≡◌, ◌<◌, ◌==◌, [], true, false, map, codes, IfOk, OnOk, Ok, Some, length};
+ghost use Rattle.std.specs.Prelude.{◌≡◌, ◌<◌, ◌==◌, [], true, false, map, codes, IfOk, OnOk, Ok, Some, length, string_bytes};
 ghost use Rattle.std.specs.List.{AllByRecursion};
 ghost use Rattle.std.specs.Arc.{arc_value};
 ghost use Rattle.serde_json.specs.View.{view, items_view, items_of, members_view};
@@ -131,13 +131,20 @@ fn text_value(alloc: Global, units: &Units) -> Result<Json, AllocError>
     ensures units { OnOk result (HasNoLone units.now → utf16 (utf8 units.now) ≡ units.now) }
 {
     match text_of(alloc, units.as_slice()) {
-        Ok(text) => Ok(Json::try_from_str(alloc, text.as_str())?),
+        Ok(text) => Ok(string_json(text)),
         Err(TextError::NoMemory) => Err(AllocError),
         Err(TextError::Lone { at: _ }) => {
             let text = String::from_utf16_lossy(alloc, units.as_slice())?;
-            Ok(Json::try_from_str(alloc, text.as_str())?)
+            Ok(string_json(text))
         }
     }
+}
+
+/// The JSON value of a text. It takes no memory.
+fn string_json(text: String) -> Json
+    ensures { view result ≡ string (string_bytes text) }
+{
+    Json::String(text)
 }
 
 /// The JSON value of a node that is no text, with the JSON values of its children.
