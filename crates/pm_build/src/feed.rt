@@ -63,7 +63,9 @@ impl Builder {
     {
         let mut start = from;
         let mut end = to;
-        for child in source.children() {
+        let children = source.children();
+        for i in 0..children.len() {
+            let child = children.get(i);
             if end == 0 {
                 return Ok(());
             }

@@ -21,7 +21,9 @@ impl Builder {
         ensures { OnOk result (self.new ≡ self.old ++ path source.now pos) }
     {
         let mut rest = pos;
-        for child in source.children() {
+        let children = source.children();
+        for i in 0..children.len() {
+            let child = children.get(i);
             let size = child.size();
             if rest < size {
                 return self.open_path_in(alloc, child, rest);

@@ -14,7 +14,9 @@ pub fn depth_at(content: &Fragment, pos: usize) -> usize
     ensures bound { result ≤ pos }
 {
     let mut rest = pos;
-    for child in content.children() {
+    let children = content.children();
+    for i in 0..children.len() {
+        let child = children.get(i);
         let size = child.size();
         if rest < size {
             return depth_in(child, rest);
@@ -49,7 +51,9 @@ pub fn unit_at(content: &Fragment, pos: usize) -> Option<u16>
     ensures { result ≡ unit_at content.now pos }
 {
     let mut rest = pos;
-    for child in content.children() {
+    let children = content.children();
+    for i in 0..children.len() {
+        let child = children.get(i);
         let size = child.size();
         if rest < size {
             return unit_in(child, rest);

@@ -9,7 +9,7 @@ use Rattle.pm_node.specs.Trees.{node_tokens, body_tokens}
 use Rattle.pm_tokens.specs.Schemas.{compatible}
 use Rattle.pm_schema.specs.Documents.{documents_of}
 use Rattle.pm_build.proofs.FeedWalk.{walked-start, walked-more, walked-end, walked-done, walked-refused, walked-room}
-use Rattle.pm_node.proofs.WalkLaws.{child-within}
+use Rattle.pm_node.proofs.WalkLaws.{child-within, in-range, past-range}
 use Rattle.pm_build.proofs.FedLaws.{fed_err, appended-none, appended-whole, appended-text, fed-node, refused-node, room-node, compatible-refl}
 use Rattle.pm_tokens.proofs.ScanLaws.{length-owned}
 use Rattle.pm_tokens.proofs.ListLaws.{part_none, part_past, part_all}
@@ -17,30 +17,30 @@ use Rattle.pm_node.proofs.TreeLaws.{node_tokens_at}
 use Rattle.pm_node.specs.declared.node.Body.TheVariants.{Text, Leaf as Childless, Children}
 use Rattle.pm_build.proofs.builder.Builder.+feed.Goals as goal
 
-pub feed-loop-child-init : goal.feed-loop-child-init
-feed-loop-child-init t c = walked-start _ _ _ _ _
+pub feed-loop-i-init : goal.feed-loop-i-init
+feed-loop-i-init t c = walked-start _ _ _ _ _
 
 pub feed-feed_child-requires : goal.feed-feed_child-requires
 feed-feed_child-requires t c = (
   let d : 3 * length c.args.source.now + 2 ≡ t = c.decreases in
-      let w = child-within c.children-child-items.result.now _ c.child-item.result c.loop-child-test.true c.child-item.is in
-      let g : 3 * length (node_tokens (arc_value c.child-item.result)) + 1 < t = omega (arith, d, w, ap length c.children-child-items.ensures.tokens) in g,
-  omega (arith, c.requires, walked-room _ _ _ _ _ _ _ _ _ c.loop-child.invariant),
+      let w = child-within c.children-children.result _ c.get-child.result.now (in-range c.len-i-end.ensures c.loop-i-test.true) c.get-child.ensures in
+      let g : 3 * length (node_tokens (arc_value c.get-child.result.now)) + 1 < t = omega (arith, d, w, ap length c.children-children.ensures.tokens) in g,
+  omega (arith, c.requires, walked-room _ _ _ _ _ _ _ _ _ c.loop-i.invariant),
 )
 
 pub feed-returns-in_err-feed_child : goal.feed-returns-in_err-feed_child
 feed-returns-in_err-feed_child t c = let p = err_from_is_err_and c.from_residual.result c.from_residual.ensures.1 in
     let d = c.deref.ensures in
     let bal = subst (λ n. Balanced (node_tokens n)) d c.size-size.ensures.whole in
-    fed_err _ _ _ _ _ _ _ _ p.1 p.2 c.in_err-feed_child.ensures (λ refused. let e = walked-refused _ _ _ _ _ _ _ _ c.child-item.result _ c.loop-child.invariant c.loop-child-test.true c.child-item.is bal refused in rw c.children-child-items.ensures.tokens at e)
+    fed_err _ _ _ _ _ _ _ _ p.1 p.2 c.in_err-feed_child.ensures (λ refused. let e = walked-refused _ _ _ _ _ _ _ _ c.get-child.result.now _ c.loop-i.invariant (in-range c.len-i-end.ensures c.loop-i-test.true) c.get-child.ensures bal refused in rw c.children-children.ensures.tokens at e)
 
-pub feed-loop-child-preserved : goal.feed-loop-child-preserved
-feed-loop-child-preserved t c =
+pub feed-loop-i-preserved : goal.feed-loop-i-preserved
+feed-loop-i-preserved t c =
     let d = c.deref.ensures in
-    walked-more _ _ _ _ _ _ _ _ c.size-size.result _ _ c.child-item.result _ _ c.loop-child.invariant c.loop-child-test.true c.child-item.is (subst (λ n. Balanced (node_tokens n)) d c.size-size.ensures.whole) (c.size-size.ensures.size ∙ ap (λ n. length (node_tokens n)) d) c.in_ok-feed_child.ensures c.saturating_sub-start.ensures c.saturating_sub-end.ensures
+    walked-more _ _ _ _ _ _ _ _ c.size-size.result _ _ c.get-child.result.now _ _ c.loop-i.invariant (in-range c.len-i-end.ensures c.loop-i-test.true) c.get-child.ensures (subst (λ n. Balanced (node_tokens n)) d c.size-size.ensures.whole) (c.size-size.ensures.size ∙ ap (λ n. length (node_tokens n)) d) c.in_ok-feed_child.ensures c.saturating_sub-start.ensures c.saturating_sub-end.ensures
 
 pub feed-returns : goal.feed-returns
-feed-returns t c = let e = walked-end _ _ _ _ _ _ _ _ _ c.loop-child.invariant c.loop-child-test.false in rw c.children-child-items.ensures.tokens at e
+feed-returns t c = let e = walked-end _ _ _ _ _ _ _ _ _ c.loop-i.invariant (past-range c.len-i-end.ensures c.loop-i-test.false) in rw c.children-children.ensures.tokens at e
 
 pub feed_child-returns-then-to-from : goal.feed_child-returns-then-to-from
 feed_child-returns-then-to-from t c =
@@ -81,4 +81,4 @@ feed_part-returns-in_ok-feed-in-Children t c =
     fed-node (compatible (documents_of c.args.schema.now.spec)) c.args.self.now c.feed_open.new.self c.args.from c.args.to c.args.node.now c.in-Children.content _ _ c.in-Children.is c.size-size.ensures.whole c.requires.some c.in_ok-feed_open-in-Children.ensures c.saturating_sub-start.ensures refl c.feed.new.self _ _ _ c.size-size.result _ c.size-size.ensures.size c.in_ok-feed-in-Children.ensures c.saturating_sub.ensures c.saturating_sub-in-Children.ensures c.feed_close.ensures
 
 pub feed-returns-then-end-eq0 : goal.feed-returns-then-end-eq0
-feed-returns-then-end-eq0 t c = let e = walked-done _ _ _ _ _ _ _ _ _ c.loop-child.invariant c.if-end-eq0.true in rw c.children-child-items.ensures.tokens at e
+feed-returns-then-end-eq0 t c = let e = walked-done _ _ _ _ _ _ _ _ _ c.loop-i.invariant c.if-end-eq0.true in rw c.children-children.ensures.tokens at e

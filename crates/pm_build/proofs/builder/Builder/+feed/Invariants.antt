@@ -6,8 +6,8 @@ use Rattle.pm_schema.specs.Documents.{documents_of}
 use Rattle.pm_build.proofs.FeedWalk.{Walked}
 use Rattle.pm_build.proofs.builder.Builder.+feed.Given as goal
 
-abbrev pub invariant-feed-loop-child : goal.invariant-feed-loop-child
-invariant-feed-loop-child l = Walked (compatible (documents_of l.schema.spec)) l.fn.self l.child-items l.child-index l.from l.to l.start l.end l.self
+abbrev pub invariant-feed-loop-i : goal.invariant-feed-loop-i
+invariant-feed-loop-i l = Walked (compatible (documents_of l.schema.spec)) l.fn.self l.children l.i l.from l.to l.start l.end l.self
 
 abbrev pub decreases-feed : goal.decreases-feed
 decreases-feed l = 3 * length l.source.now + 2

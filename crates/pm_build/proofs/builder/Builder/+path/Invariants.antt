@@ -4,9 +4,9 @@ use Rattle.pm_node.proofs.WalkLaws.{rest}
 use Rattle.pm_build.specs.Positions.{path}
 use Rattle.pm_build.proofs.builder.Builder.+path.Given as goal
 
-abbrev pub invariant-open_path-loop-child : goal.invariant-open_path-loop-child
-invariant-open_path-loop-child l = record {
-  same : path (list_tokens l.child-items) l.pos ≡ path (rest l.child-items l.child-index) l.rest;
+abbrev pub invariant-open_path-loop-i : goal.invariant-open_path-loop-i
+invariant-open_path-loop-i l = record {
+  same : path (list_tokens l.children) l.pos ≡ path (rest l.children l.i) l.rest;
   kept : l.self ≡ l.fn.self;
 }
 

@@ -6,7 +6,7 @@ use Rattle.pm_tokens.specs.Schemas.{compatible}
 use Rattle.pm_tokens.proofs.SchemaLaws.{compatible-itself}
 use Rattle.pm_schema.specs.Documents.{documents_of}
 use Rattle.pm_node.specs.Trees.{node_tokens}
-use Rattle.pm_node.proofs.WalkLaws.{child-within}
+use Rattle.pm_node.proofs.WalkLaws.{child-within, in-range, past-range}
 use Rattle.pm_build.specs.Fed.{Crossed}
 use Rattle.pm_build.proofs.CrossWalk.{passed-start, passed-more, passed-end, passed-done, passed-refused}
 use Rattle.pm_build.proofs.CrossLaws.{crossed_err, crossed-none, crossed-whole, crossed-flat, crossed-node, stopped-node}
@@ -14,35 +14,35 @@ use Rattle.pm_tokens.proofs.ScanLaws.{length-owned}
 use Rattle.pm_tokens.proofs.ListLaws.{part_none, part_past, part_all}
 use Rattle.pm_build.proofs.crossing.OpenTypes.+cross.Goals as goal
 
-pub cross-loop-child-init : goal.cross-loop-child-init
-cross-loop-child-init t c = passed-start _ _ _ _ _
+pub cross-loop-i-init : goal.cross-loop-i-init
+cross-loop-i-init t c = passed-start _ _ _ _ _
 
 pub cross-cross_child-requires : goal.cross-cross_child-requires
 cross-cross_child-requires t c =
     let d : 3 * length c.args.source.now + 2 ≡ t = c.decreases in
-    let w = child-within c.children-child-items.result.now _ c.child-item.result c.loop-child-test.true c.child-item.is in
-    let g : 3 * length (node_tokens c.deref-in-loop-child.result.now) + 1 < t = omega (arith, d, w, ap (λ m. length (node_tokens m)) c.deref-in-loop-child.ensures, ap length c.children-child-items.ensures.tokens) in
+    let w = child-within c.children-children.result _ c.get-child.result.now (in-range c.len-i-end.ensures c.loop-i-test.true) c.get-child.ensures in
+    let g : 3 * length (node_tokens c.deref-in-loop-i.result.now) + 1 < t = omega (arith, d, w, ap (λ m. length (node_tokens m)) c.deref-in-loop-i.ensures, ap length c.children-children.ensures.tokens) in
     (g, tt)
 
 pub cross-returns-in_err-cross_child : goal.cross-returns-in_err-cross_child
 cross-returns-in_err-cross_child t c =
     let p = err_from_is_err_and c.from_residual.result c.from_residual.ensures.1 in
     let d = c.deref.ensures in
-    let own = ap (λ n. part c.loop-child.start c.loop-child.end (owned [] (node_tokens n))) c.deref-in-loop-child.ensures in
+    let own = ap (λ n. part c.loop-i.start c.loop-i.end (owned [] (node_tokens n))) c.deref-in-loop-i.ensures in
     let bal = subst (λ n. Balanced (node_tokens n)) d c.size-size.ensures.whole in
-    crossed_err _ _ _ _ _ _ _ _ p.1 p.2 c.in_err-cross_child.ensures (λ refused. let e = passed-refused _ _ _ _ _ _ _ _ c.child-item.result _ c.loop-child.invariant c.loop-child-test.true c.child-item.is bal (rw own at refused) in rw c.children-child-items.ensures.tokens at e)
+    crossed_err _ _ _ _ _ _ _ _ p.1 p.2 c.in_err-cross_child.ensures (λ refused. let e = passed-refused _ _ _ _ _ _ _ _ c.get-child.result.now _ c.loop-i.invariant (in-range c.len-i-end.ensures c.loop-i-test.true) c.get-child.ensures bal (rw own at refused) in rw c.children-children.ensures.tokens at e)
 
-pub cross-loop-child-preserved : goal.cross-loop-child-preserved
-cross-loop-child-preserved t c =
+pub cross-loop-i-preserved : goal.cross-loop-i-preserved
+cross-loop-i-preserved t c =
     let d = c.deref.ensures in
-    let own = ap (λ n. part c.loop-child.start c.loop-child.end (owned [] (node_tokens n))) c.deref-in-loop-child.ensures in
-    passed-more _ _ _ _ _ _ _ _ c.size-size.result _ _ c.child-item.result _ _ c.loop-child.invariant c.loop-child-test.true c.child-item.is (subst (λ n. Balanced (node_tokens n)) d c.size-size.ensures.whole) (c.size-size.ensures.size ∙ ap (λ n. length (node_tokens n)) d) (rw own at c.in_ok-cross_child.ensures) c.saturating_sub-start.ensures c.saturating_sub-end.ensures
+    let own = ap (λ n. part c.loop-i.start c.loop-i.end (owned [] (node_tokens n))) c.deref-in-loop-i.ensures in
+    passed-more _ _ _ _ _ _ _ _ c.size-size.result _ _ c.get-child.result.now _ _ c.loop-i.invariant (in-range c.len-i-end.ensures c.loop-i-test.true) c.get-child.ensures (subst (λ n. Balanced (node_tokens n)) d c.size-size.ensures.whole) (c.size-size.ensures.size ∙ ap (λ n. length (node_tokens n)) d) (rw own at c.in_ok-cross_child.ensures) c.saturating_sub-start.ensures c.saturating_sub-end.ensures
 
 pub cross-returns : goal.cross-returns
-cross-returns t c = let e = passed-end _ _ _ _ _ _ _ _ _ c.loop-child.invariant c.loop-child-test.false in rw c.children-child-items.ensures.tokens at e
+cross-returns t c = let e = passed-end _ _ _ _ _ _ _ _ _ c.loop-i.invariant (past-range c.len-i-end.ensures c.loop-i-test.false) in rw c.children-children.ensures.tokens at e
 
 pub cross-returns-then-end-eq0 : goal.cross-returns-then-end-eq0
-cross-returns-then-end-eq0 t c = let e = passed-done _ _ _ _ _ _ _ _ _ c.loop-child.invariant c.if-end-eq0.true in rw c.children-child-items.ensures.tokens at e
+cross-returns-then-end-eq0 t c = let e = passed-done _ _ _ _ _ _ _ _ _ c.loop-i.invariant c.if-end-eq0.true in rw c.children-children.ensures.tokens at e
 
 pub cross_child-returns-then-to-from : goal.cross_child-returns-then-to-from
 cross_child-returns-then-to-from t c =

@@ -5,8 +5,8 @@ use Rattle.pm_schema.specs.Documents.{documents_of}
 use Rattle.pm_build.proofs.CrossWalk.{Passed}
 use Rattle.pm_build.proofs.crossing.OpenTypes.+cross.Given as goal
 
-abbrev pub invariant-cross-loop-child : goal.invariant-cross-loop-child
-invariant-cross-loop-child l = Passed (compatible (documents_of l.schema.spec)) l.fn.self l.child-items l.child-index l.from l.to l.start l.end l.self
+abbrev pub invariant-cross-loop-i : goal.invariant-cross-loop-i
+invariant-cross-loop-i l = Passed (compatible (documents_of l.schema.spec)) l.fn.self l.children l.i l.from l.to l.start l.end l.self
 
 abbrev pub decreases-cross : goal.decreases-cross
 decreases-cross l = 3 * length l.source.now + 2
