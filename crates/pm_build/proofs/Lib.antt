@@ -1,7 +1,9 @@
 pub mod FrameLaws
 pub mod FedLaws
-pub mod FeedWalk
 pub mod CrossLaws
-pub mod CrossWalk
 pub mod PositionLaws
 pub mod UnknownTypes
+pub mod SpanLaws
+pub mod FoundLaws
+pub mod CrossSpan
+pub mod FeedSpan

@@ -23,7 +23,7 @@ use Rattle.pm_build.specs.Positions.{first_unit, unit_at, path, high_unit, low_u
 take-behind : (xs ys : List Token) (r : ℕ) → length xs ≤ r → take r (xs ++ ys) ≡ xs ++ take (r - length xs) ys
 take-behind xs ys r h = take_over r xs ys ∙ ap (λ z. z ++ take (r - length xs) ys) (take_all r xs h)
 
-around-balanced : (ts : List Token) → Balanced ts → around [] ts ≡ []
+pub around-balanced : (ts : List Token) → Balanced ts → around [] ts ≡ []
 around-balanced ts b = nil_from_length (around [] ts) (around-length [] [] ts refl ∙ ap length (unclosed-balanced [] b))
 
 module _ (xs ys : List Token) (r : ℕ) (b : Balanced xs) (h : length xs ≤ r) where

@@ -1,15 +1,15 @@
 //! Contents made from left to right.
-ghost use Rattle.std.specs.Prelude.{◌≡◌, ◌+◌, ◌<◌, ◌^◌, [], ◌∷◌, ◌++◌, OnOk, length};
+ghost use Rattle.std.specs.Prelude.{◌≡◌, ◌+◌, ◌<◌, ◌≤◌, ◌^◌, [], ◌∷◌, ◌++◌, OnOk, length};
 ghost use Rattle.std.specs.Arc.{arc_value};
 ghost use Rattle.pm_tokens.specs.Tokens.{Open, Close};
-ghost use Rattle.pm_tokens.specs.Scan.{unclosed};
-ghost use Rattle.pm_node.specs.Trees.{node_tokens};
+ghost use Rattle.pm_tokens.specs.Scan.{unclosed, part};
+ghost use Rattle.pm_node.specs.Trees.{node_tokens, list_tokens, IsNormal, EachWhole};
 ghost use Rattle.pm_build.specs.Frames.{first_of};
 
 use pm_attrs::Attrs;
 use pm_auto::TypeId;
 use pm_marks::MarkSet;
-use pm_node::{Body, Fragment, Node};
+use pm_node::{Body, Children, Fragment, Node};
 use std::alloc::{AllocError, Global};
 use std::marker::Model;
 use std::sync::Arc;
@@ -86,6 +86,35 @@ impl Builder {
             let _ = self.base.size();
         }
         Ok(())
+    }
+
+    /// Puts the nodes from..to of others behind what is there, shared with them. After an error the builder may hold
+    /// anything.
+    pub(crate) fn append(
+        &mut self,
+        alloc: Global,
+        nodes: &Children<'_>,
+        from: usize,
+        to: usize,
+    ) -> Result<(), AllocError>
+        requires order { from ≤ to }
+        requires within { to ≤ length nodes.now }
+        requires normal { IsNormal nodes.now }
+        requires each { EachWhole nodes.now }
+        requires room { length self.old + length (list_tokens (part from to nodes.now)) < 2 ^ 32 }
+        ensures { OnOk result (self.new ≡ self.old ++ list_tokens (part from to nodes.now)) }
+    {
+        let len = self.frames.len();
+        if len > 0 {
+            let top = &mut self.frames[len - 1].content;
+            let done = top.append(alloc, nodes, from, to);
+            let _ = top.size();
+            done
+        } else {
+            let done = self.base.append(alloc, nodes, from, to);
+            let _ = self.base.size();
+            done
+        }
     }
 
     /// Opens a node. After an error the builder may hold anything.

@@ -1,15 +1,15 @@
 //! Parts of a content, passed over by the types of the open nodes alone.
-ghost use Rattle.std.specs.Prelude.{◌≡◌, ◌+◌, ◌<◌, [], ◌∷◌, OnOk};
+ghost use Rattle.std.specs.Prelude.{◌≡◌, ◌+◌, ◌<◌, ◌≤◌, [], ◌∷◌, OnOk, length};
 ghost use Rattle.pm_tokens.specs.Scan.{part, owned, plain, unclosed, Opening, Closing};
 ghost use Rattle.pm_tokens.specs.Schemas.{compatible};
 ghost use Rattle.pm_schema.specs.Documents.{documents_of};
-ghost use Rattle.pm_node.specs.Trees.{node_tokens};
+ghost use Rattle.pm_node.specs.Trees.{node_tokens, list_tokens, IsNormal, EachWhole};
 ghost use Rattle.pm_build.specs.Fed.{Crosses};
 
 use crate::feed::are_compatible;
 use crate::refused::Refused;
 use pm_auto::TypeId;
-use pm_node::{Body, Fragment, Node};
+use pm_node::{Body, Children, Fragment, Node};
 use pm_schema::Schema;
 use std::alloc::{AllocError, Global};
 use std::marker::Model;
@@ -75,20 +75,41 @@ impl OpenTypes {
     ) -> Result<(), Refused>
         ensures { Crosses (compatible (documents_of schema.now.spec)) self.old (part from to (owned [] source.now)) result self.new }
     {
-        let mut start = from;
-        let mut end = to;
-        let children = source.children();
-        for i in 0..children.len() {
-            let child = children.get(i);
-            if end == 0 {
-                return Ok(());
-            }
-            let size = child.size();
-            self.cross_child(schema, child, start, end)?;
-            start = start.saturating_sub(size);
-            end = end.saturating_sub(size);
+        let end = source.size().min(to);
+        if end <= from {
+            return Ok(());
         }
-        Ok(())
+        let children = source.children();
+        self.cross_between(schema, &children, from, end)
+    }
+
+    /// Passes over the tokens from..to of nodes. Those that are wholly there leave open what was open, so only the one in
+    /// which the part starts and the one in which it ends are looked at.
+    #[cycle(cross)]
+    fn cross_between(
+        &mut self,
+        schema: &Schema,
+        nodes: &Children<'_>,
+        from: usize,
+        to: usize,
+    ) -> Result<(), Refused>
+        requires some { from < to }
+        requires within { to ≤ length (list_tokens nodes.now) }
+        requires normal { IsNormal nodes.now }
+        requires each { EachWhole nodes.now }
+        ensures { Crosses (compatible (documents_of schema.now.spec)) self.old (part from to (owned [] (list_tokens nodes.now))) result self.new }
+    {
+        let first = nodes.find(from);
+        let last = nodes.find(to);
+        let child = nodes.get(first.index);
+        if last.index <= first.index {
+            return self.cross_child(schema, child, first.rest, last.rest);
+        }
+        self.cross_child(schema, child, first.rest, child.size())?;
+        if last.rest == 0 {
+            return Ok(());
+        }
+        self.cross_child(schema, nodes.get(last.index), 0, last.rest)
     }
 
     /// Passes over the tokens from..to of a node. A whole node leaves open what was open.

@@ -1,10 +1,10 @@
 //! Parts of a content, fed to a builder.
-ghost use Rattle.std.specs.Prelude.{◌≡◌, ℕ, ◌+◌, ◌-◌, ◌<◌, ◌≤◌, ◌^◌, [], ◌∷◌, ◌++◌, OnOk, length};
+ghost use Rattle.std.specs.Prelude.{◌≡◌, ℕ, ◌+◌, ◌-◌, ◌<◌, ◌≤◌, ◌^◌, [], ◌∷◌, ◌++◌, OnOk, length, drop};
 ghost use Rattle.std.specs.Arc.{arc_value};
 ghost use Rattle.pm_tokens.specs.Tokens.{Open};
 ghost use Rattle.pm_build.specs.Fed.{Fed};
 ghost use Rattle.pm_tokens.specs.Scan.{part, owned, plain, Opening, Closing};
-ghost use Rattle.pm_node.specs.Trees.{node_tokens, body_tokens};
+ghost use Rattle.pm_node.specs.Trees.{node_tokens, list_tokens, body_tokens, IsNormal, EachWhole};
 ghost use Rattle.pm_tokens.specs.Schemas.{compatible};
 ghost use Rattle.pm_tokens.specs.Kids.{text_tokens};
 ghost use Rattle.pm_schema.specs.Documents.{documents_of};
@@ -13,7 +13,7 @@ use crate::builder::Builder;
 use crate::refused::Refused;
 use pm_auto::TypeId;
 use pm_marks::Same;
-use pm_node::{Body, Fragment, Node, Units};
+use pm_node::{Body, Children, Fragment, Node, Units};
 use pm_schema::Schema;
 use std::alloc::{AllocError, Global};
 use std::sync::Arc;
@@ -61,19 +61,70 @@ impl Builder {
         requires { length self.old + (to - from) < 2 ^ 32 }
         ensures { Fed (compatible (documents_of schema.now.spec)) self.old (part from to (owned [] source.now)) result self.new }
     {
-        let mut start = from;
-        let mut end = to;
-        let children = source.children();
-        for i in 0..children.len() {
-            let child = children.get(i);
-            if end == 0 {
-                return Ok(());
-            }
-            let size = child.size();
-            self.feed_child(alloc, schema, child, start, end)?;
-            start = start.saturating_sub(size);
-            end = end.saturating_sub(size);
+        let end = source.size().min(to);
+        if end <= from {
+            return Ok(());
         }
+        let children = source.children();
+        self.feed_between(alloc, schema, &children, from, end)
+    }
+
+    /// Appends the tokens from..to of nodes. Those that are wholly there are shared in one run.
+    #[cycle(feed)]
+    fn feed_between(
+        &mut self,
+        alloc: Global,
+        schema: &Schema,
+        nodes: &Children<'_>,
+        from: usize,
+        to: usize,
+    ) -> Result<(), Refused>
+        requires some { from < to }
+        requires within { to ≤ length (list_tokens nodes.now) }
+        requires normal { IsNormal nodes.now }
+        requires each { EachWhole nodes.now }
+        requires room { length self.old + (to - from) < 2 ^ 32 }
+        ensures { Fed (compatible (documents_of schema.now.spec)) self.old (part from to (owned [] (list_tokens nodes.now))) result self.new }
+    {
+        let first = nodes.find(from);
+        let last = nodes.find(to);
+        if last.index <= first.index {
+            let child = nodes.get(first.index);
+            return self.feed_child(alloc, schema, child, first.rest, last.rest);
+        }
+        self.feed_rest(alloc, schema, nodes, first.index, first.rest, last.index)?;
+        if last.rest == 0 {
+            return Ok(());
+        }
+        self.feed_child(alloc, schema, nodes.get(last.index), 0, last.rest)
+    }
+
+    /// Appends the nodes index..end without the first `skip` tokens of the first of them.
+    #[cycle(feed)]
+    fn feed_rest(
+        &mut self,
+        alloc: Global,
+        schema: &Schema,
+        nodes: &Children<'_>,
+        index: usize,
+        skip: usize,
+        end: usize,
+    ) -> Result<(), Refused>
+        requires order { index < end }
+        requires within { end ≤ length nodes.now }
+        requires normal { IsNormal nodes.now }
+        requires each { EachWhole nodes.now }
+        requires inside { skip ≤ length (list_tokens (part index (index + 1) nodes.now)) }
+        requires room { length self.old + (length (list_tokens (part index end nodes.now)) - skip) < 2 ^ 32 }
+        ensures { Fed (compatible (documents_of schema.now.spec)) self.old (drop skip (owned [] (list_tokens (part index end nodes.now)))) result self.new }
+    {
+        if skip == 0 {
+            self.append(alloc, nodes, index, end)?;
+            return Ok(());
+        }
+        let child = nodes.get(index);
+        self.feed_child(alloc, schema, child, skip, child.size())?;
+        self.append(alloc, nodes, index + 1, end)?;
         Ok(())
     }
 

@@ -20,17 +20,14 @@ impl Builder {
         requires { pos ≤ length source.now }
         ensures { OnOk result (self.new ≡ self.old ++ path source.now pos) }
     {
-        let mut rest = pos;
         let children = source.children();
-        for i in 0..children.len() {
-            let child = children.get(i);
-            let size = child.size();
-            if rest < size {
-                return self.open_path_in(alloc, child, rest);
-            }
-            rest -= size;
+        let found = children.find(pos);
+        if found.index < children.len() {
+            let child = children.get(found.index);
+            self.open_path_in(alloc, child, found.rest)
+        } else {
+            Ok(())
         }
-        Ok(())
     }
 
     #[cycle(path)]

@@ -13,17 +13,14 @@ pub fn depth_at(content: &Fragment, pos: usize) -> usize
     ensures depth { result ≡ depth_at content.now pos }
     ensures bound { result ≤ pos }
 {
-    let mut rest = pos;
     let children = content.children();
-    for i in 0..children.len() {
-        let child = children.get(i);
-        let size = child.size();
-        if rest < size {
-            return depth_in(child, rest);
-        }
-        rest -= size;
+    let found = children.find(pos);
+    if found.index < children.len() {
+        let child = children.get(found.index);
+        depth_in(child, found.rest)
+    } else {
+        0
     }
-    0
 }
 
 #[cycle(depth)]
@@ -50,17 +47,13 @@ fn depth_in(node: &Node, pos: usize) -> usize
 pub fn unit_at(content: &Fragment, pos: usize) -> Option<u16>
     ensures { result ≡ unit_at content.now pos }
 {
-    let mut rest = pos;
-    let children = content.children();
-    for i in 0..children.len() {
-        let child = children.get(i);
-        let size = child.size();
-        if rest < size {
-            return unit_in(child, rest);
-        }
-        rest -= size;
+    if content.size() <= pos {
+        return None;
     }
-    None
+    let children = content.children();
+    let found = children.find(pos);
+    let child = children.get(found.index);
+    unit_in(child, found.rest)
 }
 
 #[cycle(unit)]

@@ -1,4 +1,4 @@
-use Rattle.std.proofs.Common.{◌≡◌, ◌≤◌, length, arith, inl, inr, subst}
+use Rattle.std.proofs.Common.{arith, inl, inr}
 use Rattle.pm_schema.specs.Documents.{documents_of}
 use Rattle.pm_build.proofs.UnknownTypes.{same-type, first-unknown, second-unknown}
 use Rattle.pm_build.proofs.feed.are_compatible.Goals as goal

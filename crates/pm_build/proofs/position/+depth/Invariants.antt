@@ -4,12 +4,6 @@ use Rattle.pm_node.specs.Trees.{node_tokens, list_tokens}
 use Rattle.pm_node.proofs.WalkLaws.{rest}
 use Rattle.pm_build.proofs.position.+depth.Given as goal
 
-abbrev pub invariant-depth_at-loop-i : goal.invariant-depth_at-loop-i
-invariant-depth_at-loop-i l = record {
-  same : depth_at (list_tokens l.children) l.pos ≡ depth_at (rest l.children l.i) l.rest;
-  below : l.rest ≤ l.pos;
-}
-
 abbrev pub decreases-depth_at : goal.decreases-depth_at
 decreases-depth_at l = 2 * length l.content.now + 1
 

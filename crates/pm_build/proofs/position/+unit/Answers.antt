@@ -2,53 +2,38 @@ use Rattle.std.proofs.Common.{◌≡◌, ℕ, ◌+◌, ◌-◌, ◌*◌, ◌<◌
 use Rattle.std.specs.Prelude.{Some, None}
 use Rattle.std.specs.Arc.{arc_value}
 use Rattle.pm_node.specs.Trees.{node_tokens}
-use Rattle.pm_node.proofs.WalkLaws.{Child, rest, rest-end, child-within, child-at, in-range, past-range}
 use Rattle.pm_node.specs.declared.node.Body.TheVariants.{Text}
 use Rattle.pm_node.proofs.TreeLaws.{node_tokens_at, length-text_tokens}
 use Rattle.pm_build.specs.Positions.{unit_at}
+use Rattle.pm_node.proofs.WalkLaws.{child-within}
+use Rattle.pm_build.proofs.FoundLaws.{unit-found, unit-past, found-within}
 use Rattle.pm_build.proofs.PositionLaws.{unit-behind, unit-first, unit-inside, unit-outside, unit-open, unit-text, unit-leaf, unit-end}
 use Rattle.pm_build.proofs.position.+unit.Goals as goal
 
-pub unit_at-loop-i-init : goal.unit_at-loop-i-init
-unit_at-loop-i-init t c = refl
+pub unit_at-get-child-requires : goal.unit_at-get-child-requires
+unit_at-get-child-requires t c =
+    found-within c.children-children.result _ _ _ c.find-found.ensures (omega (arith, c.if-size-pos.false, c.size.ensures.size, ap length c.children-children.ensures.tokens))
 
 pub unit_at-unit_in-requires : goal.unit_at-unit_in-requires
 unit_at-unit_in-requires t c =
     let d : 2 * length c.args.content.now + 1 ≡ t = c.decreases in
-    let w = child-within c.children-children.result _ c.get-child.result.now (in-range c.len-i-end.ensures c.loop-i-test.true) c.get-child.ensures in
-    let n = ap (λ m. length (node_tokens m)) c.deref-then-rest-size.ensures in
-    let g : 2 * length (node_tokens c.deref-then-rest-size.result.now) < t = omega (arith, d, w, n, ap length c.children-children.ensures.tokens) in
-    (g, omega (arith, c.if-rest-size.true, c.size-size.ensures.size, n, ap (λ m. length (node_tokens m)) c.deref.ensures))
-
-pub unit_at-returns-then-rest-size : goal.unit_at-returns-then-rest-size
-unit_at-returns-then-rest-size t c =
     let xs = c.children-children.result in
-    let e = c.children-children.ensures in
-    let i = c.loop-i.i in
-    let k = child-at xs i c.get-child.result.now e.normal e.each (in-range c.len-i-end.ensures c.loop-i-test.true) c.get-child.ensures in
-    let n = arc_value c.get-child.result.now in
-    let lt : c.loop-i.rest < length (node_tokens n) = omega (arith, c.if-rest-size.true, c.size-size.ensures.size, ap (λ m. length (node_tokens m)) c.deref.ensures) in
-    c.unit_in.ensures ∙ (ap (λ m. unit_at (node_tokens m) c.loop-i.rest) c.deref-then-rest-size.ensures
-    ∙ (sym (unit-first (node_tokens n) (rest xs (i + 1)) c.loop-i.rest lt) ∙ (ap (λ z. unit_at z c.loop-i.rest) (sym k.tokens)
-    ∙ (sym c.loop-i.invariant ∙ ap (λ z. unit_at z c.args.pos) e.tokens))))
+    let h = found-within xs _ _ _ c.find-found.ensures (omega (arith, c.if-size-pos.false, c.size.ensures.size, ap length c.children-children.ensures.tokens)) in
+    let w = child-within xs _ c.get-child.result.now h c.get-child.ensures in
+    let n = ap (λ m. length (node_tokens m)) c.deref.ensures in
+    let g : 2 * length (node_tokens c.deref.result.now) < t = omega (arith, d, w, n, ap length c.children-children.ensures.tokens) in
+    (g, omega (arith, n, c.find-found.ensures.inside c.get-child.result.now h c.get-child.ensures))
 
-pub unit_at-loop-i-preserved : goal.unit_at-loop-i-preserved
-unit_at-loop-i-preserved t c =
-    let xs = c.children-children.result in
-    let e = c.children-children.ensures in
-    let i = c.loop-i.i in
-    let k = child-at xs i c.get-child.result.now e.normal e.each (in-range c.len-i-end.ensures c.loop-i-test.true) c.get-child.ensures in
-    let n = arc_value c.get-child.result.now in
-    let size : c.size-size.result ≡ length (node_tokens n) = c.size-size.ensures.size ∙ ap (λ m. length (node_tokens m)) c.deref.ensures in
-    c.loop-i.invariant ∙ (ap (λ z. unit_at z c.loop-i.rest) k.tokens
-    ∙ (unit-behind (node_tokens n) (rest xs (i + 1)) c.loop-i.rest (omega (arith, size, c.if-rest-size.false))
-    ∙ ap (λ z. unit_at (rest xs (i + 1)) (c.loop-i.rest - z)) (sym size)))
+pub unit_at-returns-then-size-pos : goal.unit_at-returns-then-size-pos
+unit_at-returns-then-size-pos t c = sym (unit-past c.args.content.now c.args.pos (omega (arith, c.if-size-pos.true, c.size.ensures.size)))
 
 pub unit_at-returns : goal.unit_at-returns
 unit_at-returns t c =
     let xs = c.children-children.result in
-    let i = c.loop-i.i in
-    sym (unit-end (rest xs i) c.loop-i.rest (rest-end xs i (past-range c.len-i-end.ensures c.loop-i-test.false))) ∙ (sym c.loop-i.invariant ∙ ap (λ z. unit_at z c.args.pos) c.children-children.ensures.tokens)
+    let e = c.children-children.ensures in
+    let h = found-within xs _ _ _ c.find-found.ensures (omega (arith, c.if-size-pos.false, c.size.ensures.size, ap length e.tokens)) in
+    c.unit_in.ensures ∙ (ap (λ m. unit_at (node_tokens m) c.find-found.result.rest) c.deref.ensures
+    ∙ (sym (unit-found xs _ _ _ c.get-child.result.now e.each c.find-found.ensures h c.get-child.ensures) ∙ ap (λ z. unit_at z c.args.pos) e.tokens))
 
 pub unit_in-returns-in-Leaf : goal.unit_in-returns-in-Leaf
 unit_in-returns-in-Leaf t c = sym (unit-leaf c.args.node.now c.args.pos c.in-Leaf.is)

@@ -4,9 +4,6 @@ use Rattle.pm_node.proofs.WalkLaws.{rest}
 use Rattle.pm_build.specs.Positions.{unit_at}
 use Rattle.pm_build.proofs.position.+unit.Given as goal
 
-abbrev pub invariant-unit_at-loop-i : goal.invariant-unit_at-loop-i
-invariant-unit_at-loop-i l = unit_at (list_tokens l.children) l.pos ≡ unit_at (rest l.children l.i) l.rest
-
 abbrev pub decreases-unit_at : goal.decreases-unit_at
 decreases-unit_at l = 2 * length l.content.now + 1
 

@@ -4,12 +4,6 @@ use Rattle.pm_node.proofs.WalkLaws.{rest}
 use Rattle.pm_build.specs.Positions.{path}
 use Rattle.pm_build.proofs.builder.Builder.+path.Given as goal
 
-abbrev pub invariant-open_path-loop-i : goal.invariant-open_path-loop-i
-invariant-open_path-loop-i l = record {
-  same : path (list_tokens l.children) l.pos ≡ path (rest l.children l.i) l.rest;
-  kept : l.self ≡ l.fn.self;
-}
-
 abbrev pub decreases-open_path : goal.decreases-open_path
 decreases-open_path l = 2 * length l.source.now + 1
 

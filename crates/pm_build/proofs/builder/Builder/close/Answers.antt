@@ -1,12 +1,11 @@
-use Rattle.std.proofs.Common.{◌≡◌, ◌∙◌, sym, ap, arith, ◌+◌, ◌++◌, ◌∷◌, length, length-append, [], ℕ, List, subst}
+use Rattle.std.proofs.Common.{◌∙◌, ap, arith, ◌++◌, ◌∷◌, length, length-append, [], subst}
 use Rattle.std.specs.Arc.{arc_value}
-use Rattle.std.proofs.lemmas.List.{nil_from_length, append-nil}
 use Rattle.std.proofs.lemmas.Result.{IfOk-equal}
 use Rattle.pm_tokens.specs.Tokens.{Close}
-use Rattle.pm_tokens.specs.Scan.{unclosed, Balanced}
+use Rattle.pm_tokens.specs.Scan.{unclosed}
 use Rattle.pm_node.specs.Trees.{node_tokens}
-use Rattle.pm_build.specs.Frames.{frames_tokens, AllWhole, Whole}
-use Rattle.pm_build.proofs.FrameLaws.{kinds_up, unclosed-fed, length-kinds_up, whole-front, fed-close}
+use Rattle.pm_build.specs.Frames.{frames_tokens, AllWhole}
+use Rattle.pm_build.proofs.FrameLaws.{unclosed-fed, length-kinds_up, whole-front, fed-close}
 use Rattle.pm_build.proofs.builder.Builder.close.Goals as goal
 
 pub invariant_of-self : goal.invariant_of-self

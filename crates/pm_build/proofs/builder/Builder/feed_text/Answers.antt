@@ -1,4 +1,4 @@
-use Rattle.std.proofs.Common.{◌≡◌, ◌∙◌, sym, ap, arith, ◌+◌, ◌-◌, ◌++◌, length, min, ℕ, List}
+use Rattle.std.proofs.Common.{◌≡◌, ◌∙◌, ap, arith, ◌++◌, length, min}
 use Rattle.std.proofs.lemmas.Result.{IfOk-equal}
 use Rattle.pm_tokens.specs.Scan.{part}
 use Rattle.pm_tokens.specs.Kids.{text_tokens}

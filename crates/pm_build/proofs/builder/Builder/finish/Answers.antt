@@ -1,4 +1,4 @@
-use Rattle.std.proofs.Common.{◌≡◌, ◌∙◌, sym, ap, arith, ◌+◌, ◌++◌, length, [], ℕ, List}
+use Rattle.std.proofs.Common.{◌≡◌, ◌∙◌, sym, ap, arith, ◌++◌, length, []}
 use Rattle.std.proofs.lemmas.List.{nil_from_length, append-nil}
 use Rattle.pm_tokens.specs.Scan.{unclosed}
 use Rattle.pm_build.specs.Frames.{frames_tokens}

@@ -1,7 +1,6 @@
-use Rattle.std.proofs.Common.{◌≡◌, ◌∙◌, sym, ap, ◌++◌, ◌∷◌, [], List, subst}
+use Rattle.std.proofs.Common.{◌∙◌, ap, ◌++◌, ◌∷◌}
 use Rattle.pm_tokens.specs.Tokens.{Open}
-use Rattle.pm_tokens.specs.Scan.{Balanced, none}
-use Rattle.pm_build.specs.Frames.{frames_tokens, Whole}
+use Rattle.pm_build.specs.Frames.{frames_tokens}
 use Rattle.pm_build.proofs.FrameLaws.{fed-push, whole-push}
 use Rattle.pm_build.proofs.builder.Builder.open.Goals as goal
 

@@ -1,4 +1,4 @@
-use Rattle.std.proofs.Common.{◌≡◌, ◌≤◌, ◌∙◌, sym, ap, arith, ◌+◌, ◌-◌, ◌++◌, length, [], ℕ, List, refl}
+use Rattle.std.proofs.Common.{◌≡◌, ◌∙◌, ap, arith, ◌+◌, ◌-◌, ◌++◌, length, refl}
 use Rattle.std.specs.Arc.{arc_value}
 use Rattle.pm_node.specs.Trees.{node_tokens}
 use Rattle.pm_build.proofs.FrameLaws.{fed-last, whole-last, within-last}

@@ -1,9 +1,8 @@
-use Rattle.std.proofs.Common.{◌≡◌, ◌∙◌, sym, ap, arith, ◌+◌, ◌-◌, length, [], ℕ, List}
+use Rattle.std.proofs.Common.{◌≡◌, ◌∙◌, sym, ap, arith, ◌+◌, ◌-◌, length, []}
 use Rattle.std.proofs.lemmas.List.{nil_from_length}
 use Rattle.pm_tokens.specs.Scan.{unclosed}
 use Rattle.pm_build.specs.Frames.{first_of}
-use Rattle.pm_build.specs.declared.builder.Frame.{Frame}
-use Rattle.pm_build.proofs.FrameLaws.{kinds_up, unclosed-fed, kinds_last, length-kinds_up}
+use Rattle.pm_build.proofs.FrameLaws.{kinds_up, unclosed-fed, kinds_last}
 use Rattle.pm_build.proofs.builder.Builder.top.Goals as goal
 
 pub returns-then-len-gt0 : goal.returns-then-len-gt0

@@ -5,44 +5,79 @@ use Rattle.pm_tokens.specs.Scan.{part, owned, Balanced}
 use Rattle.pm_tokens.specs.Schemas.{compatible}
 use Rattle.pm_tokens.proofs.SchemaLaws.{compatible-itself}
 use Rattle.pm_schema.specs.Documents.{documents_of}
-use Rattle.pm_node.specs.Trees.{node_tokens}
-use Rattle.pm_node.proofs.WalkLaws.{child-within, in-range, past-range}
-use Rattle.pm_build.specs.Fed.{Crossed}
-use Rattle.pm_build.proofs.CrossWalk.{passed-start, passed-more, passed-end, passed-done, passed-refused}
+use Rattle.pm_node.specs.Trees.{node_tokens, list_tokens}
+use Rattle.pm_node.proofs.WalkLaws.{child-within}
+use Rattle.pm_build.specs.Fed.{Crossed, Crosses}
+use Rattle.pm_build.proofs.SpanLaws.{part-clipped, first-within, last-within, in-one}
+use Rattle.pm_build.proofs.CrossSpan.{crossed-between, crosses-between, stopped-between}
 use Rattle.pm_build.proofs.CrossLaws.{crossed_err, crossed-none, crossed-whole, crossed-flat, crossed-node, stopped-node}
 use Rattle.pm_tokens.proofs.ScanLaws.{length-owned}
 use Rattle.pm_tokens.proofs.ListLaws.{part_none, part_past, part_all}
 use Rattle.pm_build.proofs.crossing.OpenTypes.+cross.Goals as goal
 
-pub cross-loop-i-init : goal.cross-loop-i-init
-cross-loop-i-init t c = passed-start _ _ _ _ _
-
-pub cross-cross_child-requires : goal.cross-cross_child-requires
-cross-cross_child-requires t c =
-    let d : 3 * length c.args.source.now + 2 ≡ t = c.decreases in
-    let w = child-within c.children-children.result _ c.get-child.result.now (in-range c.len-i-end.ensures c.loop-i-test.true) c.get-child.ensures in
-    let g : 3 * length (node_tokens c.deref-in-loop-i.result.now) + 1 < t = omega (arith, d, w, ap (λ m. length (node_tokens m)) c.deref-in-loop-i.ensures, ap length c.children-children.ensures.tokens) in
-    (g, tt)
-
-pub cross-returns-in_err-cross_child : goal.cross-returns-in_err-cross_child
-cross-returns-in_err-cross_child t c =
-    let p = err_from_is_err_and c.from_residual.result c.from_residual.ensures.1 in
-    let d = c.deref.ensures in
-    let own = ap (λ n. part c.loop-i.start c.loop-i.end (owned [] (node_tokens n))) c.deref-in-loop-i.ensures in
-    let bal = subst (λ n. Balanced (node_tokens n)) d c.size-size.ensures.whole in
-    crossed_err _ _ _ _ _ _ _ _ p.1 p.2 c.in_err-cross_child.ensures (λ refused. let e = passed-refused _ _ _ _ _ _ _ _ c.get-child.result.now _ c.loop-i.invariant (in-range c.len-i-end.ensures c.loop-i-test.true) c.get-child.ensures bal (rw own at refused) in rw c.children-children.ensures.tokens at e)
-
-pub cross-loop-i-preserved : goal.cross-loop-i-preserved
-cross-loop-i-preserved t c =
-    let d = c.deref.ensures in
-    let own = ap (λ n. part c.loop-i.start c.loop-i.end (owned [] (node_tokens n))) c.deref-in-loop-i.ensures in
-    passed-more _ _ _ _ _ _ _ _ c.size-size.result _ _ c.get-child.result.now _ _ c.loop-i.invariant (in-range c.len-i-end.ensures c.loop-i-test.true) c.get-child.ensures (subst (λ n. Balanced (node_tokens n)) d c.size-size.ensures.whole) (c.size-size.ensures.size ∙ ap (λ n. length (node_tokens n)) d) (rw own at c.in_ok-cross_child.ensures) c.saturating_sub-start.ensures c.saturating_sub-end.ensures
+pub cross-returns-then-end-from : goal.cross-returns-then-end-from
+cross-returns-then-end-from t c =
+    let own = owned [] c.args.source.now in
+    let clip = part-clipped c.args.from c.args.to _ _ c.args.source.now c.size.ensures.size c.min-end.ensures in
+    subst (λ p. Crossed (compatible (documents_of c.args.schema.now.spec)) c.args.self.now p c.args.self.now) (sym (part_none c.args.from c.min-end.result own c.if-end-from.true) ∙ clip) (crossed-none _ _)
 
 pub cross-returns : goal.cross-returns
-cross-returns t c = let e = passed-end _ _ _ _ _ _ _ _ _ c.loop-i.invariant (past-range c.len-i-end.ensures c.loop-i-test.false) in rw c.children-children.ensures.tokens at e
+cross-returns t c =
+    let clip = part-clipped c.args.from c.args.to _ _ c.args.source.now c.size.ensures.size c.min-end.ensures in
+    subst (λ p. Crosses (compatible (documents_of c.args.schema.now.spec)) c.args.self.now p c.cross_between.result c.cross_between.new.self) (ap (λ z. part c.args.from c.min-end.result (owned [] z)) c.children-children.ensures.tokens ∙ clip) c.cross_between.ensures
 
-pub cross-returns-then-end-eq0 : goal.cross-returns-then-end-eq0
-cross-returns-then-end-eq0 t c = let e = passed-done _ _ _ _ _ _ _ _ _ c.loop-i.invariant c.if-end-eq0.true in rw c.children-children.ensures.tokens at e
+pub cross_between-cross_child-requires : goal.cross_between-cross_child-requires
+cross_between-cross_child-requires t c =
+    let d : 4 * length (list_tokens c.args.nodes.now) + 2 ≡ t = c.decreases in
+    let w = child-within c.args.nodes.now _ c.get-child.result.now (first-within c.args.nodes.now _ _ _ _ _ _ c.find-first.ensures c.find-last.ensures c.requires.some c.requires.within) c.get-child.ensures in
+    let g : 4 * length (node_tokens c.deref.result.now) + 1 < t = omega (arith, d, w, ap (λ m. length (node_tokens m)) c.deref.ensures) in
+    (g, tt)
+
+pub cross_between-returns-then-last-first : goal.cross_between-returns-then-last-first
+cross_between-returns-then-last-first t c =
+    let h = first-within c.args.nodes.now _ _ _ _ _ _ c.find-first.ensures c.find-last.ensures c.requires.some c.requires.within in
+    let own = ap (λ n. part c.find-first.result.rest c.find-last.result.rest (owned [] (node_tokens n))) c.deref.ensures in
+    let one = in-one c.args.nodes.now _ _ _ _ _ _ c.find-first.ensures c.find-last.ensures c.requires.some c.get-child.result.now c.requires.normal c.requires.each h c.get-child.ensures c.if-last-first.true in
+    subst (λ p. Crosses (compatible (documents_of c.args.schema.now.spec)) c.args.self.now p c.cross_child.result c.cross_child.new.self) (own ∙ sym one) c.cross_child.ensures
+
+pub cross_between-cross_child-requires-2 : goal.cross_between-cross_child-requires-2
+cross_between-cross_child-requires-2 t c =
+    let d : 4 * length (list_tokens c.args.nodes.now) + 2 ≡ t = c.decreases in
+    let w = child-within c.args.nodes.now _ c.get-child.result.now (first-within c.args.nodes.now _ _ _ _ _ _ c.find-first.ensures c.find-last.ensures c.requires.some c.requires.within) c.get-child.ensures in
+    let g : 4 * length (node_tokens c.deref-2.result.now) + 1 < t = omega (arith, d, w, ap (λ m. length (node_tokens m)) c.deref-2.ensures) in
+    (g, tt)
+
+pub cross_between-returns-in_err-cross_child : goal.cross_between-returns-in_err-cross_child
+cross_between-returns-in_err-cross_child t c =
+    let p = err_from_is_err_and c.from_residual.result c.from_residual.ensures.1 in
+    let h = first-within c.args.nodes.now _ _ _ _ _ _ c.find-first.ensures c.find-last.ensures c.requires.some c.requires.within in
+    let size = c.size.ensures.size ∙ ap (λ n. length (node_tokens n)) c.deref-3.ensures in
+    let own = ap (λ n. part c.find-first.result.rest c.size.result (owned [] (node_tokens n))) c.deref-2.ensures ∙ ap (λ k. part c.find-first.result.rest k (owned [] (node_tokens (arc_value c.get-child.result.now)))) size in
+    crossed_err _ _ _ _ _ _ _ _ p.1 p.2 c.in_err-cross_child.ensures (λ refused. stopped-between _ _ c.args.self.now c.args.nodes.now _ _ _ _ _ _ c.find-first.ensures c.find-last.ensures c.requires.some c.requires.normal c.requires.each c.if-last-first.false c.get-child.result.now h c.get-child.ensures (rw own at refused))
+
+pub cross_between-returns-then-last-eq0 : goal.cross_between-returns-then-last-eq0
+cross_between-returns-then-last-eq0 t c =
+    let h = first-within c.args.nodes.now _ _ _ _ _ _ c.find-first.ensures c.find-last.ensures c.requires.some c.requires.within in
+    let size = c.size.ensures.size ∙ ap (λ n. length (node_tokens n)) c.deref-3.ensures in
+    let own = ap (λ n. part c.find-first.result.rest c.size.result (owned [] (node_tokens n))) c.deref-2.ensures ∙ ap (λ k. part c.find-first.result.rest k (owned [] (node_tokens (arc_value c.get-child.result.now)))) size in
+    crossed-between _ _ _ c.args.nodes.now _ _ _ _ _ _ c.find-first.ensures c.find-last.ensures c.requires.some c.requires.normal c.requires.each c.if-last-first.false c.get-child.result.now h c.get-child.ensures (compatible-itself (documents_of c.args.schema.now.spec)) (rw own at c.in_ok-cross_child.ensures) c.if-last-eq0.true
+
+pub cross_between-cross_child-requires-3 : goal.cross_between-cross_child-requires-3
+cross_between-cross_child-requires-3 t c =
+    let d : 4 * length (list_tokens c.args.nodes.now) + 2 ≡ t = c.decreases in
+    let h = last-within c.args.nodes.now _ _ _ _ _ _ c.find-first.ensures c.find-last.ensures c.requires.some c.if-last-eq0.false in
+    let w = child-within c.args.nodes.now _ c.get.result.now h c.get.ensures in
+    let g : 4 * length (node_tokens c.deref-4.result.now) + 1 < t = omega (arith, d, w, ap (λ m. length (node_tokens m)) c.deref-4.ensures) in
+    (g, tt)
+
+pub cross_between-returns : goal.cross_between-returns
+cross_between-returns t c =
+    let h = first-within c.args.nodes.now _ _ _ _ _ _ c.find-first.ensures c.find-last.ensures c.requires.some c.requires.within in
+    let k = last-within c.args.nodes.now _ _ _ _ _ _ c.find-first.ensures c.find-last.ensures c.requires.some c.if-last-eq0.false in
+    let size = c.size.ensures.size ∙ ap (λ n. length (node_tokens n)) c.deref-3.ensures in
+    let own = ap (λ n. part c.find-first.result.rest c.size.result (owned [] (node_tokens n))) c.deref-2.ensures ∙ ap (λ k. part c.find-first.result.rest k (owned [] (node_tokens (arc_value c.get-child.result.now)))) size in
+    let last = ap (λ n. part 0 c.find-last.result.rest (owned [] (node_tokens n))) c.deref-4.ensures in
+    crosses-between _ _ _ c.args.nodes.now _ _ _ _ _ _ c.find-first.ensures c.find-last.ensures c.requires.some c.requires.normal c.requires.each c.if-last-first.false c.get-child.result.now h c.get-child.ensures (compatible-itself (documents_of c.args.schema.now.spec)) (rw own at c.in_ok-cross_child.ensures) c.get.result.now _ _ k c.get.ensures (rw last at c.cross_child-3.ensures)
 
 pub cross_child-returns-then-to-from : goal.cross_child-returns-then-to-from
 cross_child-returns-then-to-from t c =
