@@ -1,6 +1,6 @@
 -- Passing over one piece after another.
-use Rattle.std.specs.Prelude.{◌≡◌, ℕ, ◌+◌, ◌-◌, ◌≤◌, ◌<◌, Bool, true, false, ◌&&◌, List, [], ◌∷◌, ◌++◌, length, take, drop, Result, Ok, Err}
-use Rattle.std.proofs.Common.{zero, suc, refl, ap, sym, ◌∙◌, subst, arith}
+use Rattle.std.specs.Prelude.{◌≡◌, ℕ, ◌+◌, ◌-◌, ◌<◌, Bool, true, false, ◌&&◌, List, [], ◌∷◌, ◌++◌, length, take, drop, Result, Err}
+use Rattle.std.proofs.Common.{zero, suc, refl, ap, sym, ◌∙◌, subst}
 use Rattle.std.proofs.lemmas.Result.{MatchResult-weaker}
 use Rattle.pm_node.specs.declared.node.Node.{Node}
 use Rattle.pm_node.specs.declared.node.Body.{Body}
@@ -8,7 +8,7 @@ use Rattle.pm_node.specs.declared.node.Body.TheVariants.{Text, Leaf as Childless
 use Rattle.pm_node.proofs.TreeLaws.{node_tokens_at}
 use Rattle.pm_tokens.specs.Kids.{text_tokens}
 use Rattle.pm_node.specs.Trees.{node_tokens, body_tokens}
-use Rattle.pm_tokens.specs.Tokens.{Attrs, Marks, Token, Open, Close, Leaf, CodeUnit}
+use Rattle.pm_tokens.specs.Tokens.{Attrs, Marks, Token}
 use Rattle.pm_tokens.specs.Scan.{Owned, Opening, Closing, Single, Piece, unclosed, owned, plain, joins, part, Balanced}
 use Rattle.pm_build.specs.Fed.{Crossed, ForJoin, Crosses}
 use Rattle.pm_build.specs.declared.refused.Refused.{Refused}

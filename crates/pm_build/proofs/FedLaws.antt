@@ -1,24 +1,24 @@
 -- Feeding one piece after another.
-use Rattle.std.specs.Prelude.{◌≡◌, ℕ, ◌+◌, ◌-◌, ◌≤◌, ◌<◌, min, Bool, true, false, ◌&&◌, List, [], ◌∷◌, ◌++◌, length, take, drop, Result, Ok, Err, ◌⊎◌, ◌||◌}
+use Rattle.std.specs.Prelude.{◌≡◌, ℕ, ◌+◌, ◌-◌, ◌≤◌, ◌<◌, min, Bool, true, false, ◌&&◌, List, [], ◌∷◌, ◌++◌, length, take, drop, Result, Err, ◌||◌}
 use Rattle.std.proofs.Common.{zero, suc, inl, inr, refl, ap, sym, ◌∙◌, subst, arith, append_assoc, length-append, length-drop}
 use Rattle.std.proofs.lemmas.List.{append-nil, take_min}
 use Rattle.std.proofs.lemmas.Result.{MatchResult-weaker}
 use Rattle.std.proofs.lemmas.Bool.{cases_lt}
-use Rattle.std.proofs.Common.{eqb, eq-eqb, length-take}
+use Rattle.std.proofs.Common.{eq-eqb, length-take}
 use Rattle.pm_tokens.specs.Schemas.{Schema, share, compatible}
 use Rattle.pm_node.specs.declared.node.Node.{Node}
-use Rattle.pm_node.specs.declared.node.Body.TheVariants.{Text, Leaf as Childless, Children}
+use Rattle.pm_node.specs.declared.node.Body.TheVariants.{Children}
 use Rattle.pm_node.proofs.TreeLaws.{node_tokens_at}
 use Rattle.pm_tokens.specs.Kids.{text_tokens}
 use Rattle.pm_node.specs.Trees.{node_tokens}
-use Rattle.pm_tokens.specs.Tokens.{Attrs, Marks, Token, Open, Close, Leaf, CodeUnit}
-use Rattle.pm_tokens.specs.Scan.{Owned, Opening, Closing, Single, Piece, tail_of, head_of, unclosed, owned, plain, joins, part, Balanced}
+use Rattle.pm_tokens.specs.Tokens.{Attrs, Marks, Token, Open, Close, CodeUnit}
+use Rattle.pm_tokens.specs.Scan.{Owned, Opening, Closing, Single, Piece, unclosed, owned, plain, joins, part, Balanced}
 use Rattle.pm_build.specs.Fed.{Appended, ForJoin, Fed}
 use Rattle.pm_build.specs.declared.refused.Refused.{Refused}
 use Rattle.pm_build.specs.declared.refused.Refused.TheVariants.{Join, NoMemory}
-use Rattle.pm_tokens.proofs.ScanLaws.{plain-append, joins-append, plain-owned, owned-append, length-owned, unclosed-append}
-use Rattle.pm_tokens.proofs.BalanceLaws.{unclosed-balanced, owned-balanced, owned-inner, joins-balanced}
-use Rattle.pm_tokens.proofs.ListLaws.{part-append, part_all, part_past, part_none, drop-nil}
+use Rattle.pm_tokens.proofs.ScanLaws.{plain-append, joins-append, plain-owned, length-owned, unclosed-append}
+use Rattle.pm_tokens.proofs.BalanceLaws.{owned-balanced, owned-inner, joins-balanced}
+use Rattle.pm_tokens.proofs.ListLaws.{part-append, part_past, part_none}
 
 pub length-plain : (xs : List Owned) → length (plain xs) ≡ length xs
 length-plain [] = refl
@@ -58,15 +58,6 @@ pub part_min : {A : Type 0} (f t : ℕ) (xs : List A) → part f (min (length xs
 part_min f t xs =
     let e : min (length xs) t - f ≡ min (t - f) (length (drop f xs)) = omega (arith, length-drop f xs) in
     ap (λ n. take n (drop f xs)) e ∙ take_min (t - f) (drop f xs)
-
--- the owned tokens of one more node
-pub owned-more : (xs ys : List Token) → Balanced xs → owned [] (xs ++ ys) ≡ owned [] xs ++ owned [] ys
-owned-more xs ys b = owned-append [] xs ys ∙ ap (λ s. owned [] xs ++ owned s ys) (unclosed-balanced [] b)
-
--- a part of one more node
-pub part-more : (f t : ℕ) (xs ys : List Token) → Balanced xs → part f t (owned [] (xs ++ ys)) ≡ part f t (owned [] xs) ++ part (f - length xs) (t - length xs) (owned [] ys)
-part-more f t xs ys b =
-    ap (part f t) (owned-more xs ys b) ∙ (part-append f t (owned [] xs) (owned [] ys) ∙ ap (λ n. part f t (owned [] xs) ++ part (f - n) (t - n) (owned [] ys)) (length-owned [] xs))
 
 -- the part of a node with content
 pub part_node : (f t k : ℕ) (a : Attrs) (m : Marks) (inner : List Token) → Balanced inner → f < t → part f t (owned [] (Open k a m ∷ (inner ++ (Close ∷ [])))) ≡ (part f t (Opening k a m ∷ []) ++ part (f - 1) (t - 1) (owned [] inner)) ++ part (f - 1 - length inner) (t - 1 - length inner) (Closing k ∷ [])

@@ -1,12 +1,12 @@
 -- What stands at a position that was found among nodes.
-use Rattle.std.specs.Prelude.{◌≡◌, ℕ, ◌+◌, ◌-◌, ◌≤◌, ◌<◌, Option, None, List, [], ◌++◌, length, take, drop, reverse, get_or}
+use Rattle.std.specs.Prelude.{◌≡◌, ℕ, ◌+◌, ◌-◌, ◌≤◌, ◌<◌, None, List, [], ◌++◌, length, take, reverse, get_or}
 use Rattle.std.specs.declared.sync.Arc.{Arc}
 use Rattle.std.specs.Arc.{arc_value}
-use Rattle.std.proofs.Common.{ap, sym, ◌∙◌, arith, inl, inr}
+use Rattle.std.proofs.Common.{ap, ◌∙◌, arith, inl, inr}
 use Rattle.std.proofs.lemmas.Bool.{cases_lt}
 use Rattle.std.proofs.lemmas.List.{take_all, drop_all}
 use Rattle.pm_tokens.specs.Tokens.{Token}
-use Rattle.pm_tokens.specs.Scan.{unclosed, around, depth_at, Balanced}
+use Rattle.pm_tokens.specs.Scan.{unclosed, around, depth_at}
 use Rattle.pm_tokens.proofs.BalanceLaws.{unclosed-balanced}
 use Rattle.pm_node.specs.Among.{Stands}
 use Rattle.pm_node.specs.declared.node.Node.{Node}

@@ -1,13 +1,13 @@
 -- What a stack of open nodes is seen as, when a frame comes, goes or grows.
-use Rattle.std.specs.Prelude.{◌≡◌, ℕ, ◌+◌, ◌-◌, ◌≤◌, ◌<◌, List, [], ◌∷◌, ◌++◌, length, take, drop, set, get_or}
-use Rattle.std.proofs.Common.{suc, refl, ap, sym, ◌∙◌, subst, arith, append_assoc, length-append}
+use Rattle.std.specs.Prelude.{◌≡◌, ℕ, ◌+◌, ◌≤◌, List, [], ◌∷◌, ◌++◌, length, take, set, get_or}
+use Rattle.std.proofs.Common.{refl, ap, sym, ◌∙◌, subst, arith, append_assoc, length-append}
 use Rattle.std.proofs.lemmas.List.{append-nil}
-use Rattle.pm_tokens.specs.Tokens.{Token, Open, Close, Leaf, CodeUnit}
+use Rattle.pm_tokens.specs.Tokens.{Token, Open, Close}
 use Rattle.pm_tokens.specs.Scan.{unclosed, Balanced}
 use Rattle.pm_build.specs.Frames.{frames_tokens, AllWhole, Whole}
 use Rattle.pm_build.specs.declared.builder.Frame.{Frame}
 use Rattle.pm_tokens.proofs.ScanLaws.{unclosed-append}
-use Rattle.pm_tokens.proofs.BalanceLaws.{unclosed-balanced, balanced-append}
+use Rattle.pm_tokens.proofs.BalanceLaws.{unclosed-balanced}
 use Rattle.pm_node.proofs.TreeLaws.{split_last, set_last}
 
 -- the kinds of the open nodes, the innermost first

@@ -1,12 +1,12 @@
 -- What stands at a position: behind whole nodes, in one node, and in its content.
-use Rattle.std.specs.Prelude.{◌≡◌, ℕ, ◌+◌, ◌-◌, ◌≤◌, ◌<◌, Bool, true, false, ◌&&◌, Option, Some, None, List, [], ◌∷◌, ◌++◌, length, take, drop, reverse, get_or}
-use Rattle.std.proofs.Common.{zero, suc, refl, ap, sym, ◌∙◌, subst, arith, append_assoc, length-append}
+use Rattle.std.specs.Prelude.{◌≡◌, ℕ, ◌+◌, ◌-◌, ◌≤◌, ◌<◌, Bool, true, false, ◌&&◌, Some, None, List, [], ◌∷◌, ◌++◌, length, take, drop, reverse, get_or}
+use Rattle.std.proofs.Common.{zero, suc, refl, ap, sym, ◌∙◌, arith, length-append}
 use Rattle.std.proofs.lemmas.List.{take_all, take-append-le, reverse-append, take-append-drop}
 use Rattle.pm_tokens.specs.Tokens.{Attrs, Marks, Token, Open, Close, Leaf, CodeUnit}
 use Rattle.pm_tokens.specs.Kids.{text_tokens}
 use Rattle.pm_tokens.specs.Scan.{unclosed, unmet, around, depth_at, Balanced, ends_high, starts_low, is_high, parts_pair}
-use Rattle.pm_tokens.proofs.ListLaws.{take_over, drop_over, take-nil, drop-nil}
-use Rattle.pm_tokens.proofs.ScanLaws.{unclosed-append, unmet-append, level}
+use Rattle.pm_tokens.proofs.ListLaws.{take_over, take-nil, drop-nil}
+use Rattle.pm_tokens.proofs.ScanLaws.{unclosed-append, unmet-append}
 use Rattle.pm_tokens.proofs.BalanceLaws.{unclosed-balanced, balanced-whole}
 use Rattle.pm_tokens.proofs.OwnedParts.{depth-under}
 use Rattle.pm_tokens.proofs.CutLaws.{around-append, around-under, around-length}
@@ -137,17 +137,6 @@ unit-leaf n pos is = ap (λ ts. unit_at ts pos) (node_tokens_at n Childless is) 
     none : (p : ℕ) → unit_at (Leaf n.kind n.attrs n.marks ∷ []) p ≡ None
     none zero = refl
     none (suc p) = ap first_unit (drop-nil p)
-
--- ---- past the end
-
-pub depth-end : (ts : List Token) (pos : ℕ) → ts ≡ [] → depth_at ts pos ≡ 0
-depth-end ts pos e = ap (λ z. depth_at z pos) e ∙ ap (λ z. length (unclosed [] z)) (take-nil pos)
-
-pub path-end : (ts : List Token) (pos : ℕ) → ts ≡ [] → path ts pos ≡ []
-path-end ts pos e = ap (λ z. path z pos) e ∙ ap (λ z. reverse (around [] z)) (take-nil pos)
-
-pub unit-end : (ts : List Token) (pos : ℕ) → ts ≡ [] → unit_at ts pos ≡ None
-unit-end ts pos e = ap (λ z. unit_at z pos) e ∙ ap first_unit (drop-nil pos)
 
 -- ---- pairs
 

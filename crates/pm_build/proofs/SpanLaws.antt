@@ -8,7 +8,7 @@ use Rattle.std.proofs.lemmas.Bool.{cases_lt}
 use Rattle.std.proofs.lemmas.List.{append-nil, take_all, take-append-drop, drop-drop}
 use Rattle.std.proofs.Math.Seq.{take-add}
 use Rattle.pm_tokens.specs.Tokens.{Token}
-use Rattle.pm_tokens.specs.Scan.{Owned, owned, part, Balanced, none}
+use Rattle.pm_tokens.specs.Scan.{owned, part, Balanced, none}
 use Rattle.pm_tokens.proofs.ListLaws.{drop_over, part_none, part_past}
 use Rattle.pm_tokens.proofs.ScanLaws.{length-owned}
 use Rattle.pm_tokens.proofs.BalanceLaws.{balanced-append}

@@ -1,10 +1,9 @@
-use Rattle.std.proofs.Common.{◌≡◌, ℕ, ◌+◌, ◌-◌, ◌*◌, ◌<◌, ◌≤◌, length, arith, sym, ap, ◌∙◌, subst, refl}
-use Rattle.std.specs.Arc.{arc_value}
+use Rattle.std.proofs.Common.{◌≡◌, ◌+◌, ◌*◌, ◌<◌, length, arith, sym, ap, ◌∙◌}
 use Rattle.pm_tokens.specs.Scan.{depth_at}
 use Rattle.pm_node.specs.Trees.{node_tokens}
 use Rattle.pm_node.proofs.WalkLaws.{child-within, in-range, past-range}
 use Rattle.pm_build.proofs.FoundLaws.{depth-found, depth-last}
-use Rattle.pm_build.proofs.PositionLaws.{depth-behind, depth-first, depth-inside, depth-flat, depth-end}
+use Rattle.pm_build.proofs.PositionLaws.{depth-inside, depth-flat}
 use Rattle.pm_build.proofs.position.+depth.Goals as goal
 
 pub depth_at-depth_in-requires : goal.depth_at-depth_in-requires

@@ -1,7 +1,5 @@
-use Rattle.std.proofs.Common.{◌≡◌, ℕ, ◌+◌, ◌*◌, ◌≤◌, length}
-use Rattle.pm_tokens.specs.Scan.{depth_at}
-use Rattle.pm_node.specs.Trees.{node_tokens, list_tokens}
-use Rattle.pm_node.proofs.WalkLaws.{rest}
+use Rattle.std.proofs.Common.{◌+◌, ◌*◌, length}
+use Rattle.pm_node.specs.Trees.{node_tokens}
 use Rattle.pm_build.proofs.position.+depth.Given as goal
 
 abbrev pub decreases-depth_at : goal.decreases-depth_at

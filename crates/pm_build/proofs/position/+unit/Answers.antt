@@ -1,13 +1,12 @@
-use Rattle.std.proofs.Common.{◌≡◌, ℕ, ◌+◌, ◌-◌, ◌*◌, ◌<◌, ◌≤◌, length, get_or, arith, sym, ap, ◌∙◌, subst, refl, inl, inr}
-use Rattle.std.specs.Prelude.{Some, None}
-use Rattle.std.specs.Arc.{arc_value}
+use Rattle.std.proofs.Common.{◌≡◌, ◌+◌, ◌*◌, ◌<◌, length, get_or, arith, sym, ap, ◌∙◌}
+use Rattle.std.specs.Prelude.{Some}
 use Rattle.pm_node.specs.Trees.{node_tokens}
 use Rattle.pm_node.specs.declared.node.Body.TheVariants.{Text}
 use Rattle.pm_node.proofs.TreeLaws.{node_tokens_at, length-text_tokens}
 use Rattle.pm_build.specs.Positions.{unit_at}
 use Rattle.pm_node.proofs.WalkLaws.{child-within}
 use Rattle.pm_build.proofs.FoundLaws.{unit-found, unit-past, found-within}
-use Rattle.pm_build.proofs.PositionLaws.{unit-behind, unit-first, unit-inside, unit-outside, unit-open, unit-text, unit-leaf, unit-end}
+use Rattle.pm_build.proofs.PositionLaws.{unit-inside, unit-outside, unit-open, unit-text, unit-leaf}
 use Rattle.pm_build.proofs.position.+unit.Goals as goal
 
 pub unit_at-get-child-requires : goal.unit_at-get-child-requires

@@ -1,7 +1,5 @@
-use Rattle.std.proofs.Common.{◌≡◌, ℕ, ◌+◌, ◌*◌, length}
-use Rattle.pm_node.specs.Trees.{node_tokens, list_tokens}
-use Rattle.pm_node.proofs.WalkLaws.{rest}
-use Rattle.pm_build.specs.Positions.{unit_at}
+use Rattle.std.proofs.Common.{◌+◌, ◌*◌, length}
+use Rattle.pm_node.specs.Trees.{node_tokens}
 use Rattle.pm_build.proofs.position.+unit.Given as goal
 
 abbrev pub decreases-unit_at : goal.decreases-unit_at

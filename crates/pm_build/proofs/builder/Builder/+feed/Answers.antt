@@ -1,11 +1,9 @@
-use Rattle.std.proofs.Common.{rules, ◌≡◌, ℕ, ◌+◌, ◌-◌, ◌<◌, ◌≤◌, ◌^◌, [], ◌∷◌, ◌++◌, OnOk, length, length-append, drop, ◌*◌, ◌/◌, ◌%◌, Bool, true, false, nat_eq, nat_lt, List, arith, sym, ap, ◌∙◌, subst, refl, inl, inr, ◌⊎◌}
+use Rattle.std.proofs.Common.{◌≡◌, ◌+◌, ◌<◌, ◌≤◌, [], ◌++◌, length, length-append, drop, ◌*◌, arith, sym, ap, ◌∙◌, subst, refl, inl, inr}
 use Rattle.std.specs.Arc.{arc_value}
 use Rattle.std.proofs.lemmas.Result.{err_from_is_err_and}
-use Rattle.pm_tokens.specs.Tokens.{Token, Open, Close}
 use Rattle.pm_build.specs.Fed.{Fed, Appended}
-use Rattle.pm_tokens.specs.Scan.{part, owned, plain, Opening, Closing, Balanced}
-use Rattle.pm_tokens.specs.Kids.{text_tokens}
-use Rattle.pm_node.specs.Trees.{node_tokens, list_tokens, body_tokens}
+use Rattle.pm_tokens.specs.Scan.{part, owned, Balanced}
+use Rattle.pm_node.specs.Trees.{node_tokens, list_tokens}
 use Rattle.pm_tokens.specs.Schemas.{compatible}
 use Rattle.pm_schema.specs.Documents.{documents_of}
 use Rattle.pm_build.proofs.SpanLaws.{part-clipped, first-within, first-skip, last-within, in-one, in-order, run-whole, run-one, run-first, run-length}
@@ -15,7 +13,6 @@ use Rattle.pm_build.proofs.FedLaws.{fed_err, appended-none, appended-whole, appe
 use Rattle.pm_tokens.proofs.ScanLaws.{length-owned}
 use Rattle.pm_tokens.proofs.ListLaws.{part_none, part_past, part_all}
 use Rattle.pm_node.proofs.TreeLaws.{node_tokens_at}
-use Rattle.pm_node.specs.declared.node.Body.TheVariants.{Text, Leaf as Childless, Children}
 use Rattle.pm_build.proofs.builder.Builder.+feed.Goals as goal
 
 pub feed-returns-then-end-from : goal.feed-returns-then-end-from
@@ -98,7 +95,7 @@ feed_rest-returns-in_err-feed_child t c =
     let h : c.args.index < length xs = omega (arith, c.requires.order, c.requires.within) in
     let size = c.size.ensures.size ∙ ap (λ n. length (node_tokens n)) c.deref.ensures in
     let skip : c.args.skip ≤ length (node_tokens (arc_value c.get-child.result.now)) = omega (arith, c.requires.inside, ap length (run-one xs c.args.index c.get-child.result.now h c.get-child.ensures)) in
-    fed_err _ _ _ _ _ _ _ _ p.1 p.2 c.in_err-feed_child.ensures (λ refused. refused-run _ c.args.self.now c.args.self.now xs c.args.index c.args.end c.args.skip c.get-child.result.now c.requires.normal c.requires.each c.requires.order h c.get-child.ensures skip (rw size at refused))
+    fed_err _ _ _ _ _ _ _ _ p.1 p.2 c.in_err-feed_child.ensures (λ refused. refused-run (compatible (documents_of c.args.schema.now.spec)) c.args.self.now c.args.self.now xs c.args.index c.args.end c.args.skip c.get-child.result.now c.requires.normal c.requires.each c.requires.order h c.get-child.ensures skip (rw size at refused))
 
 pub feed_rest-append-requires-2-clause-room : goal.feed_rest-append-requires-2-clause-room
 feed_rest-append-requires-2-clause-room t c =

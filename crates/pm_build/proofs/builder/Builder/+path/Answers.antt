@@ -1,5 +1,4 @@
-use Rattle.std.proofs.Common.{◌≡◌, ℕ, ◌+◌, ◌-◌, ◌*◌, ◌<◌, ◌≤◌, ◌++◌, ◌∷◌, [], List, length, arith, sym, ap, ◌∙◌, subst, refl, append_assoc}
-use Rattle.std.specs.Arc.{arc_value}
+use Rattle.std.proofs.Common.{◌≡◌, ◌+◌, ◌-◌, ◌*◌, ◌<◌, ◌++◌, ◌∷◌, [], length, arith, sym, ap, ◌∙◌, append_assoc}
 use Rattle.std.proofs.lemmas.List.{append-nil}
 use Rattle.std.proofs.lemmas.Result.{IfOk-equal}
 use Rattle.pm_tokens.specs.Tokens.{Open}
@@ -7,7 +6,7 @@ use Rattle.pm_node.specs.Trees.{node_tokens}
 use Rattle.pm_build.specs.Positions.{path}
 use Rattle.pm_node.proofs.WalkLaws.{child-within, in-range, past-range}
 use Rattle.pm_build.proofs.FoundLaws.{path-found, path-last}
-use Rattle.pm_build.proofs.PositionLaws.{path-behind, path-first, path-inside, path-flat, path-end}
+use Rattle.pm_build.proofs.PositionLaws.{path-inside, path-flat}
 use Rattle.pm_build.proofs.builder.Builder.+path.Goals as goal
 
 pub open_path-open_path_in-requires : goal.open_path-open_path_in-requires

@@ -1,7 +1,5 @@
-use Rattle.std.proofs.Common.{◌≡◌, ℕ, ◌+◌, ◌*◌, length}
-use Rattle.pm_node.specs.Trees.{node_tokens, list_tokens}
-use Rattle.pm_node.proofs.WalkLaws.{rest}
-use Rattle.pm_build.specs.Positions.{path}
+use Rattle.std.proofs.Common.{◌+◌, ◌*◌, length}
+use Rattle.pm_node.specs.Trees.{node_tokens}
 use Rattle.pm_build.proofs.builder.Builder.+path.Given as goal
 
 abbrev pub decreases-open_path : goal.decreases-open_path

@@ -1,7 +1,7 @@
-use Rattle.std.proofs.Common.{rules, ◌≡◌, ℕ, ◌+◌, ◌-◌, ◌<◌, ◌≤◌, ◌*◌, [], ◌∷◌, ◌++◌, length, Bool, true, false, List, arith, sym, ap, ◌∙◌, subst, refl, inl, inr}
+use Rattle.std.proofs.Common.{◌≡◌, ◌+◌, ◌<◌, ◌*◌, [], length, arith, sym, ap, ◌∙◌, subst, refl, inl, inr}
 use Rattle.std.specs.Arc.{arc_value}
 use Rattle.std.proofs.lemmas.Result.{err_from_is_err_and}
-use Rattle.pm_tokens.specs.Scan.{part, owned, Balanced}
+use Rattle.pm_tokens.specs.Scan.{part, owned}
 use Rattle.pm_tokens.specs.Schemas.{compatible}
 use Rattle.pm_tokens.proofs.SchemaLaws.{compatible-itself}
 use Rattle.pm_schema.specs.Documents.{documents_of}

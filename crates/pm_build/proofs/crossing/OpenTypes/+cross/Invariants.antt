@@ -1,4 +1,4 @@
-use Rattle.std.proofs.Common.{ℕ, ◌+◌, ◌*◌, length}
+use Rattle.std.proofs.Common.{◌+◌, ◌*◌, length}
 use Rattle.pm_node.specs.Trees.{node_tokens, list_tokens}
 use Rattle.pm_build.proofs.crossing.OpenTypes.+cross.Given as goal
 
