@@ -1,13 +1,13 @@
 -- A position among children: how many end at or before it, and how deep it is.
-use Rattle.std.specs.Prelude.{◌≡◌, ℕ, zero, suc, ◌+◌, ◌-◌, ◌≤◌, ◌<◌, Bool, true, false, ◌&&◌, nat_le, nat_lt, cond, if◌then◌else◌, List, [], ◌∷◌, ◌++◌, length, take, drop, map, get_or}
+use Rattle.std.specs.Prelude.{◌≡◌, ℕ, zero, suc, ◌+◌, ◌-◌, ◌≤◌, ◌<◌, Bool, true, false, ◌&&◌, nat_le, nat_lt, cond, if◌then◌else◌, List, [], ◌∷◌, ◌++◌, length, take, get_or}
 use Rattle.std.specs.List.{filter}
 use Rattle.std.specs.declared.sync.Arc.{Arc}
 use Rattle.std.specs.Arc.{arc_value}
-use Rattle.std.proofs.Common.{refl, ap, sym, ◌∙◌, subst, arith, append_assoc, length-append, inl, inr}
+use Rattle.std.proofs.Common.{refl, ap, sym, ◌∙◌, arith, length-append, inl, inr}
 use Rattle.std.proofs.lemmas.Bool.{le-leb, lt-leb, lt-ltb, cases_lt}
-use Rattle.std.proofs.lemmas.List.{append-nil, take_all, take-append-le, take-append-drop}
-use Rattle.pm_tokens.specs.Tokens.{Attrs, Marks, Token, Open, Close, Leaf, CodeUnit}
-use Rattle.pm_tokens.specs.Scan.{unclosed, depth_at, Balanced, none, leaf, unit, node}
+use Rattle.std.proofs.lemmas.List.{append-nil, take_all, take-append-le}
+use Rattle.pm_tokens.specs.Tokens.{Attrs, Marks, Token}
+use Rattle.pm_tokens.specs.Scan.{unclosed, depth_at, Balanced, none}
 use Rattle.pm_tokens.specs.Kids.{text_tokens, children}
 use Rattle.pm_tokens.proofs.ListLaws.{take_over, take-nil}
 use Rattle.pm_tokens.proofs.ScanLaws.{unclosed-append}
@@ -16,12 +16,12 @@ use Rattle.pm_tokens.proofs.ChildLaws.{children-text}
 use Rattle.pm_node.specs.declared.node.Node.{Node}
 use Rattle.pm_node.specs.declared.node.Body.{Body}
 use Rattle.pm_node.specs.declared.node.Body.TheVariants.{Text, Leaf as Childless, Children}
-use Rattle.pm_node.specs.Trees.{node_tokens, body_tokens, list_tokens, IsNormal, EachWhole, WholeBody}
+use Rattle.pm_node.specs.Trees.{node_tokens, body_tokens, list_tokens, IsNormal, EachWhole}
+use Rattle.pm_node.specs.Among.{Stands}
 use Rattle.pm_node.proofs.TreeLaws.{length-text_tokens}
-use Rattle.pm_node.proofs.WalkLaws.{front, front-more, list-split, whole-node}
+use Rattle.pm_node.proofs.WalkLaws.{front, whole-node}
 use Rattle.pm_node.proofs.KindLaws.{child_tokens, children-list}
 use Rattle.pm_resolve.specs.Places.{ends, ended}
-use Rattle.pm_resolve.specs.Levels.{Stands, content_of}
 
 -- ---- how many end at or before it
 
@@ -105,11 +105,6 @@ depth-flat xs ys n p r b e h f =
     take_over p xs (t ++ ys) ∙ (ap (λ z. z ++ take (p - length xs) (t ++ ys)) (take_all p xs (omega (arith, e))) ∙ (ap (λ k. xs ++ take k (t ++ ys)) q ∙ ap (λ z. xs ++ z) (take-append-le r t ys h))) in
     ap (λ z. length (unclosed [] z)) split
     ∙ (ap length (unclosed-append [] xs (take r t)) ∙ (ap (λ s. length (unclosed s (take r t))) (unclosed-balanced [] b) ∙ ap length (unclosed-flat n.kind n.attrs n.marks n.body r f)))
-
--- one more child is behind the position
-pub stands-more : {Z : Type 0} (xs : List (Arc Node Z)) (i rest p : ℕ) (x : Arc Node Z) (size : ℕ) → length (front xs i) + rest ≡ p → i < length xs → x ≡ get_or xs i x → size ≡ length (node_tokens (arc_value x)) → size ≤ rest
-    → length (front xs (i + 1)) + (rest - size) ≡ p
-stands-more xs i rest p x size e h r s l = omega (arith, e, s, l, ap length (front-more xs i x h r), length-append (front xs i) (node_tokens (arc_value x)))
 
 -- a position that is into the next child has one
 pub next-there : {Z : Type 0} {xs : List (Arc Node Z)} {pos i r : ℕ} → Stands xs pos i r → 0 < r → i < length xs

@@ -1,20 +1,20 @@
 -- The levels that a walk down to a position puts: at the innermost node, and at one that has another around the position.
-use Rattle.std.specs.Prelude.{◌≡◌, ℕ, suc, ◌+◌, ◌-◌, ◌≤◌, ◌<◌, List, [], ◌∷◌, ◌++◌, length, take, drop, get_or}
+use Rattle.std.specs.Prelude.{◌≡◌, ℕ, ◌+◌, ◌-◌, ◌≤◌, ◌<◌, List, [], ◌∷◌, ◌++◌, length, take, drop, get_or}
 use Rattle.std.specs.declared.sync.Arc.{Arc}
 use Rattle.std.specs.Arc.{arc_value}
-use Rattle.std.proofs.Common.{refl, ap, sym, ◌∙◌, subst, arith, append_assoc, length-append}
+use Rattle.std.proofs.Common.{ap, sym, ◌∙◌, arith, append_assoc, length-append}
 use Rattle.std.proofs.lemmas.List.{take-append-drop}
-use Rattle.pm_tokens.specs.Tokens.{Token, Open, Close}
+use Rattle.pm_tokens.specs.Tokens.{Token, Close}
 use Rattle.pm_tokens.specs.Scan.{depth_at, Balanced}
 use Rattle.pm_node.specs.declared.node.Node.{Node}
 use Rattle.pm_node.specs.declared.node.Body.TheVariants.{Children}
-use Rattle.pm_node.specs.Trees.{node_tokens, list_tokens, IsNormal, EachWhole}
-use Rattle.pm_node.specs.Documents.{doc_of, content_tokens}
+use Rattle.pm_node.specs.Trees.{list_tokens, IsNormal, EachWhole}
+use Rattle.pm_node.specs.Among.{Stands}
 use Rattle.pm_node.proofs.TreeLaws.{node_tokens_at, list_tokens-append}
 use Rattle.pm_node.proofs.WalkLaws.{front, list-split}
 use Rattle.pm_resolve.specs.declared.level.Level.{Level}
 use Rattle.pm_resolve.specs.Places.{ended}
-use Rattle.pm_resolve.specs.Levels.{content_of, Stands, IsLevel, Enters, Nested, lowest, deeper, Entered}
+use Rattle.pm_resolve.specs.Levels.{content_of, IsLevel, Enters, lowest, deeper, Entered}
 use Rattle.pm_resolve.proofs.AmongLaws.{ended-stands, front-whole, depth-between, depth-flat}
 
 pub entered-lowest : {pos at : ℕ} {n : Node} {l : Level} {old new : List Level} → new ≡ old ++ (l ∷ []) → IsLevel pos at n l → depth_at (content_of n) (pos - at) ≡ 0 → Entered pos at n old new

@@ -1,28 +1,27 @@
 -- The marks at a place: what is beside a position among children, and the marks that go on.
-use Rattle.std.specs.Prelude.{◌≡◌, ◌↔◌, ℕ, zero, suc, ◌+◌, ◌-◌, ◌≤◌, ◌<◌, Bool, true, false, not, ◌||◌, ◌&&◌, cond, nat_le, ◌==◌, Option, Some, None, Result, IfOk, List, [], ◌∷◌, ◌++◌, length, take, drop, get_or}
-use Rattle.std.specs.List.{filter, list_any, list_all}
+use Rattle.std.specs.Prelude.{◌≡◌, ℕ, zero, suc, ◌+◌, ◌-◌, ◌≤◌, ◌<◌, Bool, true, false, not, ◌||◌, ◌&&◌, cond, nat_le, Option, Some, None, Result, IfOk, List, [], ◌∷◌, ◌++◌, length, drop, get_or}
+use Rattle.std.specs.List.{filter, list_all}
 use Rattle.std.specs.declared.sync.Arc.{Arc}
 use Rattle.std.specs.Arc.{arc_value}
 use Rattle.std.proofs.Common.{refl, ap, sym, ◌∙◌, subst, arith, append_assoc, length-append}
 use Rattle.std.proofs.lemmas.Bool.{le-leb, lt-leb, eq-eqb, ne_eqb}
-use Rattle.std.proofs.lemmas.List.{append-nil, at_drop_more, drop_all}
-use Rattle.std.proofs.lemmas.List.Folds.{list_any-append}
+use Rattle.std.proofs.lemmas.List.{at_drop_more, drop_all}
 use Rattle.pm_marks.specs.declared.mark.Mark.{Mark}
 use Rattle.pm_marks.specs.Sets.{same_mark, has, removed}
 use Rattle.pm_marks.proofs.Laws.{same-equal, same-itself}
 use Rattle.pm_attrs.specs.Attrs.{same_attrs}
 use Rattle.pm_attrs.specs.Lawful.{same_attrs-decides}
-use Rattle.pm_tokens.specs.Tokens.{Attrs, Marks, Token, Open, Close, Leaf, CodeUnit, marks_of}
+use Rattle.pm_tokens.specs.Tokens.{Attrs, Marks, Token}
 use Rattle.pm_tokens.specs.Kids.{text_tokens, children}
 use Rattle.pm_node.specs.declared.node.Node.{Node}
 use Rattle.pm_node.specs.declared.node.Body.{Body}
 use Rattle.pm_node.specs.declared.node.Body.TheVariants.{Text, Leaf as Childless, Children}
 use Rattle.pm_node.specs.Trees.{node_tokens, body_tokens, list_tokens, IsNormal, EachWhole}
+use Rattle.pm_node.specs.Among.{Stands}
 use Rattle.pm_node.proofs.TreeLaws.{length-text_tokens}
 use Rattle.pm_node.proofs.WalkLaws.{front}
 use Rattle.pm_node.proofs.KindLaws.{child_tokens, children-list}
-use Rattle.pm_resolve.specs.Places.{Beside, Within, Between, beside, first_marks, child_marks, going_on, marks_beside}
-use Rattle.pm_resolve.specs.Levels.{Stands}
+use Rattle.pm_resolve.specs.Places.{Beside, Within, Between, beside, first_marks, going_on, marks_beside}
 use Rattle.pm_resolve.proofs.AmongLaws.{text-children}
 
 -- a mark is kept where its type is inclusive, or the other neighbour has it

@@ -1,12 +1,12 @@
 -- The places of the opens around a position: behind whole nodes, and in a node's content.
-use Rattle.std.specs.Prelude.{◌≡◌, ℕ, zero, suc, ◌+◌, ◌-◌, ◌≤◌, ◌<◌, ◌==◌, Bool, true, false, ◌||◌, cond, List, [], ◌∷◌, ◌++◌, length, take, drop, map, reverse}
+use Rattle.std.specs.Prelude.{◌≡◌, ℕ, suc, ◌+◌, ◌-◌, ◌≤◌, ◌<◌, ◌==◌, Bool, true, false, cond, List, [], ◌∷◌, ◌++◌, length, take, drop, map, reverse}
 use Rattle.std.specs.List.{list_any, filter, AllByRecursion}
 use Rattle.std.proofs.Common.{refl, ap, sym, ◌∙◌, subst, arith, append_assoc, length-append, length-take, inl, inr}
 use Rattle.std.proofs.lemmas.Bool.{eq-eqb, ne_eqb, cases_eq}
-use Rattle.std.proofs.lemmas.List.{take_all, take-append-le, take-append-drop, reverse-append, length-reverse, length-map, map-append, nil_from_length}
+use Rattle.std.proofs.lemmas.List.{take_all, take-append-le, take-append-drop, reverse-append, length-reverse, map-append}
 use Rattle.pm_tokens.specs.Tokens.{Attrs, Marks, Token, Open, Close, Leaf, CodeUnit}
 use Rattle.pm_tokens.specs.Scan.{tail_of, unclosed, unmet, depth_at, open_places, open_at, shared_depth, Balanced, none, leaf, unit, node}
-use Rattle.pm_tokens.proofs.ListLaws.{take_over, take-nil}
+use Rattle.pm_tokens.proofs.ListLaws.{take_over}
 use Rattle.pm_tokens.proofs.ScanLaws.{unmet-append}
 use Rattle.pm_tokens.proofs.BalanceLaws.{balanced-whole, balanced-append}
 use Rattle.pm_resolve.specs.Places.{opens_at}

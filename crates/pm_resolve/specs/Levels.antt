@@ -1,12 +1,10 @@
 -- The levels that a place keeps: one for each node around its position, the top node first.
-use Rattle.std.specs.Prelude.{◌≡◌, ℕ, suc, ◌+◌, ◌-◌, ◌≤◌, ◌<◌, ◌^◌, Bool, ◌&&◌, nat_le, List, [], ◌∷◌, ◌++◌, length, take, get_or}
-use Rattle.std.specs.declared.sync.Arc.{Arc}
-use Rattle.std.specs.Arc.{arc_value}
+use Rattle.std.specs.Prelude.{◌≡◌, ℕ, suc, ◌+◌, ◌-◌, ◌≤◌, ◌<◌, ◌^◌, Bool, ◌&&◌, nat_le, List, [], ◌∷◌, ◌++◌, length}
 use Rattle.pm_tokens.specs.Tokens.{Token, Doc}
 use Rattle.pm_tokens.specs.Scan.{Balanced, depth_at}
 use Rattle.pm_node.specs.declared.node.Node.{Node}
 use Rattle.pm_node.specs.declared.node.Body.TheVariants.{Children}
-use Rattle.pm_node.specs.Trees.{node_tokens, list_tokens}
+use Rattle.pm_node.specs.Trees.{node_tokens}
 use Rattle.pm_node.specs.Documents.{doc_of}
 use Rattle.pm_resolve.specs.Places.{ended}
 use Rattle.pm_resolve.specs.declared.level.Level.{Level}
@@ -18,14 +16,6 @@ content_of n = (doc_of n).tokens
 -- the position is in the level's content, or at its start or end
 abbrev pub holds : ℕ → Level → Bool
 holds p l = nat_le l.start p && nat_le p (l.start + length (content_of l.node.now))
-
--- A position stands behind `index` children, which end at or before it, and `rest` tokens into the next one, where there
--- is one.
-pub record Stands {Z : Type 0} (xs : List (Arc Node Z)) (pos index rest : ℕ) : Type 0 where
-  pub within : index ≤ length xs
-  pub offset : length (list_tokens (take index xs)) + rest ≡ pos
-  pub at_end : index ≡ length xs → rest ≡ 0
-  pub inside : (x : Arc Node Z) → index < length xs → x ≡ get_or xs index x → rest < length (node_tokens (arc_value x))
 
 -- the level of a node around the position `pos`, whose content starts at `at`
 pub record IsLevel (pos at : ℕ) (n : Node) (l : Level) : Type 0 where

@@ -1,7 +1,6 @@
 //! Places of a document: the nodes around a position, and the marks there.
 #![tactic(auto)]
 
-mod children;
 mod fault;
 mod level;
 mod marks;

@@ -7,13 +7,11 @@ ghost use Rattle.pm_node.specs.Documents.{doc_of};
 ghost use Rattle.pm_node.specs.Trees.{list_tokens, IsNormal, EachWhole};
 ghost use Rattle.pm_resolve.specs.Places.{beside, marks_beside, going_on, inclusive_in};
 
-use crate::children::place_among;
 use pm_attrs::Attrs;
 use pm_marks::{Mark, MarkSet};
-use pm_node::{Body, Node};
+use pm_node::{Body, Children, Node};
 use pm_schema::Schema;
 use std::alloc::{AllocError, Global};
-use std::sync::Arc;
 
 /// The marks at a position of the node's content.
 pub fn marks_in(
@@ -36,7 +34,7 @@ pub fn marks_in(
             }
         }
         Body::Leaf => Ok(MarkSet::empty(alloc)),
-        Body::Children(content) => marks_among(alloc, schema, content.children(), pos),
+        Body::Children(content) => marks_among(alloc, schema, &content.children(), pos),
     }
 }
 
@@ -44,7 +42,7 @@ pub fn marks_in(
 fn marks_among(
     alloc: Global,
     schema: &Schema,
-    nodes: &[Arc<Node, Global>],
+    nodes: &Children<'_>,
     pos: usize,
 ) -> Result<MarkSet<Attrs>, AllocError>
     requires within { pos ≤ length (list_tokens nodes.now) }
@@ -53,21 +51,22 @@ fn marks_among(
     ensures { IfOk result (λ m. m ≡ marks_beside (inclusive_in schema.now.spec) (beside None pos (children (list_tokens nodes.now)))) }
 {
     let none = MarkSet::empty(alloc);
-    let (index, rest) = place_among(nodes, pos);
-    if rest > 0 {
-        return nodes[index].marks.copy(alloc);
+    let found = nodes.find(pos);
+    let index = found.index;
+    if found.rest > 0 {
+        return nodes.get(index).marks.copy(alloc);
     }
     if index == 0 {
-        if nodes.is_empty() {
+        if nodes.len() == 0 {
             return Ok(none);
         }
-        return going_on(alloc, schema, &nodes[0].marks, &none);
+        return going_on(alloc, schema, &nodes.get(0).marks, &none);
     }
-    let before = &nodes[index - 1].marks;
+    let before = &nodes.get(index - 1).marks;
     if index == nodes.len() {
         return going_on(alloc, schema, before, &none);
     }
-    going_on(alloc, schema, before, &nodes[index].marks)
+    going_on(alloc, schema, before, &nodes.get(index).marks)
 }
 
 /// The marks without those whose type is not inclusive and which are not among the other ones.

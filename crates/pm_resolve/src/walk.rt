@@ -3,7 +3,6 @@ ghost use Rattle.std.specs.Prelude.{◌≡◌, ◌<◌, ◌≤◌, ◌-◌, ◌�
 ghost use Rattle.pm_node.specs.Documents.{doc_of};
 ghost use Rattle.pm_resolve.specs.Levels.{Entered};
 
-use crate::children::place_among;
 use crate::fault::PlaceError;
 use crate::level::Level;
 use crate::place::Place;
@@ -54,13 +53,17 @@ fn enter<'a>(
         Body::Children(content) => {
             let _ = content.size();
             let children = content.children();
-            let (index, rest) = place_among(children, pos - start);
-            levels.push(Level { node, start, index })?;
-            if rest > 0 {
-                let child: &'a Node = &children[index];
+            let found = children.find(pos - start);
+            levels.push(Level {
+                node,
+                start,
+                index: found.index,
+            })?;
+            if found.rest > 0 {
+                let child: &'a Node = children.get(found.index);
                 if let Body::Children(inner) = &child.body {
                     let _ = inner.size();
-                    return enter(levels, child, pos - rest + 1, pos);
+                    return enter(levels, child, pos - found.rest + 1, pos);
                 }
             }
             Ok(())

@@ -31,65 +31,65 @@ returns-in_ok-push-in-Text t c =
     let index = c.ended_texts-index.ensures ∙ (ap (λ k. cond (nat_lt 0 k && nat_le k p) 1 0) c.len.ensures ∙ (sym (ended-text n.marks c.in-Text.units p) ∙ ap (λ ts. ended ts p) (sym content))) in
     entered-lowest c.in_ok-push-in-Text.ensures.items record { node = refl; start = refl; index = index } (ap (λ ts. depth_at ts p) content ∙ depth-text n.marks c.in-Text.units p)
 
-pub returns-else-rest-gt0 : goal.returns-else-rest-gt0
-returns-else-rest-gt0 t c =
+pub returns-else-found-gt0 : goal.returns-else-found-gt0
+returns-else-found-gt0 t c =
     let n = c.args.node.now in
-    let xs = c.children-children.result.now in
+    let xs = c.children-children.result in
     let e = c.children-children.ensures in
-    let i = c.place_among-index.result.0 in
-    let r = c.place_among-index.result.1 in
+    let i = c.find-found.result.index in
+    let r = c.find-found.result.rest in
     let is : content_of n ≡ list_tokens xs = ap (content_tokens n.marks) c.in-Children.is ∙ sym e.tokens in
-    let s = c.place_among-index.ensures in
-    entered-lowest c.in_ok-push-in-Children.ensures.items (level-is n xs c.args.pos c.args.start i r is e.normal e.each s _ refl refl refl) (between-depth n xs c.args.pos c.args.start i r is e.normal e.each s (omega (arith, c.if-rest-gt0.false)))
+    let s = c.find-found.ensures in
+    entered-lowest c.in_ok-push-in-Children.ensures.items (level-is n xs c.args.pos c.args.start i r is e.normal e.each s _ refl refl refl) (between-depth n xs c.args.pos c.args.start i r is e.normal e.each s (omega (arith, c.if-found-gt0.false)))
 
 pub returns-in_default : goal.returns-in_default
 returns-in_default t c =
     let n = c.args.node.now in
-    let xs = c.children-children.result.now in
+    let xs = c.children-children.result in
     let e = c.children-children.ensures in
-    let i = c.place_among-index.result.0 in
-    let r = c.place_among-index.result.1 in
+    let i = c.find-found.result.index in
+    let r = c.find-found.result.rest in
     let is : content_of n ≡ list_tokens xs = ap (content_tokens n.marks) c.in-Children.is ∙ sym e.tokens in
-    let s = c.place_among-index.ensures in
-    let x = c.index-children-index.result in
-    let lt : i < length xs = next-there s (omega (arith, c.if-rest-gt0.true)) in
+    let s = c.find-found.ensures in
+    let x = c.get.result.now in
+    let lt : i < length xs = next-there s (omega (arith, c.if-found-gt0.true)) in
     entered-lowest c.in_ok-push-in-Children.ensures.items (level-is n xs c.args.pos c.args.start i r is e.normal e.each s _ refl refl refl)
-    (flat-depth n xs c.args.pos c.args.start i r is e.normal e.each s x lt c.index-children-index.is (λ ts b. c.in_default.not-Children ts (ap (λ v. v.body) c.deref-child.ensures ∙ b)))
+    (flat-depth n xs c.args.pos c.args.start i r is e.normal e.each s x lt c.get.ensures (λ ts b. c.in_default.not-Children ts (ap (λ v. v.body) c.deref-child.ensures ∙ b)))
 
 pub returns-in-Children-body : goal.returns-in-Children-body
 returns-in-Children-body t c =
     let n = c.args.node.now in
-    let xs = c.children-children.result.now in
+    let xs = c.children-children.result in
     let e = c.children-children.ensures in
-    let i = c.place_among-index.result.0 in
-    let r = c.place_among-index.result.1 in
+    let i = c.find-found.result.index in
+    let r = c.find-found.result.rest in
     let is : content_of n ≡ list_tokens xs = ap (content_tokens n.marks) c.in-Children.is ∙ sym e.tokens in
-    let s = c.place_among-index.ensures in
-    let x = c.index-children-index.result in
-    let lt : i < length xs = next-there s (omega (arith, c.if-rest-gt0.true)) in
+    let s = c.find-found.ensures in
+    let x = c.get.result.now in
+    let lt : i < length xs = next-there s (omega (arith, c.if-found-gt0.true)) in
     let body = ap (λ v. v.body) (sym c.deref-child.ensures) ∙ c.in-Children-body.is in
     let child : Enters c.args.pos c.args.start n ((c.args.pos - r) + 1) (arc_value x) =
-    enters-child n xs c.args.pos c.args.start i r is e.normal e.each s x lt c.index-children-index.is c.in-Children-body.inner ((c.args.pos - r) + 1) body c.size-in-Children-body.ensures.whole c.requires.started (omega (arith, c.if-rest-gt0.true)) refl in
+    enters-child n xs c.args.pos c.args.start i r is e.normal e.each s x lt c.get.ensures c.in-Children-body.inner ((c.args.pos - r) + 1) body c.size-in-Children-body.ensures.whole c.requires.started (omega (arith, c.if-found-gt0.true)) refl in
     let down = subst (λ v. Enters c.args.pos c.args.start n ((c.args.pos - r) + 1) v) (sym c.deref-child.ensures) child in
     on_ok_weaker c.enter.result (λ more. entered-deeper c.in_ok-push-in-Children.ensures.items (level-is n xs c.args.pos c.args.start i r is e.normal e.each s _ refl refl refl) down more) c.enter.ensures
 
 pub enter-requires : goal.enter-requires
 enter-requires t c =
     let n = c.args.node.now in
-    let xs = c.children-children.result.now in
+    let xs = c.children-children.result in
     let e = c.children-children.ensures in
-    let i = c.place_among-index.result.0 in
-    let r = c.place_among-index.result.1 in
+    let i = c.find-found.result.index in
+    let r = c.find-found.result.rest in
     let is : content_of n ≡ list_tokens xs = ap (content_tokens n.marks) c.in-Children.is ∙ sym e.tokens in
-    let s = c.place_among-index.ensures in
-    let x = c.index-children-index.result in
-    let lt : i < length xs = next-there s (omega (arith, c.if-rest-gt0.true)) in
+    let s = c.find-found.ensures in
+    let x = c.get.result.now in
+    let lt : i < length xs = next-there s (omega (arith, c.if-found-gt0.true)) in
     let body = ap (λ v. v.body) (sym c.deref-child.ensures) ∙ c.in-Children-body.is in
     let child : Enters c.args.pos c.args.start n ((c.args.pos - r) + 1) (arc_value x) =
-    enters-child n xs c.args.pos c.args.start i r is e.normal e.each s x lt c.index-children-index.is c.in-Children-body.inner ((c.args.pos - r) + 1) body c.size-in-Children-body.ensures.whole c.requires.started (omega (arith, c.if-rest-gt0.true)) refl in
+    enters-child n xs c.args.pos c.args.start i r is e.normal e.each s x lt c.get.ensures c.in-Children-body.inner ((c.args.pos - r) + 1) body c.size-in-Children-body.ensures.whole c.requires.started (omega (arith, c.if-found-gt0.true)) refl in
     let down = subst (λ v. Enters c.args.pos c.args.start n ((c.args.pos - r) + 1) v) (sym c.deref-child.ensures) child in
     let d : length (node_tokens n) ≡ t = c.decreases in
-    let small = child-within xs i x lt c.index-children-index.is in
+    let small = child-within xs i x lt c.get.ensures in
     let size = ap (λ v. length (node_tokens v)) c.deref-child.ensures in
     let all = ap length (node_tokens_at n (Children c.in-Children.content) c.in-Children.is) in
     let g : length (node_tokens c.deref-child.result.now) < t = omega (arith, d, small, size, all, ap length e.tokens, length-append c.in-Children.content (Close ∷ [])) in
