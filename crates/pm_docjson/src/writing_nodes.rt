@@ -22,12 +22,11 @@ use crate::writing_marks::{typed, write_marks};
 use pm_attrs::Attrs;
 use pm_auto::TypeId;
 use pm_marks::Mark;
-use pm_node::{Body, Fragment, Node, Units};
+use pm_node::{Body, Children, Fragment, Node, Units};
 use pm_schema::{AnyType, Schema};
 use pm_text::{TextError, text_of};
 use serde_json::{Map, Value as Json, put};
 use std::alloc::{AllocError, Global};
-use std::sync::Arc;
 
 /// The JSON value of a node. Where the node can be written, it is read back as the same node, and a text as one of the type of
 /// texts. Else it is written all the same: a unit of no pair as U+FFFD, a type beyond the last without name and attributes, and
@@ -51,7 +50,7 @@ pub fn write_nodes(
         → (l : LeafContent) → node_list schema.now.spec l (nodes_written schema.now.spec content.now) ≡ Ok content.now) }
 {
     let _ = content.size();
-    let items = nodes_json(alloc, schema, content.children())?;
+    let items = nodes_json(alloc, schema, &content.children())?;
     Ok(items)
 }
 
@@ -74,7 +73,7 @@ fn node_json(alloc: Global, schema: &Schema, node: &Node) -> Result<Json, AllocE
         }
         Body::Children(content) => {
             let _ = content.size();
-            let items = nodes_json(alloc, schema, content.children())?;
+            let items = nodes_json(alloc, schema, &content.children())?;
             let json = branch_json(alloc, schema, node.kind, &node.attrs, marks, items)?;
             Ok(json)
         }
@@ -83,18 +82,14 @@ fn node_json(alloc: Global, schema: &Schema, node: &Node) -> Result<Json, AllocE
 
 /// The JSON values of nodes.
 #[cycle(write)]
-fn nodes_json(
-    alloc: Global,
-    schema: &Schema,
-    nodes: &[Arc<Node, Global>],
-) -> Result<Vec<Json>, AllocError>
+fn nodes_json(alloc: Global, schema: &Schema, nodes: &Children<'_>) -> Result<Vec<Json>, AllocError>
     ensures written { IfOk result (λ v. items_view v.items ≡ items_of (map (λ x. node_written schema.now.spec (arc_value x)) nodes.now)) }
     ensures again { OnOk result (AllByRecursion (λ x. IsWritable schema.now.spec (arc_value x)
         → (l : LeafContent) → node_of schema.now.spec l (node_written schema.now.spec (arc_value x)) ≡ Ok (as_read schema.now.spec (arc_value x))) nodes.now) }
 {
     let mut items = Vec::new(alloc);
-    for node in nodes {
-        items.push(node_json(alloc, schema, node)?)?;
+    for i in 0..nodes.len() {
+        items.push(node_json(alloc, schema, nodes.get(i))?)?;
     }
     Ok(items)
 }

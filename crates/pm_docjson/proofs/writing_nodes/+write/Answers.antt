@@ -2,7 +2,7 @@ use Rattle.std.proofs.Common.{◌<◌, subst, ap, arith, length}
 use Rattle.serde_json.specs.View.{view, items_view}
 use Rattle.pm_node.specs.Trees.{node_tokens}
 use Rattle.pm_node.specs.declared.node.Node.{Node}
-use Rattle.pm_node.proofs.WalkLaws.{child-within}
+use Rattle.pm_node.proofs.WalkLaws.{child-within, in-range}
 use Rattle.pm_docjson.proofs.MarksAgain.{MarksIf, marks-read}
 use Rattle.pm_docjson.proofs.NodeLaws.{inside-writable}
 use Rattle.pm_docjson.proofs.NodesAgain.{text-parts, leaf-parts, branch-parts, type-parts, marks-of, nodes-read, text-node-again, leaf-node-again, branch-node-again, branch-node-written, node-size}
@@ -34,7 +34,7 @@ node_json-returns-in_ok-json-in-Leaf-clause-again t c =
 
 pub node_json-returns-in_ok-json-in-Children-clause-written : goal.node_json-returns-in_ok-json-in-Children-clause-written
 node_json-returns-in_ok-json-in-Children-clause-written t c =
-    branch-node-written c.args.schema.now.spec c.args.node.now c.in-Children.content c.children.result.now c.marks-marks.result.now (view c.in_ok-json-in-Children.json) (items_view c.in_ok-items-in-Children.items.items) c.in-Children.is c.children.ensures.tokens c.children.ensures.normal c.children.ensures.each c.marks-marks.ensures
+    branch-node-written c.args.schema.now.spec c.args.node.now c.in-Children.content c.children.result c.marks-marks.result.now (view c.in_ok-json-in-Children.json) (items_view c.in_ok-items-in-Children.items.items) c.in-Children.is c.children.ensures.tokens c.children.ensures.normal c.children.ensures.each c.marks-marks.ensures
     c.in_ok-json-in-Children.ensures.written c.in_ok-items-in-Children.ensures.written
 
 pub node_json-returns-in_ok-json-in-Children-clause-again : goal.node_json-returns-in_ok-json-in-Children-clause-again
@@ -42,7 +42,7 @@ node_json-returns-in_ok-json-in-Children-clause-again t c =
     let s = c.args.schema.now.spec in
     let n = c.args.node.now in
     let ts = c.in-Children.content in
-    let xs = c.children.result.now in
+    let xs = c.children.result in
     let w = c.in_ok-json-in-Children.ensures in
     let bound : length ts < 4294967296 = omega (arith, c.size.ensures.size, c.size.ensures.bound) in
     λ can l.
@@ -54,6 +54,6 @@ node_json-returns-in_ok-json-in-Children-clause-again t c =
 
 pub nodes_json-node_json-requires : goal.nodes_json-node_json-requires
 nodes_json-node_json-requires t c =
-    let within = child-within c.args.nodes.now c.loop-node.node-index c.node-item.result c.loop-node-test.true c.node-item.is in
+    let within = child-within c.args.nodes.now c.loop-i.i c.get.result.now (in-range c.len-i-end.ensures c.loop-i-test.true) c.get.ensures in
     let size = ap (λ (n : Node). length (node_tokens n)) c.deref.ensures in
     omega (arith, c.decreases, within, size)

@@ -12,5 +12,5 @@ decreases-node_json l = 2 * length (node_tokens l.node.now)
 abbrev pub decreases-nodes_json : goal.decreases-nodes_json
 decreases-nodes_json l = 2 * length (list_tokens l.nodes.now) + 1
 
-abbrev pub invariant-nodes_json-loop-node : goal.invariant-nodes_json-loop-node
-invariant-nodes_json-loop-node l = (map view l.items.items ≡ map (λ x. node_written l.schema.spec (arc_value x)) (take l.node-index l.nodes)) × NodesIf l.schema.spec (take l.node-index l.nodes)
+abbrev pub invariant-nodes_json-loop-i : goal.invariant-nodes_json-loop-i
+invariant-nodes_json-loop-i l = (map view l.items.items ≡ map (λ x. node_written l.schema.spec (arc_value x)) (take l.i l.nodes)) × NodesIf l.schema.spec (take l.i l.nodes)
