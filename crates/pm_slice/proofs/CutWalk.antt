@@ -1,8 +1,8 @@
--- A walk over the children of a content to the one that a part begins in.
+-- The child of a content that a part begins in, and what the part is from there.
 use Rattle.std.specs.Prelude.{◌≡◌, ℕ, ◌+◌, ◌-◌, ◌≤◌, ◌<◌, cond, List, [], ◌∷◌, ◌++◌, length, take, drop, get_or}
 use Rattle.std.specs.declared.sync.Arc.{Arc}
 use Rattle.std.specs.Arc.{arc_value}
-use Rattle.std.proofs.Common.{inl, inr, refl, ap, sym, ◌∙◌, subst, arith, append_assoc, length-append}
+use Rattle.std.proofs.Common.{zero, suc, inl, inr, refl, ap, sym, ◌∙◌, subst, arith, append_assoc, length-append}
 use Rattle.std.proofs.lemmas.List.{take_all, take_at, take-append-drop}
 use Rattle.std.proofs.lemmas.Bool.{cases_lt, ne_eqb}
 use Rattle.pm_tokens.specs.Tokens.{Token, Open, Close}
@@ -15,9 +15,10 @@ use Rattle.pm_tokens.proofs.CutLaws.{cut-inside, cut-across, front-met}
 use Rattle.pm_tokens.proofs.DepthLaws.{cut-sides}
 use Rattle.pm_node.specs.declared.node.Node.{Node}
 use Rattle.pm_node.specs.declared.node.Body.TheVariants.{Children}
-use Rattle.pm_node.specs.Trees.{node_tokens, list_tokens}
+use Rattle.pm_node.specs.Trees.{node_tokens, list_tokens, EachWhole}
+use Rattle.pm_node.specs.Among.{Stands}
 use Rattle.pm_node.proofs.TreeLaws.{node_tokens_at, list_tokens-append}
-use Rattle.pm_node.proofs.WalkLaws.{front, front-more, list-split}
+use Rattle.pm_node.proofs.WalkLaws.{front, front-more, list-split, whole-node}
 use Rattle.pm_build.proofs.PositionLaws.{depth-behind, depth-first, depth-flat}
 use Rattle.pm_slice.specs.Sides.{sides, no_slice, or_none, IsKept, clipped}
 use Rattle.pm_slice.specs.Cuts.{IsCut, Inside, HoldsNone, Flat}
@@ -67,26 +68,25 @@ pub across-kept : (ts made : List Token) (from to os oe : ℕ) → Balanced ts �
 across-kept ts made from to os oe b i f m s e =
     subst IsKept (sym (across-made ts made from to os oe b i f m s e)) (cut-kept ts from to b (omega (arith, f.after, f.before)) i)
 
--- ---- the walk
+-- ---- the child that a part begins in
 
--- the walk after i children: start and end are where the positions lie in the rest
+-- the first children are whole nodes
+pub front-whole : {Z : Type 0} (xs : List (Arc Node Z)) (i : ℕ) → EachWhole xs → Balanced (front xs i)
+front-whole xs zero w = none
+front-whole [] (suc i) w = none
+front-whole (x ∷ xs) (suc i) w = balanced-append (whole-node (arc_value x) w.0) (front-whole xs i w.1)
+
+-- the positions as they lie behind the first i children
 pub record Sought {Z : Type 0} (xs : List (Arc Node Z)) (i from to start end : ℕ) : Type 0 where
   pub at_from : start + length (front xs i) ≡ from
   pub at_to : end + length (front xs i) ≡ to
   pub whole : Balanced (front xs i)
 
 module _ {Z : Type 0} (xs : List (Arc Node Z)) (from to : ℕ) where
-  pub sought-start : Sought xs 0 from to from to
-  sought-start = record { at_from = omega arith; at_to = omega arith; whole = none }
-
-  pub sought-more : (i start end n : ℕ) (x : Arc Node Z) → Sought xs i from to start end → i < length xs → x ≡ get_or xs i x → Balanced (node_tokens (arc_value x)) → n ≡ length (node_tokens (arc_value x)) → n ≤ start → from ≤ to → Sought xs (i + 1) from to (start - n) (end - n)
-  sought-more i start end n x w k r bal ln le o =
-      let g = front-more xs i x k r in
-      record {
-        at_from = omega (arith, w.at_from, ln, le, ap length g, length-append (front xs i) (node_tokens (arc_value x)));
-        at_to = omega (arith, w.at_from, w.at_to, ln, le, o, ap length g, length-append (front xs i) (node_tokens (arc_value x)));
-        whole = subst Balanced (sym g) (balanced-append w.whole bal);
-      }
+  pub sought-found : (i start end : ℕ) → EachWhole xs → Stands xs from i start → from ≤ to → end ≡ to - (from - start) → Sought xs i from to start end
+  sought-found i start end w s o e =
+      let at : length (front xs i) + start ≡ from = s.offset in
+      record { at_from = omega (arith, at); at_to = omega (arith, at, o, e); whole = front-whole xs i w }
 
   -- no node is around the end of the first i children
   boundary : (i : ℕ) → Balanced (front xs i) → depth_at (list_tokens xs) (length (front xs i)) ≡ 0

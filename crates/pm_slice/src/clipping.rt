@@ -26,7 +26,9 @@ pub fn clip(
     let mut made = Fragment::new(alloc);
     let mut start = from;
     let mut end = to;
-    for child in content.children() {
+    let children = content.children();
+    for i in 0..children.len() {
+        let child = children.get(i);
         let size = child.size();
         let piece = clip_node(alloc, child, start, end)?;
         push_some(alloc, &mut made, piece)?;

@@ -76,21 +76,17 @@ pub fn cut_content(
     requires within { to ≤ length content.now }
     ensures { IfOk result (λ s. s ≡ cut content.now from to) }
 {
-    let _ = content.size();
-    let mut start = from;
-    let mut end = to;
-    for child in content.children() {
-        let size = child.size();
-        if start < size {
-            return match inner_content(child, start, end) {
-                Some(inner) => cut_content(alloc, inner, start - 1, end - 1),
-                None => cut_across(alloc, content, from, to),
-            };
-        }
-        start -= size;
-        end -= size;
+    let children = content.children();
+    let found = children.find(from);
+    if found.index == children.len() {
+        return cut_across(alloc, content, from, to);
     }
-    cut_across(alloc, content, from, to)
+    let start = found.rest;
+    let end = to - (from - start);
+    match inner_content(children.get(found.index), start, end) {
+        Some(inner) => cut_content(alloc, inner, start - 1, end - 1),
+        None => cut_across(alloc, content, from, to),
+    }
 }
 
 /// The content of the node, if both positions are inside.

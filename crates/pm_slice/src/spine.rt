@@ -15,7 +15,7 @@ pub fn starts_open(content: &Fragment, depth: usize) -> bool
     if children.len() == 0 {
         return false;
     }
-    match &children[0].body {
+    match &children.get(0).body {
         Body::Children(inner) => starts_open(inner, depth - 1),
         _ => false,
     }
@@ -33,7 +33,7 @@ pub fn ends_open(content: &Fragment, depth: usize) -> bool
     if len == 0 {
         return false;
     }
-    match &children[len - 1].body {
+    match &children.get(len - 1).body {
         Body::Children(inner) => ends_open(inner, depth - 1),
         _ => false,
     }

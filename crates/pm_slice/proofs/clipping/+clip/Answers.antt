@@ -8,42 +8,42 @@ use Rattle.pm_node.specs.declared.node.Body.TheVariants.{Text}
 use Rattle.pm_node.proofs.TreeLaws.{node_tokens_at, length-text_tokens}
 use Rattle.pm_tokens.specs.Scan.{Balanced, part}
 use Rattle.pm_node.specs.Trees.{node_tokens}
-use Rattle.pm_node.proofs.WalkLaws.{child-within}
+use Rattle.pm_node.proofs.WalkLaws.{child-within, in-range, past-range}
 use Rattle.pm_slice.specs.Sides.{clipped, some_arc_tokens}
 use Rattle.pm_slice.proofs.ClipWalk.{clipped-start, clipped-more, clipped-end, clipped-small, clipped-room}
 use Rattle.pm_slice.proofs.ClipLaws.{clipped-past, clipped-none, clipped-whole, clipped-node, clipped-text, text-small}
 use Rattle.pm_slice.proofs.clipping.+clip.Goals as goal
 
-pub clip-loop-child-init : goal.clip-loop-child-init
-clip-loop-child-init t c = clipped-start c.children-child-items.result.now c.args.from c.args.to c.requires c.new-made.result c.new-made.ensures
+pub clip-loop-i-init : goal.clip-loop-i-init
+clip-loop-i-init t c = clipped-start c.children-children.result c.args.from c.args.to c.requires c.new-made.result c.new-made.ensures
 
 pub clip-clip_node-requires : goal.clip-clip_node-requires
 clip-clip_node-requires t c = (
   let d : 3 * length c.args.content.now + 2 ≡ t = c.decreases in
-      let w = child-within c.children-child-items.result.now _ c.child-item.result c.loop-child-test.true c.child-item.is in
-      let g : 3 * length (node_tokens (arc_value c.child-item.result)) + 1 < t = omega (arith, d, w, ap length c.children-child-items.ensures.tokens) in g,
-  omega (arith, c.requires, c.loop-child.invariant.starts, c.loop-child.invariant.ends),
+      let w = child-within c.children-children.result _ c.get-child.result.now (in-range c.len-i-end.ensures c.loop-i-test.true) c.get-child.ensures in
+      let g : 3 * length (node_tokens (arc_value c.get-child.result.now)) + 1 < t = omega (arith, d, w, ap length c.children-children.ensures.tokens) in g,
+  omega (arith, c.requires, c.loop-i.invariant.starts, c.loop-i.invariant.ends),
 )
 
 pub clip-push_some-requires : goal.clip-push_some-requires
 clip-push_some-requires t c =
-    let room = clipped-room c.children-child-items.result.now c.args.from c.args.to c.requires _ _ _ c.child-item.result _ (some_arc_tokens c.in_ok-piece.piece) c.loop-child.invariant c.loop-child-test.true c.child-item.is c.in_ok-piece.ensures.small in
-    omega (arith, room, c.size.ensures.size, c.size.ensures.bound, ap length c.children-child-items.ensures.tokens)
+    let room = clipped-room c.children-children.result c.args.from c.args.to c.requires _ _ _ c.get-child.result.now _ (some_arc_tokens c.in_ok-piece.piece) c.loop-i.invariant (in-range c.len-i-end.ensures c.loop-i-test.true) c.get-child.ensures c.in_ok-piece.ensures.small in
+    omega (arith, room, c.size.ensures.size, c.size.ensures.bound, ap length c.children-children.ensures.tokens)
 
-pub clip-loop-child-preserved : goal.clip-loop-child-preserved
-clip-loop-child-preserved t c =
+pub clip-loop-i-preserved : goal.clip-loop-i-preserved
+clip-loop-i-preserved t c =
     let d = c.deref.ensures in
-    clipped-more c.children-child-items.result.now c.args.from c.args.to c.requires _ _ _ c.size-size.result _ _ c.child-item.result _ _ (some_arc_tokens c.in_ok-piece.piece) c.loop-child.invariant c.loop-child-test.true c.child-item.is
+    clipped-more c.children-children.result c.args.from c.args.to c.requires _ _ _ c.size-size.result _ _ c.get-child.result.now _ _ (some_arc_tokens c.in_ok-piece.piece) c.loop-i.invariant (in-range c.len-i-end.ensures c.loop-i-test.true) c.get-child.ensures
     (subst (λ n. Balanced (node_tokens n)) d c.size-size.ensures.whole) (c.size-size.ensures.size ∙ ap (λ n. length (node_tokens n)) d)
     c.in_ok-piece.ensures.tokens c.in_ok-piece.ensures.small c.in_ok-push_some.ensures c.saturating_sub-start.ensures c.saturating_sub-end.ensures
 
 pub clip-returns : goal.clip-returns
 clip-returns t c =
-    let xs = c.children-child-items.result.now in
-    let e = c.children-child-items.ensures.tokens in
+    let xs = c.children-children.result in
+    let e = c.children-children.ensures.tokens in
     record {
-      tokens = clipped-end xs c.args.from c.args.to c.requires _ _ _ _ c.loop-child.invariant c.loop-child-test.false ∙ ap (λ z. clipped z c.args.from c.args.to) e;
-      small = omega (arith, clipped-small xs c.args.from c.args.to c.requires _ _ _ _ c.loop-child.invariant c.loop-child-test.false, ap length e);
+      tokens = clipped-end xs c.args.from c.args.to c.requires _ _ _ _ c.loop-i.invariant (past-range c.len-i-end.ensures c.loop-i-test.false) ∙ ap (λ z. clipped z c.args.from c.args.to) e;
+      small = omega (arith, clipped-small xs c.args.from c.args.to c.requires _ _ _ _ c.loop-i.invariant (past-range c.len-i-end.ensures c.loop-i-test.false), ap length e);
     }
 
 pub clip_node-returns-then-to-eq0 : goal.clip_node-returns-then-to-eq0

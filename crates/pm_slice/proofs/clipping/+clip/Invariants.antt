@@ -4,8 +4,8 @@ use Rattle.pm_node.specs.Trees.{node_tokens}
 use Rattle.pm_slice.proofs.ClipWalk.{Clipped}
 use Rattle.pm_slice.proofs.clipping.+clip.Given as goal
 
-abbrev pub invariant-clip-loop-child : goal.invariant-clip-loop-child
-invariant-clip-loop-child l = Clipped l.child-items l.child-index l.from l.to l.start l.end l.made
+abbrev pub invariant-clip-loop-i : goal.invariant-clip-loop-i
+invariant-clip-loop-i l = Clipped l.children l.i l.from l.to l.start l.end l.made
 
 abbrev pub decreases-clip : goal.decreases-clip
 decreases-clip l = 3 * length l.content.now + 2
