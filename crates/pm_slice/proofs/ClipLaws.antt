@@ -1,5 +1,5 @@
 -- Clipped parts: of nodes one after another, and of one node.
-use Rattle.std.specs.Prelude.{◌≡◌, ℕ, ◌+◌, ◌-◌, ◌≤◌, ◌<◌, List, [], ◌∷◌, ◌++◌, length, take, drop, reverse, replicate}
+use Rattle.std.specs.Prelude.{◌≡◌, ℕ, ◌+◌, ◌-◌, ◌≤◌, ◌<◌, min, List, [], ◌∷◌, ◌++◌, length, take, drop, reverse, replicate}
 use Rattle.std.proofs.Common.{zero, suc, inl, inr, refl, ap, sym, ◌∙◌, subst, arith, append_assoc, length-append}
 use Rattle.std.proofs.lemmas.List.{append-nil, take_all, replicate_more}
 use Rattle.std.proofs.lemmas.Bool.{cases_lt}
@@ -14,7 +14,7 @@ use Rattle.pm_node.specs.declared.node.Node.{Node}
 use Rattle.pm_node.specs.declared.node.Body.TheVariants.{Text, Children}
 use Rattle.pm_node.specs.Trees.{node_tokens}
 use Rattle.pm_node.proofs.TreeLaws.{node_tokens_at, balanced-node, length-text_tokens}
-use Rattle.pm_tokens.proofs.OwnedParts.{length-part}
+use Rattle.pm_tokens.proofs.OwnedParts.{length-part, part_min}
 use Rattle.pm_build.specs.Positions.{path}
 use Rattle.pm_build.proofs.PositionLaws.{depth-behind, depth-first, depth-inside, depth-flat, path-behind, path-first, path-inside, path-flat}
 use Rattle.pm_slice.specs.Sides.{clipped}
@@ -47,6 +47,19 @@ clipped-none ts f t e k = made ts f t 0 [] [] (path-start ts f (omega (arith, e,
 
 pub clipped-whole : (ts : List Token) (f t : ℕ) → Balanced ts → f ≡ 0 → length ts ≤ t → clipped ts f t ≡ ts
 clipped-whole ts f t b e h = made ts f t 0 [] ts (path-start ts f e) (part_all f t ts e h) (depth-past ts t b h) ∙ append-nil ts
+
+-- positions behind the end are as good as the end
+pub clipped-within : (ts : List Token) (f t n u v : ℕ) → Balanced ts → f ≤ t → n ≡ length ts → u ≡ min n f → v ≡ min n t → clipped ts u v ≡ clipped ts f t
+clipped-within ts f t n u v b h size eu ev = elim (cases_lt f n) [
+  | inl k ↦
+      let same : u ≡ f = omega (arith, k, eu) in
+      let tokens : part f v ts ≡ part f t ts = ap (λ z. part f z ts) (ev ∙ ap (λ z. min z t) size) ∙ part_min f t ts in
+      ap (λ z. clipped ts z v) same ∙ (elim (cases_lt t n) [
+        | inl i ↦ ap (clipped ts f) (let e : v ≡ t = omega (arith, i, ev) in e)
+        | inr i ↦ made ts f v 0 (path ts f) (part f t ts) refl tokens (depth-past ts v b (omega (arith, i, ev, size))) ∙ sym (made ts f t 0 (path ts f) (part f t ts) refl refl (depth-past ts t b (omega (arith, i, size))))
+      ])
+  | inr k ↦ clipped-past ts u v b (omega (arith, k, eu, size)) (omega (arith, eu, ev, h)) ∙ sym (clipped-past ts f t b (omega (arith, k, size)) h)
+]
 
 -- ---- one after another
 

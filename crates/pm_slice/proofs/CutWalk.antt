@@ -2,11 +2,11 @@
 use Rattle.std.specs.Prelude.{◌≡◌, ℕ, ◌+◌, ◌-◌, ◌≤◌, ◌<◌, cond, List, [], ◌∷◌, ◌++◌, length, take, drop, get_or}
 use Rattle.std.specs.declared.sync.Arc.{Arc}
 use Rattle.std.specs.Arc.{arc_value}
-use Rattle.std.proofs.Common.{zero, suc, inl, inr, refl, ap, sym, ◌∙◌, subst, arith, append_assoc, length-append}
+use Rattle.std.proofs.Common.{inl, inr, refl, ap, sym, ◌∙◌, subst, arith, append_assoc, length-append}
 use Rattle.std.proofs.lemmas.List.{take_all, take_at, take-append-drop}
 use Rattle.std.proofs.lemmas.Bool.{cases_lt, ne_eqb}
 use Rattle.pm_tokens.specs.Tokens.{Token, Open, Close}
-use Rattle.pm_tokens.specs.Scan.{unclosed, unmet, part, depth_at, shared_depth, Balanced, none}
+use Rattle.pm_tokens.specs.Scan.{unclosed, unmet, part, depth_at, shared_depth, Balanced}
 use Rattle.pm_tokens.specs.Slices.{Slice, slice_size, slice_tokens, closed_over, cut}
 use Rattle.pm_tokens.proofs.ScanLaws.{unmet-from}
 use Rattle.pm_tokens.proofs.BalanceLaws.{balanced-append, balanced-whole, unclosed-balanced}
@@ -18,10 +18,11 @@ use Rattle.pm_node.specs.declared.node.Body.TheVariants.{Children}
 use Rattle.pm_node.specs.Trees.{node_tokens, list_tokens, EachWhole}
 use Rattle.pm_node.specs.Among.{Stands}
 use Rattle.pm_node.proofs.TreeLaws.{node_tokens_at, list_tokens-append}
-use Rattle.pm_node.proofs.WalkLaws.{front, front-more, list-split, whole-node}
+use Rattle.pm_node.proofs.WalkLaws.{front, front-more, list-split}
 use Rattle.pm_build.proofs.PositionLaws.{depth-behind, depth-first, depth-flat}
 use Rattle.pm_slice.specs.Sides.{sides, no_slice, or_none, IsKept, clipped}
 use Rattle.pm_slice.specs.Cuts.{IsCut, Inside, HoldsNone, Flat}
+use Rattle.pm_slice.proofs.ClipWalk.{front-whole}
 
 -- ---- cuts are slices
 
@@ -69,12 +70,6 @@ across-kept ts made from to os oe b i f m s e =
     subst IsKept (sym (across-made ts made from to os oe b i f m s e)) (cut-kept ts from to b (omega (arith, f.after, f.before)) i)
 
 -- ---- the child that a part begins in
-
--- the first children are whole nodes
-pub front-whole : {Z : Type 0} (xs : List (Arc Node Z)) (i : ℕ) → EachWhole xs → Balanced (front xs i)
-front-whole xs zero w = none
-front-whole [] (suc i) w = none
-front-whole (x ∷ xs) (suc i) w = balanced-append (whole-node (arc_value x) w.0) (front-whole xs i w.1)
 
 -- the positions as they lie behind the first i children
 pub record Sought {Z : Type 0} (xs : List (Arc Node Z)) (i from to start end : ℕ) : Type 0 where

@@ -1,5 +1,5 @@
 -- Slices, made of a content and two open sides.
-use Rattle.std.specs.Prelude.{◌≡◌, ℕ, zero, suc, Bool, true, false, cond, ◌==◌, List, [], ◌∷◌, ◌++◌, reverse, replicate, Option, Some, None, refl}
+use Rattle.std.specs.Prelude.{◌≡◌, ℕ, zero, suc, ◌≤◌, Bool, true, false, cond, ◌==◌, List, [], ◌∷◌, ◌++◌, length, take, reverse, replicate, Option, Some, None, refl}
 use Rattle.std.specs.Coded.{Coded, code_by, coded×, coded_ℕ}
 use Rattle.pm_tokens.specs.Tokens.{Token, Open, Close, Leaf, CodeUnit}
 use Rattle.pm_tokens.specs.Slices.{Slice, slice_size, is_slice}
@@ -7,7 +7,7 @@ use Rattle.pm_tokens.specs.Scan.{part, depth_at}
 use Rattle.std.specs.declared.sync.Arc.{Arc}
 use Rattle.std.specs.Arc.{arc_value}
 use Rattle.pm_node.specs.declared.node.Node.{Node}
-use Rattle.pm_node.specs.Trees.{node_tokens}
+use Rattle.pm_node.specs.Trees.{node_tokens, list_tokens}
 use Rattle.pm_node.specs.Codes.{tokens_code}
 use Rattle.pm_build.specs.Positions.{path}
 
@@ -63,3 +63,10 @@ clipped ts from to = path ts from ++ (part from to ts ++ replicate (depth_at ts 
 abbrev pub some_arc_tokens : {Z : Type 0} → Option (Arc Node Z) → List Token
 some_arc_tokens None = []
 some_arc_tokens (Some x) = node_tokens (arc_value x)
+
+-- Of the first i children, which end at or behind the start of a part, m is made.
+pub record Clipped {Z : Type 0} (xs : List (Arc Node Z)) (i from to : ℕ) (m : List Token) : Type 0 where
+  pub within : i ≤ length xs
+  pub starts : from ≤ length (list_tokens (take i xs))
+  pub made : m ≡ clipped (list_tokens (take i xs)) from to
+  pub small : length m ≤ length (list_tokens (take i xs))

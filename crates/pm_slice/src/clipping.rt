@@ -1,11 +1,11 @@
 //! Parts of a content as contents of their own.
-ghost use Rattle.std.specs.Prelude.{◌≡◌, ◌+◌, ◌<◌, ◌≤◌, ◌^◌, ◌++◌, length, IfOk, OnOk};
+ghost use Rattle.std.specs.Prelude.{◌≡◌, [], ◌+◌, ◌<◌, ◌≤◌, ◌^◌, ◌++◌, length, IfOk, OnOk};
 ghost use Rattle.std.specs.Arc.{arc_value};
-ghost use Rattle.pm_node.specs.Trees.{node_tokens, body_tokens};
-ghost use Rattle.pm_slice.specs.Sides.{clipped, some_arc_tokens};
+ghost use Rattle.pm_node.specs.Trees.{node_tokens, body_tokens, list_tokens, IsNormal, EachWhole};
+ghost use Rattle.pm_slice.specs.Sides.{clipped, some_arc_tokens, Clipped};
 
 use pm_marks::Same;
-use pm_node::{Body, Fragment, Node};
+use pm_node::{Body, Children, Fragment, Node};
 use std::alloc::{AllocError, Global};
 use std::sync::Arc;
 
@@ -22,20 +22,70 @@ pub fn clip(
     ensures tokens { IfOk result (λ f. f ≡ clipped content.now from to) }
     ensures small { IfOk result (λ f. length f ≤ length content.now) }
 {
-    let _ = content.size();
-    let mut made = Fragment::new(alloc);
-    let mut start = from;
-    let mut end = to;
-    let children = content.children();
-    for i in 0..children.len() {
-        let child = children.get(i);
-        let size = child.size();
-        let piece = clip_node(alloc, child, start, end)?;
-        push_some(alloc, &mut made, piece)?;
-        start = start.saturating_sub(size);
-        end = end.saturating_sub(size);
-    }
+    let size = content.size();
+    let start = size.min(from);
+    let end = size.min(to);
+    let made = clip_children(alloc, &content.children(), start, end)?;
     Ok(made)
+}
+
+/// The same of children that both positions are among.
+#[cycle(clip)]
+fn clip_children(
+    alloc: Global,
+    children: &Children<'_>,
+    from: usize,
+    to: usize,
+) -> Result<Fragment, AllocError>
+    requires order { from ≤ to }
+    requires within { to ≤ length (list_tokens children.now) }
+    requires bound { length (list_tokens children.now) < 2 ^ 32 }
+    requires normal { IsNormal children.now }
+    requires each { EachWhole children.now }
+    ensures tokens { IfOk result (λ f. f ≡ clipped (list_tokens children.now) from to) }
+    ensures small { IfOk result (λ f. length f ≤ length (list_tokens children.now)) }
+{
+    let mut made = Fragment::new(alloc);
+    let next = put_first(alloc, &mut made, children, from, to)?;
+    let last = children.find(to);
+    if last.index < next {
+        return Ok(made);
+    }
+    made.append(alloc, children, next, last.index)?;
+    if last.rest == 0 {
+        return Ok(made);
+    }
+    let piece = clip_node(alloc, children.get(last.index), 0, last.rest)?;
+    push_some(alloc, &mut made, piece)?;
+    Ok(made)
+}
+
+/// Puts the part of the child that `from` is inside of, if it is inside of one, into an empty fragment. The result is the
+/// number of the child that comes next.
+#[cycle(clip)]
+fn put_first(
+    alloc: Global,
+    made: &mut Fragment,
+    children: &Children<'_>,
+    from: usize,
+    to: usize,
+) -> Result<usize, AllocError>
+    requires empty { made.old ≡ [] }
+    requires order { from ≤ to }
+    requires within { to ≤ length (list_tokens children.now) }
+    requires bound { length (list_tokens children.now) < 2 ^ 32 }
+    requires normal { IsNormal children.now }
+    requires each { EachWhole children.now }
+    ensures { IfOk result (λ next. Clipped children.now next from to made.new) }
+{
+    let first = children.find(from);
+    if first.rest == 0 {
+        return Ok(first.index);
+    }
+    let end = to - (from - first.rest);
+    let piece = clip_node(alloc, children.get(first.index), first.rest, end)?;
+    push_some(alloc, made, piece)?;
+    Ok(first.index + 1)
 }
 
 /// The same of a node, which is shared where it is whole.

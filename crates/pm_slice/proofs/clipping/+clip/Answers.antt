@@ -1,50 +1,131 @@
-use Rattle.std.proofs.Common.{◌≡◌, min, ℕ, ◌+◌, ◌-◌, ◌*◌, ◌<◌, ◌≤◌, ◌++◌, [], ◌∷◌, List, length, arith, sym, ap, ◌∙◌, subst, IfOk}
+use Rattle.std.proofs.Common.{◌≡◌, min, ℕ, ◌+◌, ◌-◌, ◌*◌, ◌<◌, ◌≤◌, ◌++◌, [], ◌∷◌, List, length, arith, sym, ap, ◌∙◌, subst, refl, IfOk}
 use Rattle.std.specs.Arc.{arc_value}
 use Rattle.std.proofs.lemmas.Result.{IfOk-weaker}
 use Rattle.pm_tokens.specs.Tokens.{Open, Close}
 use Rattle.pm_tokens.specs.Kids.{text_tokens}
 use Rattle.pm_tokens.proofs.OwnedParts.{part_min}
 use Rattle.pm_node.specs.declared.node.Body.TheVariants.{Text}
-use Rattle.pm_node.proofs.TreeLaws.{node_tokens_at, length-text_tokens}
+use Rattle.pm_node.proofs.TreeLaws.{node_tokens_at, length-text_tokens, no-more-nodes}
 use Rattle.pm_tokens.specs.Scan.{Balanced, part}
-use Rattle.pm_node.specs.Trees.{node_tokens}
-use Rattle.pm_node.proofs.WalkLaws.{child-within, in-range, past-range}
+use Rattle.pm_node.specs.Trees.{node_tokens, list_tokens}
+use Rattle.pm_node.proofs.WalkLaws.{child-within}
 use Rattle.pm_slice.specs.Sides.{clipped, some_arc_tokens}
-use Rattle.pm_slice.proofs.ClipWalk.{clipped-start, clipped-more, clipped-end, clipped-small, clipped-room}
-use Rattle.pm_slice.proofs.ClipLaws.{clipped-past, clipped-none, clipped-whole, clipped-node, clipped-text, text-small}
+use Rattle.pm_slice.proofs.ClipWalk.{stands-before, stands-within, clipped-start, clipped-first, clipped-run, part-room, last-room, clipped-last, clipped-end, clipped-small}
+use Rattle.pm_slice.proofs.ClipLaws.{clipped-within, clipped-past, clipped-none, clipped-whole, clipped-node, clipped-text, text-small}
 use Rattle.pm_slice.proofs.clipping.+clip.Goals as goal
-
-pub clip-loop-i-init : goal.clip-loop-i-init
-clip-loop-i-init t c = clipped-start c.children-children.result c.args.from c.args.to c.requires c.new-made.result c.new-made.ensures
-
-pub clip-clip_node-requires : goal.clip-clip_node-requires
-clip-clip_node-requires t c = (
-  let d : 3 * length c.args.content.now + 2 ≡ t = c.decreases in
-      let w = child-within c.children-children.result _ c.get-child.result.now (in-range c.len-i-end.ensures c.loop-i-test.true) c.get-child.ensures in
-      let g : 3 * length (node_tokens (arc_value c.get-child.result.now)) + 1 < t = omega (arith, d, w, ap length c.children-children.ensures.tokens) in g,
-  omega (arith, c.requires, c.loop-i.invariant.starts, c.loop-i.invariant.ends),
-)
-
-pub clip-push_some-requires : goal.clip-push_some-requires
-clip-push_some-requires t c =
-    let room = clipped-room c.children-children.result c.args.from c.args.to c.requires _ _ _ c.get-child.result.now _ (some_arc_tokens c.in_ok-piece.piece) c.loop-i.invariant (in-range c.len-i-end.ensures c.loop-i-test.true) c.get-child.ensures c.in_ok-piece.ensures.small in
-    omega (arith, room, c.size.ensures.size, c.size.ensures.bound, ap length c.children-children.ensures.tokens)
-
-pub clip-loop-i-preserved : goal.clip-loop-i-preserved
-clip-loop-i-preserved t c =
-    let d = c.deref.ensures in
-    clipped-more c.children-children.result c.args.from c.args.to c.requires _ _ _ c.size-size.result _ _ c.get-child.result.now _ _ (some_arc_tokens c.in_ok-piece.piece) c.loop-i.invariant (in-range c.len-i-end.ensures c.loop-i-test.true) c.get-child.ensures
-    (subst (λ n. Balanced (node_tokens n)) d c.size-size.ensures.whole) (c.size-size.ensures.size ∙ ap (λ n. length (node_tokens n)) d)
-    c.in_ok-piece.ensures.tokens c.in_ok-piece.ensures.small c.in_ok-push_some.ensures c.saturating_sub-start.ensures c.saturating_sub-end.ensures
 
 pub clip-returns : goal.clip-returns
 clip-returns t c =
-    let xs = c.children-children.result in
-    let e = c.children-children.ensures.tokens in
+    let e = c.children.ensures.tokens in
+    let same = clipped-within c.args.content.now c.args.from c.args.to c.size-size.result c.min-start.result c.min-end.result c.size-size.ensures.whole c.requires c.size-size.ensures.size c.min-start.ensures c.min-end.ensures in
     record {
-      tokens = clipped-end xs c.args.from c.args.to c.requires _ _ _ _ c.loop-i.invariant (past-range c.len-i-end.ensures c.loop-i-test.false) ∙ ap (λ z. clipped z c.args.from c.args.to) e;
-      small = omega (arith, clipped-small xs c.args.from c.args.to c.requires _ _ _ _ c.loop-i.invariant (past-range c.len-i-end.ensures c.loop-i-test.false), ap length e);
+      tokens = c.in_ok-made.ensures.tokens ∙ (ap (λ z. clipped z c.min-start.result c.min-end.result) e ∙ same);
+      small = omega (arith, c.in_ok-made.ensures.small, ap length e);
     }
+
+-- ---- of children
+
+pub clip_children-append-requires-clause-room : goal.clip_children-append-requires-clause-room
+clip_children-append-requires-clause-room t c =
+    let room = part-room c.args.children.now c.args.from c.args.to c.requires.order c.requires.each c.in_ok-next.next c.find-last.result.index c.find-last.result.rest c.put_first.new.made c.in_ok-next.ensures c.if-last-next.false c.find-last.ensures in
+    omega (arith, room, c.requires.bound)
+
+pub clip_children-returns-then-last-next-clause-tokens : goal.clip_children-returns-then-last-next-clause-tokens
+clip_children-returns-then-last-next-clause-tokens t c =
+    let xs = c.args.children.now in
+    let k = c.in_ok-next.ensures in
+    let within = stands-within xs c.args.from c.args.to c.requires.order c.requires.each c.in_ok-next.next c.find-last.result.index c.find-last.result.rest c.find-last.ensures c.if-last-next.true k.within in
+    clipped-end xs c.args.from c.args.to c.requires.order c.requires.each c.in_ok-next.next c.put_first.new.made k within
+
+pub clip_children-returns-then-last-next-clause-small : goal.clip_children-returns-then-last-next-clause-small
+clip_children-returns-then-last-next-clause-small t c =
+    clipped-small c.args.children.now c.args.from c.args.to c.requires.order c.requires.each c.in_ok-next.next c.put_first.new.made c.in_ok-next.ensures
+
+pub clip_children-returns-then-last-eq0-clause-tokens : goal.clip_children-returns-then-last-eq0-clause-tokens
+clip_children-returns-then-last-eq0-clause-tokens t c =
+    let xs = c.args.children.now in
+    let j = c.find-last.result.index in
+    let k = clipped-run xs c.args.from c.args.to c.requires.order c.requires.each c.in_ok-next.next j c.find-last.result.rest c.put_first.new.made c.append.new.self c.in_ok-next.ensures c.if-last-next.false c.find-last.ensures c.in_ok-append.ensures in
+    clipped-end xs c.args.from c.args.to c.requires.order c.requires.each j c.append.new.self k (let at = c.find-last.ensures.offset in omega (arith, at, c.if-last-eq0.true))
+
+pub clip_children-returns-then-last-eq0-clause-small : goal.clip_children-returns-then-last-eq0-clause-small
+clip_children-returns-then-last-eq0-clause-small t c =
+    let xs = c.args.children.now in
+    let j = c.find-last.result.index in
+    let k = clipped-run xs c.args.from c.args.to c.requires.order c.requires.each c.in_ok-next.next j c.find-last.result.rest c.put_first.new.made c.append.new.self c.in_ok-next.ensures c.if-last-next.false c.find-last.ensures c.in_ok-append.ensures in
+    clipped-small xs c.args.from c.args.to c.requires.order c.requires.each j c.append.new.self k
+
+pub clip_children-clip_node-requires : goal.clip_children-clip_node-requires
+clip_children-clip_node-requires t c =
+    let d : 5 * length (list_tokens c.args.children.now) + 3 ≡ t = c.decreases in
+    let lt = stands-before c.find-last.ensures c.if-last-eq0.false in
+    let w = child-within c.args.children.now c.find-last.result.index c.get.result.now lt c.get.ensures in
+    let g : 5 * length (node_tokens (arc_value c.get.result.now)) + 1 < t = omega (arith, d, w) in
+    (g, omega arith)
+
+pub clip_children-push_some-requires : goal.clip_children-push_some-requires
+clip_children-push_some-requires t c =
+    let xs = c.args.children.now in
+    let j = c.find-last.result.index in
+    let lt = stands-before c.find-last.ensures c.if-last-eq0.false in
+    let k = clipped-run xs c.args.from c.args.to c.requires.order c.requires.each c.in_ok-next.next j c.find-last.result.rest c.put_first.new.made c.append.new.self c.in_ok-next.ensures c.if-last-next.false c.find-last.ensures c.in_ok-append.ensures in
+    let room = last-room xs c.args.from c.args.to c.requires.order c.requires.each j c.get.result.now c.append.new.self (some_arc_tokens c.in_ok-piece.piece) k lt c.get.ensures c.in_ok-piece.ensures.small in
+    omega (arith, room, c.requires.bound)
+
+pub clip_children-returns-clause-tokens : goal.clip_children-returns-clause-tokens
+clip_children-returns-clause-tokens t c =
+    let xs = c.args.children.now in
+    let j = c.find-last.result.index in
+    let x = c.get.result.now in
+    let lt = stands-before c.find-last.ensures c.if-last-eq0.false in
+    let k = clipped-run xs c.args.from c.args.to c.requires.order c.requires.each c.in_ok-next.next j c.find-last.result.rest c.put_first.new.made c.append.new.self c.in_ok-next.ensures c.if-last-next.false c.find-last.ensures c.in_ok-append.ensures in
+    let last = clipped-last xs c.args.from c.args.to c.requires.order c.requires.each j c.find-last.result.rest x c.append.new.self c.push_some.new.made (some_arc_tokens c.in_ok-piece.piece) k c.find-last.ensures lt c.get.ensures c.in_ok-push_some.ensures c.in_ok-piece.ensures.tokens c.in_ok-piece.ensures.small in
+    clipped-end xs c.args.from c.args.to c.requires.order c.requires.each (j + 1) c.push_some.new.made last
+    (stands-within xs c.args.from c.args.to c.requires.order c.requires.each (j + 1) j c.find-last.result.rest c.find-last.ensures (omega arith) last.within)
+
+pub clip_children-returns-clause-small : goal.clip_children-returns-clause-small
+clip_children-returns-clause-small t c =
+    let xs = c.args.children.now in
+    let j = c.find-last.result.index in
+    let x = c.get.result.now in
+    let lt = stands-before c.find-last.ensures c.if-last-eq0.false in
+    let k = clipped-run xs c.args.from c.args.to c.requires.order c.requires.each c.in_ok-next.next j c.find-last.result.rest c.put_first.new.made c.append.new.self c.in_ok-next.ensures c.if-last-next.false c.find-last.ensures c.in_ok-append.ensures in
+    let last = clipped-last xs c.args.from c.args.to c.requires.order c.requires.each j c.find-last.result.rest x c.append.new.self c.push_some.new.made (some_arc_tokens c.in_ok-piece.piece) k c.find-last.ensures lt c.get.ensures c.in_ok-push_some.ensures c.in_ok-piece.ensures.tokens c.in_ok-piece.ensures.small in
+    clipped-small xs c.args.from c.args.to c.requires.order c.requires.each (j + 1) c.push_some.new.made last
+
+-- ---- of the child that the part begins in
+
+pub put_first-returns-then-first-eq0 : goal.put_first-returns-then-first-eq0
+put_first-returns-then-first-eq0 t c =
+    clipped-start c.args.children.now c.args.from c.args.to c.requires.order c.requires.each c.find-first.result.index c.find-first.result.rest c.args.made.now c.find-first.ensures c.if-first-eq0.true c.requires.empty
+
+pub put_first-clip_node-requires : goal.put_first-clip_node-requires
+put_first-clip_node-requires t c =
+    let d : 5 * length (list_tokens c.args.children.now) + 2 ≡ t = c.decreases in
+    let lt = stands-before c.find-first.ensures c.if-first-eq0.false in
+    let w = child-within c.args.children.now c.find-first.result.index c.get.result.now lt c.get.ensures in
+    let g : 5 * length (node_tokens (arc_value c.get.result.now)) + 1 < t = omega (arith, d, w) in
+    let at = c.find-first.ensures.offset in
+    (g, omega (arith, at, c.requires.order))
+
+pub put_first-push_some-requires : goal.put_first-push_some-requires
+put_first-push_some-requires t c =
+    let lt = stands-before c.find-first.ensures c.if-first-eq0.false in
+    let w = child-within c.args.children.now c.find-first.result.index c.get.result.now lt c.get.ensures in
+    omega (arith, ap length c.requires.empty, w, c.in_ok-piece.ensures.small, c.requires.bound)
+
+pub put_first-overflow_add-result : goal.put_first-overflow_add-result
+put_first-overflow_add-result t c =
+    let lt = stands-before c.find-first.ensures c.if-first-eq0.false in
+    omega (arith, lt, no-more-nodes c.args.children.now c.requires.normal, c.requires.bound)
+
+pub put_first-returns : goal.put_first-returns
+put_first-returns t c =
+    let lt = stands-before c.find-first.ensures c.if-first-eq0.false in
+    clipped-first c.args.children.now c.args.from c.args.to c.requires.order c.requires.each c.find-first.result.index c.find-first.result.rest (c.args.to - (c.args.from - c.find-first.result.rest)) c.get.result.now c.args.made.now c.push_some.new.made (some_arc_tokens c.in_ok-piece.piece)
+    c.find-first.ensures lt c.get.ensures refl c.requires.empty c.in_ok-push_some.ensures c.in_ok-piece.ensures.tokens c.in_ok-piece.ensures.small
+
+-- ---- of a node
 
 pub clip_node-returns-then-to-eq0 : goal.clip_node-returns-then-to-eq0
 clip_node-returns-then-to-eq0 t c =
