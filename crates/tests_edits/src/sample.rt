@@ -257,7 +257,9 @@ fn letter(node: &Node) -> char {
 
 /// Writes the content so many levels deep.
 fn write(out: &mut String, content: &Fragment, levels: usize) -> Result<(), AllocError> {
-    for child in content.children() {
+    let children = content.children();
+    for i in 0..children.len() {
+        let child = children.get(i);
         let marked = child.marks.marks().len() > 0;
         match &child.body {
             Body::Text(units) => {

@@ -80,10 +80,10 @@ fn schema(alloc: Global) -> Result<Schema, Fail> {
 /// Whether the node has one child, which is a paragraph.
 fn has_one_paragraph(node: &Node) -> bool {
     match &node.body {
-        Body::Children(content) => match content.children() {
-            [child] => child.kind == PARAGRAPH,
-            _ => false,
-        },
+        Body::Children(content) => {
+            let children = content.children();
+            children.len() == 1 && children.get(0).kind == PARAGRAPH
+        }
         _ => false,
     }
 }

@@ -207,8 +207,10 @@ fn neighbouring_texts_are_joined(rt: HostRuntime) -> Result<(), Fail> {
         assert!(rt;
             content.len() > 1 && content.child(0).size() == 2 && content.child(1).size() == 1
         );
+        let children = content.children();
         assert!(rt;
-            matches!(&content.children()[0].body, Body::Text(units) if units.as_slice() == [97, 98].as_slice())
+            children.len() > 0
+                && matches!(&children.get(0).body, Body::Text(units) if units.as_slice() == [97, 98].as_slice())
         );
     }
     Ok(())
