@@ -16,7 +16,7 @@ use std::alloc::Global;
 
 /// Where two contents differ: the tokens from..to of the one are from..new_to of the other.
 #[derive(Clone, Copy)]
-pub struct Change {
+pub struct Difference {
     pub from: usize,
     pub to: usize,
     pub new_to: usize,
@@ -39,7 +39,7 @@ pub fn stays_valid_around(
     kind: TypeId,
     before: &Fragment,
     after: &Fragment,
-    change: Change,
+    change: Difference,
     levels: usize,
 ) -> bool
     requires order { change.from ≤ change.to }
@@ -52,7 +52,7 @@ pub fn stays_valid_around(
     let new = after.children();
     match child_around(&old, &new, change) {
         Some(pair) => {
-            let inner = Change {
+            let inner = Difference {
                 from: change.from - pair.start,
                 to: change.to - pair.start,
                 new_to: change.new_to - pair.start,
@@ -77,7 +77,7 @@ fn node_stays_valid(
     schema: &Schema,
     before: &Node,
     after: &Node,
-    change: Change,
+    change: Difference,
     levels: usize,
 ) -> bool
     requires inside { 0 < change.from }
@@ -87,7 +87,7 @@ fn node_stays_valid(
 {
     match (&before.body, &after.body) {
         (Body::Children(old), Body::Children(new)) => {
-            let inner = Change {
+            let inner = Difference {
                 from: change.from - 1,
                 to: change.to - 1,
                 new_to: change.new_to - 1,
@@ -112,7 +112,7 @@ fn same_behind(size: usize, to: usize, new_size: usize, new_to: usize) -> bool
 }
 
 /// The node around a change in both of two lists, unless it is a text or a leaf in one of them.
-fn child_around(old: &Children<'_>, new: &Children<'_>, change: Change) -> Option<Pair>
+fn child_around(old: &Children<'_>, new: &Children<'_>, change: Difference) -> Option<Pair>
     requires order { change.from ≤ change.to }
     ensures before { IfSome result (λ p. IsPlace old.now p.before p.start) }
     ensures after { IfSome result (λ p. IsPlace new.now p.after p.start) }

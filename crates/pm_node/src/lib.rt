@@ -17,7 +17,7 @@ mod rules;
 mod units;
 mod values;
 
-pub use around::{Change, stays_valid_around};
+pub use around::{Difference, stays_valid_around};
 pub use check::{MAX_DEPTH, MAX_SIZE, text_alone};
 pub use children::{Children, Found};
 pub use document::Document;

@@ -10,7 +10,9 @@ ghost use Rattle.pm_tokens.specs.Faults.{Valid};
 use pm_change::Failed;
 use pm_marks::Same;
 use pm_meaning::Reason;
-use pm_node::{Body, Change, Document, Fragment, MAX_DEPTH, MAX_SIZE, Node, stays_valid_around};
+use pm_node::{
+    Body, Difference, Document, Fragment, MAX_DEPTH, MAX_SIZE, Node, stays_valid_around,
+};
 use pm_schema::Schema;
 use std::alloc::{AllocError, Global};
 
@@ -55,7 +57,7 @@ pub fn checked_change(
     top: &Node,
     before: &Fragment,
     content: Fragment,
-    change: Change,
+    change: Difference,
 ) -> Result<Document, Failed<Reason>>
     requires valid { Valid (documents_of schema.now.spec) (doc_with top.now before.now) }
     requires changed { Changed before.now content change.from change.to change.new_to }

@@ -16,7 +16,7 @@ use crate::splicing::{join, splice};
 use pm_build::{depth_at, parts_pair};
 use pm_change::Failed;
 use pm_meaning::Reason;
-use pm_node::{Body, Change, Document, Fragment, MAX_SIZE, Node, text_alone};
+use pm_node::{Body, Difference, Document, Fragment, MAX_SIZE, Node, text_alone};
 use pm_schema::Schema;
 use pm_slice::Slice;
 use std::alloc::Global;
@@ -125,7 +125,7 @@ pub fn splice_valid(
 {
     let _ = content.size();
     let made = splice_within(alloc, schema, content, from, to, slice)?;
-    let change = Change {
+    let change = Difference {
         from,
         to,
         new_to: from + slice.size(),
