@@ -1,13 +1,19 @@
 -- The marks of the node that begins at a position: behind whole nodes, in one node, and in its content.
-use Rattle.std.specs.Prelude.{◌≡◌, ℕ, ◌+◌, ◌-◌, ◌≤◌, ◌<◌, Option, Some, None, List, [], ◌∷◌, ◌++◌, length, drop}
-use Rattle.std.proofs.Common.{zero, suc, refl, ap, sym, ◌∙◌, arith, length-append}
+use Rattle.std.specs.Prelude.{◌≡◌, ℕ, ◌+◌, ◌-◌, ◌≤◌, ◌<◌, Option, Some, None, List, [], ◌∷◌, ◌++◌, length, take, drop, get_or}
+use Rattle.std.specs.declared.sync.Arc.{Arc}
+use Rattle.std.specs.Arc.{arc_value}
+use Rattle.std.proofs.Common.{zero, suc, inl, inr, refl, ap, ◌∙◌, arith, length-append}
+use Rattle.std.proofs.lemmas.Bool.{cases_lt}
+use Rattle.std.proofs.lemmas.List.{take_all, drop_all}
 use Rattle.pm_tokens.specs.Tokens.{Marks, Token, Open, Close, Leaf, CodeUnit}
 use Rattle.pm_tokens.specs.Kids.{text_tokens}
 use Rattle.pm_tokens.proofs.ListLaws.{drop-nil}
 use Rattle.pm_node.specs.declared.node.Node.{Node}
 use Rattle.pm_node.specs.declared.node.Body.TheVariants.{Text, Leaf as Childless, Children}
-use Rattle.pm_node.specs.Trees.{node_tokens}
+use Rattle.pm_node.specs.Trees.{node_tokens, list_tokens}
+use Rattle.pm_node.specs.Among.{Stands}
 use Rattle.pm_node.proofs.TreeLaws.{node_tokens_at}
+use Rattle.pm_node.proofs.WalkLaws.{list-split}
 use Rattle.pm_apply.specs.Nodes.{marks_first}
 
 abbrev pub marks_at : List Token → ℕ → Option Marks
@@ -66,7 +72,24 @@ marks-leaf n pos is lt =
     let z : pos ≡ 0 = omega (arith, lt, ap length (node_tokens_at n Childless is)) in
     ap (λ p. marks_at (node_tokens n) p) z ∙ ap (λ ts. marks_at ts 0) (node_tokens_at n Childless is)
 
+-- ---- among children
+
+-- a position before the end is in a child
+pub stands-in : {Z : Type 0} {xs : List (Arc Node Z)} {pos i r : ℕ} → Stands xs pos i r → pos < length (list_tokens xs) → i < length xs
+stands-in {xs = xs} {pos = pos} {i = i} {r = r} w h = elim (cases_lt i (length xs)) [
+  | inl p ↦ p
+  | inr p ↦ (let e : i ≡ length xs = omega (arith, p, w.within) in absurd (omega (arith, h, w.offset, w.at_end e, ap (λ z. length (list_tokens z)) (take_all i xs (omega (arith, p))))))
+]
+
+pub marks-among : {Z : Type 0} (xs : List (Arc Node Z)) (pos i r : ℕ) (x : Arc Node Z) → Stands xs pos i r → i < length xs → x ≡ get_or xs i x → marks_at (list_tokens xs) pos ≡ marks_at (node_tokens (arc_value x)) r
+marks-among xs pos i r x w h g =
+    let a = list_tokens (take i xs) in
+    let ts = node_tokens (arc_value x) in
+    let rest = list_tokens (drop (i + 1) xs) in
+    let e : pos - length a ≡ r = omega (arith, w.offset) in
+    ap (λ z. marks_at z pos) (list-split xs i x h g) ∙ (marks-behind a (ts ++ rest) pos (omega (arith, w.offset)) ∙ (ap (marks_at (ts ++ rest)) e ∙ marks-at-first ts rest r (w.inside x h g)))
+
 -- ---- past the end
 
-pub marks-end : (ts : List Token) (pos : ℕ) → ts ≡ [] → marks_at ts pos ≡ None
-marks-end ts pos e = ap (λ z. marks_at z pos) e ∙ ap marks_first (drop-nil pos)
+pub marks-end : (ts : List Token) (pos : ℕ) → length ts ≤ pos → marks_at ts pos ≡ None
+marks-end ts pos h = ap marks_first (drop_all pos ts h)

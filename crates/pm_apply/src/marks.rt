@@ -40,7 +40,9 @@ pub fn mark_content(
     let mut made = Fragment::new(alloc);
     let mut start = from;
     let mut end = to;
-    for child in content.children() {
+    let children = content.children();
+    for i in 0..children.len() {
+        let child = children.get(i);
         let size = child.size();
         mark_child(
             alloc, schema, parent, child, start, end, marking, reach, &mut made,

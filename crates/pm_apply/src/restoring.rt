@@ -38,7 +38,9 @@ pub fn restores(
     let _ = content.size();
     let mut start = from;
     let mut end = to;
-    for child in content.children() {
+    let children = content.children();
+    for i in 0..children.len() {
+        let child = children.get(i);
         let size = child.size();
         let kept = restores_in(alloc, schema, parent, child, start, end, marking, back)?;
         if !kept {

@@ -81,16 +81,12 @@ pub fn is_whole(
 pub fn node_marks_at(content: &Fragment, pos: usize) -> Option<&MarkSet<Attrs>>
     ensures { option_copied result ≡ marks_first (drop pos content.now) }
 {
-    let _ = content.size();
-    let mut rest = pos;
-    for child in content.children() {
-        let size = child.size();
-        if rest < size {
-            return node_marks_in(child, rest);
-        }
-        rest -= size;
+    let children = content.children();
+    if children.size() <= pos {
+        return None;
     }
-    None
+    let found = children.find(pos);
+    node_marks_in(children.get(found.index), found.rest)
 }
 
 #[cycle(marks_at)]

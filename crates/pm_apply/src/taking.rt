@@ -39,7 +39,9 @@ impl Runs {
         let mut place = at;
         let mut start = from;
         let mut end = to;
-        for child in content.children() {
+        let children = content.children();
+        for i in 0..children.len() {
+            let child = children.get(i);
             let size = child.size();
             self.take_child(alloc, schema, parent, child, place, start, end, marking)?;
             place += size;

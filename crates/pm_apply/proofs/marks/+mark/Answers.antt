@@ -7,7 +7,7 @@ use Rattle.pm_schema.specs.Documents.{documents_of}
 use Rattle.pm_node.specs.declared.node.Body.TheVariants.{Text, Leaf as Childless, Children}
 use Rattle.pm_node.specs.Trees.{node_tokens}
 use Rattle.pm_node.proofs.TreeLaws.{node_tokens_at, length-text_tokens}
-use Rattle.pm_node.proofs.WalkLaws.{child-within}
+use Rattle.pm_node.proofs.WalkLaws.{child-within, in-range, past-range}
 use Rattle.pm_apply.specs.Markings.{AreKnown, marked_in, new_marks}
 use Rattle.pm_apply.proofs.KnownLaws.{known-child, known-inner}
 use Rattle.pm_apply.proofs.MarkedWalk.{marked-start, marked-more, marked-end, marked-room, marked-order}
@@ -17,38 +17,38 @@ use Rattle.pm_apply.proofs.marks.+mark.Goals as goal
 pub mark_content-mark_child-requires : goal.mark_content-mark_child-requires
 mark_content-mark_child-requires t c =
     let f = new_marks (documents_of c.args.schema.now.spec) c.args.marking.now c.args.reach in
-    let xs = c.children-child-items.result.now in
-    let all = c.children-child-items.ensures.tokens in
+    let xs = c.children-children.result in
+    let all = c.children-children.ensures.tokens in
     let d : 3 * length c.args.content.now + 2 ≡ t = c.decreases in
-    let w = child-within xs _ c.child-item.result c.loop-child-test.true c.child-item.is in
-    let g : 3 * length (node_tokens (arc_value c.child-item.result)) + 1 < t = omega (arith, d, w, ap length all) in
-    let room = marked-room f c.args.parent xs c.args.from c.args.to c.requires.order _ _ _ c.child-item.result _ c.loop-child.invariant c.loop-child-test.true c.child-item.is in (
+    let w = child-within xs _ c.get-child.result.now (in-range c.len-i-end.ensures c.loop-i-test.true) c.get-child.ensures in
+    let g : 3 * length (node_tokens (arc_value c.get-child.result.now)) + 1 < t = omega (arith, d, w, ap length all) in
+    let room = marked-room f c.args.parent xs c.args.from c.args.to c.requires.order _ _ _ c.get-child.result.now _ c.loop-i.invariant (in-range c.len-i-end.ensures c.loop-i-test.true) c.get-child.ensures in (
       g,
       (
-        marked-order f c.args.parent xs c.args.from c.args.to c.requires.order _ _ _ _ c.loop-child.invariant,
+        marked-order f c.args.parent xs c.args.from c.args.to c.requires.order _ _ _ _ c.loop-i.invariant,
         (
           c.requires.parent,
           (
-            known-child (length c.args.schema.now.spec.nodes) xs _ c.child-item.result c.loop-child-test.true c.child-item.is (subst (AreKnown (length c.args.schema.now.spec.nodes)) (sym all) c.requires.known),
+            known-child (length c.args.schema.now.spec.nodes) xs _ c.get-child.result.now (in-range c.len-i-end.ensures c.loop-i-test.true) c.get-child.ensures (subst (AreKnown (length c.args.schema.now.spec.nodes)) (sym all) c.requires.known),
             omega (arith, room, c.size.ensures.size, c.size.ensures.bound, ap length all),
           ),
         ),
       ),
     )
 
-pub mark_content-loop-child-preserved : goal.mark_content-loop-child-preserved
-mark_content-loop-child-preserved t c =
+pub mark_content-loop-i-preserved : goal.mark_content-loop-i-preserved
+mark_content-loop-i-preserved t c =
     let f = new_marks (documents_of c.args.schema.now.spec) c.args.marking.now c.args.reach in
     let d = c.deref.ensures in
-    marked-more f c.args.parent c.children-child-items.result.now c.args.from c.args.to c.requires.order _ _ _ c.size-size.result _ _ c.child-item.result _ _ c.loop-child.invariant c.loop-child-test.true c.child-item.is
+    marked-more f c.args.parent c.children-children.result c.args.from c.args.to c.requires.order _ _ _ c.size-size.result _ _ c.get-child.result.now _ _ c.loop-i.invariant (in-range c.len-i-end.ensures c.loop-i-test.true) c.get-child.ensures
     (subst (λ n. Balanced (node_tokens n)) d c.size-size.ensures.whole) (c.size-size.ensures.size ∙ ap (λ n. length (node_tokens n)) d)
     c.in_ok-mark_child.ensures c.saturating_sub-start.ensures c.saturating_sub-end.ensures
 
 pub mark_content-returns : goal.mark_content-returns
 mark_content-returns t c = λ ps.
     let f = new_marks (documents_of c.args.schema.now.spec) c.args.marking.now c.args.reach in
-    marked-end f c.args.parent c.children-child-items.result.now c.args.from c.args.to c.requires.order _ _ _ _ c.loop-child.invariant c.loop-child-test.false ps
-    ∙ ap (marked_in f (c.args.parent ∷ ps) c.args.from c.args.to) c.children-child-items.ensures.tokens
+    marked-end f c.args.parent c.children-children.result c.args.from c.args.to c.requires.order _ _ _ _ c.loop-i.invariant (past-range c.len-i-end.ensures c.loop-i-test.false) ps
+    ∙ ap (marked_in f (c.args.parent ∷ ps) c.args.from c.args.to) c.children-children.ensures.tokens
 
 pub mark_child-returns-then-to-from : goal.mark_child-returns-then-to-from
 mark_child-returns-then-to-from t c =

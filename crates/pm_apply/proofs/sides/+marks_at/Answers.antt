@@ -1,50 +1,30 @@
-use Rattle.std.proofs.Common.{◌≡◌, ℕ, ◌+◌, ◌-◌, ◌*◌, ◌<◌, ◌≤◌, length, arith, sym, ap, ◌∙◌, refl}
-use Rattle.std.specs.Arc.{arc_value}
+use Rattle.std.proofs.Common.{◌≡◌, ◌+◌, ◌*◌, ◌<◌, length, arith, sym, ap, ◌∙◌}
 use Rattle.pm_node.specs.Trees.{node_tokens}
-use Rattle.pm_node.proofs.WalkLaws.{Child, rest, rest-end, child-within, child-at}
-use Rattle.pm_apply.proofs.NodeMarkLaws.{marks_at, marks-behind, marks-at-first, marks-inside, marks-outside, marks-open, marks-text, marks-leaf, marks-end}
+use Rattle.pm_node.proofs.WalkLaws.{child-within}
+use Rattle.pm_apply.proofs.NodeMarkLaws.{marks_at, marks-inside, marks-outside, marks-open, marks-text, marks-leaf, marks-end, stands-in, marks-among}
 use Rattle.pm_apply.proofs.sides.+marks_at.Goals as goal
 
-pub node_marks_at-loop-child-init : goal.node_marks_at-loop-child-init
-node_marks_at-loop-child-init t c = refl
+pub node_marks_at-returns-then-size-pos : goal.node_marks_at-returns-then-size-pos
+node_marks_at-returns-then-size-pos t c =
+    sym (marks-end c.args.content.now c.args.pos (omega (arith, c.if-size-pos.true, c.size.ensures, ap length c.children-children.ensures.tokens)))
 
 pub node_marks_at-node_marks_in-requires : goal.node_marks_at-node_marks_in-requires
 node_marks_at-node_marks_in-requires t c =
+    let xs = c.children-children.result in
     let d : 2 * length c.args.content.now + 1 ≡ t = c.decreases in
-    let w = child-within c.children-child-items.result.now _ c.child-item.result c.loop-child-test.true c.child-item.is in
-    let n = ap (λ m. length (node_tokens m)) c.deref-then-rest-size.ensures in
-    let g : 2 * length (node_tokens c.deref-then-rest-size.result.now) < t = omega (arith, d, w, n, ap length c.children-child-items.ensures.tokens) in
-    (g, omega (arith, c.if-rest-size.true, c.size-size.ensures.size, n, ap (λ m. length (node_tokens m)) c.deref.ensures))
-
-pub node_marks_at-returns-then-rest-size : goal.node_marks_at-returns-then-rest-size
-node_marks_at-returns-then-rest-size t c =
-    let xs = c.children-child-items.result.now in
-    let e = c.children-child-items.ensures in
-    let i = c.loop-child.child-index in
-    let k = child-at xs i c.child-item.result e.normal e.each c.loop-child-test.true c.child-item.is in
-    let n = arc_value c.child-item.result in
-    let lt : c.loop-child.rest < length (node_tokens n) = omega (arith, c.if-rest-size.true, c.size-size.ensures.size, ap (λ m. length (node_tokens m)) c.deref.ensures) in
-    c.node_marks_in.ensures ∙ (ap (λ m. marks_at (node_tokens m) c.loop-child.rest) c.deref-then-rest-size.ensures
-    ∙ (sym (marks-at-first (node_tokens n) (rest xs (i + 1)) c.loop-child.rest lt) ∙ (ap (λ z. marks_at z c.loop-child.rest) (sym k.tokens)
-    ∙ (sym c.loop-child.invariant ∙ ap (λ z. marks_at z c.args.pos) e.tokens))))
-
-pub node_marks_at-loop-child-preserved : goal.node_marks_at-loop-child-preserved
-node_marks_at-loop-child-preserved t c =
-    let xs = c.children-child-items.result.now in
-    let e = c.children-child-items.ensures in
-    let i = c.loop-child.child-index in
-    let k = child-at xs i c.child-item.result e.normal e.each c.loop-child-test.true c.child-item.is in
-    let n = arc_value c.child-item.result in
-    let size : c.size-size.result ≡ length (node_tokens n) = c.size-size.ensures.size ∙ ap (λ m. length (node_tokens m)) c.deref.ensures in
-    c.loop-child.invariant ∙ (ap (λ z. marks_at z c.loop-child.rest) k.tokens
-    ∙ (marks-behind (node_tokens n) (rest xs (i + 1)) c.loop-child.rest (omega (arith, size, c.if-rest-size.false))
-    ∙ ap (λ z. marks_at (rest xs (i + 1)) (c.loop-child.rest - z)) (sym size)))
+    let h = stands-in c.find-found.ensures (omega (arith, c.if-size-pos.false, c.size.ensures)) in
+    let w = child-within xs _ c.get.result.now h c.get.ensures in
+    let n = ap (λ m. length (node_tokens m)) c.deref.ensures in
+    let g : 2 * length (node_tokens c.deref.result.now) < t = omega (arith, d, w, n, ap length c.children-children.ensures.tokens) in
+    (g, omega (arith, c.find-found.ensures.inside c.get.result.now h c.get.ensures, n))
 
 pub node_marks_at-returns : goal.node_marks_at-returns
 node_marks_at-returns t c =
-    let xs = c.children-child-items.result.now in
-    let i = c.loop-child.child-index in
-    sym (marks-end (rest xs i) c.loop-child.rest (rest-end xs i c.loop-child-test.false)) ∙ (sym c.loop-child.invariant ∙ ap (λ z. marks_at z c.args.pos) c.children-child-items.ensures.tokens)
+    let xs = c.children-children.result in
+    let r = c.find-found.result.rest in
+    let h = stands-in c.find-found.ensures (omega (arith, c.if-size-pos.false, c.size.ensures)) in
+    c.node_marks_in.ensures ∙ (ap (λ m. marks_at (node_tokens m) r) c.deref.ensures
+    ∙ (sym (marks-among xs c.args.pos _ r c.get.result.now c.find-found.ensures h c.get.ensures) ∙ ap (λ z. marks_at z c.args.pos) c.children-children.ensures.tokens))
 
 pub node_marks_in-returns-in-Text : goal.node_marks_in-returns-in-Text
 node_marks_in-returns-in-Text t c = sym (marks-text c.args.node.now c.in-Text.field-0 c.args.pos c.in-Text.is)
