@@ -1,4 +1,4 @@
-//! Tests of replacing, fitting and applying, of steps that are carried and steps that are taken back, on documents that are
+//! Tests of cutting, replacing, fitting and applying, of steps that are carried and steps that are taken back, on documents that are
 //! written as short texts. Each is a row of a table, and what it wants was worked out by hand from the rules.
 #![tactic(auto)]
 
@@ -20,6 +20,8 @@ mod replacing;
 mod rows;
 #[cfg(test)]
 mod sample;
+#[cfg(test)]
+mod slicing;
 #[cfg(test)]
 mod templates;
 #[cfg(test)]

@@ -7,6 +7,7 @@ use crate::carrying::carried_over;
 use crate::fitting::fitted;
 use crate::replacing::replaced;
 use crate::sample::{document, document_json, schema, step, step_json};
+use crate::slicing::sliced;
 use crate::undoing::undone;
 use pm_node::Document;
 use pm_schema::Schema;
@@ -41,6 +42,9 @@ fn found(alloc: Global, schema: &Schema, row: Row<'_>) -> Result<String, Fail> {
     if row.asked == "carry" {
         return carried_over(alloc, schema, &before, row.step);
     }
+    if is_sliced(row.asked) {
+        return sliced(alloc, schema, row.asked, &before, row.step);
+    }
     let step = step(alloc, schema, row.step)?;
     match row.asked {
         "apply" => applied(alloc, schema, &before, step),
@@ -51,7 +55,13 @@ fn found(alloc: Global, schema: &Schema, row: Row<'_>) -> Result<String, Fail> {
     }
 }
 
-/// The text of what the row wants: what begins with `!` itself, or else the steps where it asks for steps, and a document.
+/// Whether a slice is asked for, in place of a document or steps.
+fn is_sliced(asked: &str) -> bool {
+    matches!(asked, "cut" | "part" | "clip" | "open")
+}
+
+/// The text of what the row wants: what begins with `!` itself, or else a slice where it asks for one, the steps where it asks for
+/// steps, and a document.
 fn wanted(alloc: Global, schema: &Schema, row: Row<'_>) -> Result<String, Fail> {
     if row.want.starts_with('!') {
         return Ok(String::from_str(alloc, row.want)?);
@@ -59,7 +69,16 @@ fn wanted(alloc: Global, schema: &Schema, row: Row<'_>) -> Result<String, Fail> 
     if matches!(row.asked, "carry" | "undo") {
         return steps_json(alloc, schema, row.want);
     }
+    if is_sliced(row.asked) {
+        return slice_json(alloc, schema, row.want);
+    }
     document_json(alloc, schema, row.want)
+}
+
+/// The JSON text of a step from 0 to the slice's size, with the slice.
+fn slice_json(alloc: Global, schema: &Schema, slice: &str) -> Result<String, Fail> {
+    let step = format!(in alloc; "replace 0 {slice}")?;
+    step_json(alloc, schema, step.as_str())
 }
 
 /// The JSON texts of steps that are parted by `&`, each with a line feed behind it.
