@@ -69,9 +69,10 @@ module _ {Z : Type 0} (xs : List (Arc Node Z)) (f t : ℕ) (h : f ≤ t) (w : Ea
   more i x k r = ap (λ z. clipped z f t) (front-more xs i x k r) ∙ clipped-append (front xs i) (node_tokens (arc_value x)) f t (front-whole xs i w) h
 
   -- it begins inside of a child
-  pub clipped-first : (i r e : ℕ) (x : Arc Node Z) (old m piece : List Token) → Stands xs f i r → i < length xs → x ≡ get_or xs i x → e ≡ t - (f - r) → old ≡ [] → m ≡ old ++ piece → piece ≡ clipped (node_tokens (arc_value x)) r e → length piece ≤ length (node_tokens (arc_value x)) → Clipped xs (i + 1) f t m
-  clipped-first i r e x old m piece s k q ee n is p small =
+  pub clipped-first : (i r e : ℕ) (x : Arc Node Z) (old m : List Token) → Stands xs f i r → i < length xs → x ≡ get_or xs i x → e ≡ t - (f - r) → old ≡ [] → m ≡ old ++ clipped (node_tokens (arc_value x)) r e → length (clipped (node_tokens (arc_value x)) r e) ≤ length (node_tokens (arc_value x)) → Clipped xs (i + 1) f t m
+  clipped-first i r e x old m s k q ee n is small =
       let ts = node_tokens (arc_value x) in
+      let piece = clipped ts r e in
       let at : length (front xs i) + r ≡ f = s.offset in
       let g = front-more xs i x k q in
       let lt = s.inside x k q in
@@ -79,7 +80,7 @@ module _ {Z : Type 0} (xs : List (Arc Node Z)) (f t : ℕ) (h : f ≤ t) (w : Ea
       let v : t - length (front xs i) ≡ e = omega (arith, at, ee) in
       let none_before : clipped (front xs i) f t ≡ [] = clipped-past (front xs i) f t (front-whole xs i w) (omega (arith, at)) h in
       let all : clipped (front xs (i + 1)) f t ≡ piece =
-      more i x k q ∙ (ap (λ z. z ++ clipped ts (f - length (front xs i)) (t - length (front xs i))) none_before ∙ (ap (λ z. clipped ts z (t - length (front xs i))) u ∙ (ap (clipped ts r) v ∙ sym p))) in
+      more i x k q ∙ (ap (λ z. z ++ clipped ts (f - length (front xs i)) (t - length (front xs i))) none_before ∙ (ap (λ z. clipped ts z (t - length (front xs i))) u ∙ ap (clipped ts r) v)) in
       let made : m ≡ piece = is ∙ ap (λ z. z ++ piece) n in
       record {
         within = omega (arith, k);
@@ -113,22 +114,23 @@ module _ {Z : Type 0} (xs : List (Arc Node Z)) (f t : ℕ) (h : f ≤ t) (w : Ea
       omega (arith, c.small, ap length (front-run xs i j l), length-append (front xs i) (list_tokens (part i j xs)), ap length (front-rest xs j), length-append (front xs j) (rest xs j))
 
   -- and for the child behind it
-  pub last-room : (i : ℕ) (x : Arc Node Z) (m piece : List Token) → Clipped xs i f t m → i < length xs → x ≡ get_or xs i x → length piece ≤ length (node_tokens (arc_value x)) → length m + length piece ≤ length (list_tokens xs)
-  last-room i x m piece c k q small =
+  pub last-room : (i : ℕ) (x : Arc Node Z) (m : List Token) → Clipped xs i f t m → i < length xs → x ≡ get_or xs i x → length m + length (node_tokens (arc_value x)) ≤ length (list_tokens xs)
+  last-room i x m c k q =
       let ts = node_tokens (arc_value x) in
       let behind = list_tokens (drop (i + 1) xs) in
-      omega (arith, c.small, small, ap length (list-split xs i x k q), length-append (front xs i) (ts ++ behind), length-append ts behind)
+      omega (arith, c.small, ap length (list-split xs i x k q), length-append (front xs i) (ts ++ behind), length-append ts behind)
 
   -- the part ends inside of a child
-  pub clipped-last : (i r : ℕ) (x : Arc Node Z) (m m' piece : List Token) → Clipped xs i f t m → Stands xs t i r → i < length xs → x ≡ get_or xs i x → m' ≡ m ++ piece → piece ≡ clipped (node_tokens (arc_value x)) 0 r → length piece ≤ length (node_tokens (arc_value x)) → Clipped xs (i + 1) f t m'
-  clipped-last i r x m m' piece c s k q e p small =
+  pub clipped-last : (i r : ℕ) (x : Arc Node Z) (m m' : List Token) → Clipped xs i f t m → Stands xs t i r → i < length xs → x ≡ get_or xs i x → m' ≡ m ++ clipped (node_tokens (arc_value x)) 0 r → length (clipped (node_tokens (arc_value x)) 0 r) ≤ length (node_tokens (arc_value x)) → Clipped xs (i + 1) f t m'
+  clipped-last i r x m m' c s k q e small =
       let ts = node_tokens (arc_value x) in
+      let piece = clipped ts 0 r in
       let at : length (front xs i) + r ≡ t = s.offset in
       let g = front-more xs i x k q in
       let u : f - length (front xs i) ≡ 0 = omega (arith, c.starts) in
       let v : t - length (front xs i) ≡ r = omega (arith, at) in
       let all : clipped (front xs (i + 1)) f t ≡ clipped (front xs i) f t ++ piece =
-      more i x k q ∙ ap (λ z. clipped (front xs i) f t ++ z) (ap (λ z. clipped ts z (t - length (front xs i))) u ∙ (ap (clipped ts 0) v ∙ sym p)) in
+      more i x k q ∙ ap (λ z. clipped (front xs i) f t ++ z) (ap (λ z. clipped ts z (t - length (front xs i))) u ∙ ap (clipped ts 0) v) in
       record {
         within = omega (arith, k);
         starts = omega (arith, c.starts, ap length g, length-append (front xs i) ts);

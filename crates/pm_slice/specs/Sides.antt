@@ -1,13 +1,12 @@
 -- Slices, made of a content and two open sides.
-use Rattle.std.specs.Prelude.{◌≡◌, ℕ, zero, suc, ◌≤◌, Bool, true, false, cond, ◌==◌, List, [], ◌∷◌, ◌++◌, length, take, reverse, replicate, Option, Some, None, refl}
+use Rattle.std.specs.Prelude.{◌≡◌, ℕ, zero, suc, ◌≤◌, Bool, true, false, cond, ◌==◌, List, [], ◌∷◌, ◌++◌, length, take, reverse, replicate, refl}
 use Rattle.std.specs.Coded.{Coded, code_by, coded×, coded_ℕ}
 use Rattle.pm_tokens.specs.Tokens.{Token, Open, Close, Leaf, CodeUnit}
 use Rattle.pm_tokens.specs.Slices.{Slice, slice_size, is_slice}
 use Rattle.pm_tokens.specs.Scan.{part, depth_at}
 use Rattle.std.specs.declared.sync.Arc.{Arc}
-use Rattle.std.specs.Arc.{arc_value}
 use Rattle.pm_node.specs.declared.node.Node.{Node}
-use Rattle.pm_node.specs.Trees.{node_tokens, list_tokens}
+use Rattle.pm_node.specs.Trees.{list_tokens}
 use Rattle.pm_node.specs.Codes.{tokens_code}
 use Rattle.pm_build.specs.Positions.{path}
 
@@ -58,11 +57,6 @@ slice_code =
 -- the tokens from..to, with the nodes around `from` opened before them and those around `to` closed behind them
 abbrev pub clipped : List Token → ℕ → ℕ → List Token
 clipped ts from to = path ts from ++ (part from to ts ++ replicate (depth_at ts to) Close)
-
--- the tokens of a shared node, if there is one
-abbrev pub some_arc_tokens : {Z : Type 0} → Option (Arc Node Z) → List Token
-some_arc_tokens None = []
-some_arc_tokens (Some x) = node_tokens (arc_value x)
 
 -- Of the first i children, which end at or behind the start of a part, m is made.
 pub record Clipped {Z : Type 0} (xs : List (Arc Node Z)) (i from to : ℕ) (m : List Token) : Type 0 where

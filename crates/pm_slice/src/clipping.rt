@@ -1,8 +1,7 @@
 //! Parts of a content as contents of their own.
 ghost use Rattle.std.specs.Prelude.{◌≡◌, [], ◌+◌, ◌<◌, ◌≤◌, ◌^◌, ◌++◌, length, IfOk, OnOk};
-ghost use Rattle.std.specs.Arc.{arc_value};
 ghost use Rattle.pm_node.specs.Trees.{node_tokens, body_tokens, list_tokens, IsNormal, EachWhole};
-ghost use Rattle.pm_slice.specs.Sides.{clipped, some_arc_tokens, Clipped};
+ghost use Rattle.pm_slice.specs.Sides.{clipped, Clipped};
 
 use pm_marks::Same;
 use pm_node::{Body, Children, Fragment, Node};
@@ -55,8 +54,7 @@ fn clip_children(
     if last.rest == 0 {
         return Ok(made);
     }
-    let piece = clip_node(alloc, children.get(last.index), 0, last.rest)?;
-    push_some(alloc, &mut made, piece)?;
+    put_part(alloc, &mut made, children.get(last.index), 0, last.rest)?;
     Ok(made)
 }
 
@@ -83,55 +81,34 @@ fn put_first(
         return Ok(first.index);
     }
     let end = to - (from - first.rest);
-    let piece = clip_node(alloc, children.get(first.index), first.rest, end)?;
-    push_some(alloc, made, piece)?;
+    put_part(alloc, made, children.get(first.index), first.rest, end)?;
     Ok(first.index + 1)
 }
 
-/// The same of a node, which is shared where it is whole.
+/// Puts the part of a node that is not whole in it behind the others.
 #[cycle(clip)]
-fn clip_node(
-    alloc: Global,
-    node: &Arc<Node, Global>,
-    from: usize,
-    to: usize,
-) -> Result<Option<Arc<Node, Global>>, AllocError>
-    requires { from ≤ to }
-    ensures tokens { IfOk result (λ o. some_arc_tokens o ≡ clipped (node_tokens (arc_value node.now)) from to) }
-    ensures small { IfOk result (λ o. length (some_arc_tokens o) ≤ length (node_tokens (arc_value node.now))) }
-{
-    let size = node.size();
-    if to == 0 {
-        return Ok(None);
-    }
-    if size <= from {
-        return Ok(None);
-    }
-    if from == 0 && size <= to {
-        let shared = Arc::try_clone(node)?;
-        return Ok(Some(shared));
-    }
-    let part = clip_part(alloc, node, from, to)?;
-    let made = Arc::new(alloc, part)?;
-    Ok(Some(made))
-}
-
-/// Puts the node, if there is one, behind the others.
-fn push_some(
+fn put_part(
     alloc: Global,
     made: &mut Fragment,
-    node: Option<Arc<Node, Global>>,
+    node: &Node,
+    from: usize,
+    to: usize,
 ) -> Result<(), AllocError>
-    requires { length made.old + length (some_arc_tokens node) < 2 ^ 32 }
-    ensures { OnOk result (made.new ≡ made.old ++ some_arc_tokens node) }
+    requires room { length made.old + length (node_tokens node.now) < 2 ^ 32 }
+    requires order { from ≤ to }
+    requires start { from < length (node_tokens node.now) }
+    requires some { 0 < to }
+    requires parted { from ≡ 0 → to < length (node_tokens node.now) }
+    ensures tokens { OnOk result (made.new ≡ made.old ++ clipped (node_tokens node.now) from to) }
+    ensures small { OnOk result (length (clipped (node_tokens node.now) from to) ≤ length (node_tokens node.now)) }
 {
-    match node {
-        None => Ok(()),
-        Some(node) => made.push(alloc, node),
-    }
+    let part = clip_part(alloc, node, from, to)?;
+    let shared = Arc::new(alloc, part)?;
+    made.push(alloc, shared)?;
+    Ok(())
 }
 
-/// The same of a node that is not whole in the part.
+/// The part of a node that is not whole in it.
 #[cycle(clip)]
 fn clip_part(alloc: Global, node: &Node, from: usize, to: usize) -> Result<Node, AllocError>
     requires order { from ≤ to }

@@ -6,12 +6,12 @@ use Rattle.pm_tokens.specs.Kids.{text_tokens}
 use Rattle.pm_tokens.proofs.OwnedParts.{part_min}
 use Rattle.pm_node.specs.declared.node.Body.TheVariants.{Text}
 use Rattle.pm_node.proofs.TreeLaws.{node_tokens_at, length-text_tokens, no-more-nodes}
-use Rattle.pm_tokens.specs.Scan.{Balanced, part}
+use Rattle.pm_tokens.specs.Scan.{part}
 use Rattle.pm_node.specs.Trees.{node_tokens, list_tokens}
-use Rattle.pm_node.proofs.WalkLaws.{child-within}
-use Rattle.pm_slice.specs.Sides.{clipped, some_arc_tokens}
+use Rattle.pm_node.proofs.WalkLaws.{front, child-within}
+use Rattle.pm_slice.specs.Sides.{clipped}
 use Rattle.pm_slice.proofs.ClipWalk.{stands-before, stands-within, clipped-start, clipped-first, clipped-run, part-room, last-room, clipped-last, clipped-end, clipped-small}
-use Rattle.pm_slice.proofs.ClipLaws.{clipped-within, clipped-past, clipped-none, clipped-whole, clipped-node, clipped-text, text-small}
+use Rattle.pm_slice.proofs.ClipLaws.{clipped-within, clipped-node, clipped-text, text-small}
 use Rattle.pm_slice.proofs.clipping.+clip.Goals as goal
 
 pub clip-returns : goal.clip-returns
@@ -30,68 +30,57 @@ clip_children-append-requires-clause-room t c =
     let room = part-room c.args.children.now c.args.from c.args.to c.requires.order c.requires.each c.in_ok-next.next c.find-last.result.index c.find-last.result.rest c.put_first.new.made c.in_ok-next.ensures c.if-last-next.false c.find-last.ensures in
     omega (arith, room, c.requires.bound)
 
-pub clip_children-returns-then-last-next-clause-tokens : goal.clip_children-returns-then-last-next-clause-tokens
-clip_children-returns-then-last-next-clause-tokens t c =
+pub clip_children-returns-then-last-next : goal.clip_children-returns-then-last-next
+clip_children-returns-then-last-next t c =
     let xs = c.args.children.now in
     let k = c.in_ok-next.ensures in
     let within = stands-within xs c.args.from c.args.to c.requires.order c.requires.each c.in_ok-next.next c.find-last.result.index c.find-last.result.rest c.find-last.ensures c.if-last-next.true k.within in
-    clipped-end xs c.args.from c.args.to c.requires.order c.requires.each c.in_ok-next.next c.put_first.new.made k within
+    record {
+      tokens = clipped-end xs c.args.from c.args.to c.requires.order c.requires.each c.in_ok-next.next c.put_first.new.made k within;
+      small = clipped-small xs c.args.from c.args.to c.requires.order c.requires.each c.in_ok-next.next c.put_first.new.made k;
+    }
 
-pub clip_children-returns-then-last-next-clause-small : goal.clip_children-returns-then-last-next-clause-small
-clip_children-returns-then-last-next-clause-small t c =
-    clipped-small c.args.children.now c.args.from c.args.to c.requires.order c.requires.each c.in_ok-next.next c.put_first.new.made c.in_ok-next.ensures
-
-pub clip_children-returns-then-last-eq0-clause-tokens : goal.clip_children-returns-then-last-eq0-clause-tokens
-clip_children-returns-then-last-eq0-clause-tokens t c =
+pub clip_children-returns-then-last-eq0 : goal.clip_children-returns-then-last-eq0
+clip_children-returns-then-last-eq0 t c =
     let xs = c.args.children.now in
     let j = c.find-last.result.index in
     let k = clipped-run xs c.args.from c.args.to c.requires.order c.requires.each c.in_ok-next.next j c.find-last.result.rest c.put_first.new.made c.append.new.self c.in_ok-next.ensures c.if-last-next.false c.find-last.ensures c.in_ok-append.ensures in
-    clipped-end xs c.args.from c.args.to c.requires.order c.requires.each j c.append.new.self k (let at = c.find-last.ensures.offset in omega (arith, at, c.if-last-eq0.true))
+    let at = c.find-last.ensures.offset in
+    record {
+      tokens = clipped-end xs c.args.from c.args.to c.requires.order c.requires.each j c.append.new.self k (omega (arith, at, c.if-last-eq0.true));
+      small = clipped-small xs c.args.from c.args.to c.requires.order c.requires.each j c.append.new.self k;
+    }
 
-pub clip_children-returns-then-last-eq0-clause-small : goal.clip_children-returns-then-last-eq0-clause-small
-clip_children-returns-then-last-eq0-clause-small t c =
-    let xs = c.args.children.now in
-    let j = c.find-last.result.index in
-    let k = clipped-run xs c.args.from c.args.to c.requires.order c.requires.each c.in_ok-next.next j c.find-last.result.rest c.put_first.new.made c.append.new.self c.in_ok-next.ensures c.if-last-next.false c.find-last.ensures c.in_ok-append.ensures in
-    clipped-small xs c.args.from c.args.to c.requires.order c.requires.each j c.append.new.self k
-
-pub clip_children-clip_node-requires : goal.clip_children-clip_node-requires
-clip_children-clip_node-requires t c =
-    let d : 5 * length (list_tokens c.args.children.now) + 3 ≡ t = c.decreases in
-    let lt = stands-before c.find-last.ensures c.if-last-eq0.false in
-    let w = child-within c.args.children.now c.find-last.result.index c.get.result.now lt c.get.ensures in
-    let g : 5 * length (node_tokens (arc_value c.get.result.now)) + 1 < t = omega (arith, d, w) in
-    (g, omega arith)
-
-pub clip_children-push_some-requires : goal.clip_children-push_some-requires
-clip_children-push_some-requires t c =
-    let xs = c.args.children.now in
-    let j = c.find-last.result.index in
-    let lt = stands-before c.find-last.ensures c.if-last-eq0.false in
-    let k = clipped-run xs c.args.from c.args.to c.requires.order c.requires.each c.in_ok-next.next j c.find-last.result.rest c.put_first.new.made c.append.new.self c.in_ok-next.ensures c.if-last-next.false c.find-last.ensures c.in_ok-append.ensures in
-    let room = last-room xs c.args.from c.args.to c.requires.order c.requires.each j c.get.result.now c.append.new.self (some_arc_tokens c.in_ok-piece.piece) k lt c.get.ensures c.in_ok-piece.ensures.small in
-    omega (arith, room, c.requires.bound)
-
-pub clip_children-returns-clause-tokens : goal.clip_children-returns-clause-tokens
-clip_children-returns-clause-tokens t c =
+pub clip_children-put_part-requires : goal.clip_children-put_part-requires
+clip_children-put_part-requires t c =
     let xs = c.args.children.now in
     let j = c.find-last.result.index in
     let x = c.get.result.now in
+    let d : 5 * length (list_tokens xs) + 3 ≡ t = c.decreases in
     let lt = stands-before c.find-last.ensures c.if-last-eq0.false in
+    let size : length (node_tokens c.deref.result.now) ≡ length (node_tokens (arc_value x)) = ap (λ n. length (node_tokens n)) c.deref.ensures in
+    let w = child-within xs j x lt c.get.ensures in
     let k = clipped-run xs c.args.from c.args.to c.requires.order c.requires.each c.in_ok-next.next j c.find-last.result.rest c.put_first.new.made c.append.new.self c.in_ok-next.ensures c.if-last-next.false c.find-last.ensures c.in_ok-append.ensures in
-    let last = clipped-last xs c.args.from c.args.to c.requires.order c.requires.each j c.find-last.result.rest x c.append.new.self c.push_some.new.made (some_arc_tokens c.in_ok-piece.piece) k c.find-last.ensures lt c.get.ensures c.in_ok-push_some.ensures c.in_ok-piece.ensures.tokens c.in_ok-piece.ensures.small in
-    clipped-end xs c.args.from c.args.to c.requires.order c.requires.each (j + 1) c.push_some.new.made last
-    (stands-within xs c.args.from c.args.to c.requires.order c.requires.each (j + 1) j c.find-last.result.rest c.find-last.ensures (omega arith) last.within)
+    let room = last-room xs c.args.from c.args.to c.requires.order c.requires.each j x c.append.new.self k lt c.get.ensures in
+    let inside = c.find-last.ensures.inside x lt c.get.ensures in
+    let g : 5 * length (node_tokens c.deref.result.now) + 1 < t = omega (arith, d, w, size) in
+    (g, (omega (arith, room, size, c.requires.bound), (omega arith, (omega (arith, inside, size), (omega (arith, c.if-last-eq0.false), λ z. omega (arith, inside, size))))))
 
-pub clip_children-returns-clause-small : goal.clip_children-returns-clause-small
-clip_children-returns-clause-small t c =
+pub clip_children-returns : goal.clip_children-returns
+clip_children-returns t c =
     let xs = c.args.children.now in
     let j = c.find-last.result.index in
-    let x = c.get.result.now in
+    let r = c.find-last.result.rest in
     let lt = stands-before c.find-last.ensures c.if-last-eq0.false in
-    let k = clipped-run xs c.args.from c.args.to c.requires.order c.requires.each c.in_ok-next.next j c.find-last.result.rest c.put_first.new.made c.append.new.self c.in_ok-next.ensures c.if-last-next.false c.find-last.ensures c.in_ok-append.ensures in
-    let last = clipped-last xs c.args.from c.args.to c.requires.order c.requires.each j c.find-last.result.rest x c.append.new.self c.push_some.new.made (some_arc_tokens c.in_ok-piece.piece) k c.find-last.ensures lt c.get.ensures c.in_ok-push_some.ensures c.in_ok-piece.ensures.tokens c.in_ok-piece.ensures.small in
-    clipped-small xs c.args.from c.args.to c.requires.order c.requires.each (j + 1) c.push_some.new.made last
+    let k = clipped-run xs c.args.from c.args.to c.requires.order c.requires.each c.in_ok-next.next j r c.put_first.new.made c.append.new.self c.in_ok-next.ensures c.if-last-next.false c.find-last.ensures c.in_ok-append.ensures in
+    let is = subst (λ n. c.put_part.new.made ≡ c.append.new.self ++ clipped (node_tokens n) 0 r) c.deref.ensures c.in_ok-put_part.ensures.tokens in
+    let small = subst (λ n. length (clipped (node_tokens n) 0 r) ≤ length (node_tokens n)) c.deref.ensures c.in_ok-put_part.ensures.small in
+    let last = clipped-last xs c.args.from c.args.to c.requires.order c.requires.each j r c.get.result.now c.append.new.self c.put_part.new.made k c.find-last.ensures lt c.get.ensures is small in
+    let behind = stands-within xs c.args.from c.args.to c.requires.order c.requires.each (j + 1) j r c.find-last.ensures (omega arith) last.within in
+    record {
+      tokens = clipped-end xs c.args.from c.args.to c.requires.order c.requires.each (j + 1) c.put_part.new.made last behind;
+      small = clipped-small xs c.args.from c.args.to c.requires.order c.requires.each (j + 1) c.put_part.new.made last;
+    }
 
 -- ---- of the child that the part begins in
 
@@ -99,20 +88,21 @@ pub put_first-returns-then-first-eq0 : goal.put_first-returns-then-first-eq0
 put_first-returns-then-first-eq0 t c =
     clipped-start c.args.children.now c.args.from c.args.to c.requires.order c.requires.each c.find-first.result.index c.find-first.result.rest c.args.made.now c.find-first.ensures c.if-first-eq0.true c.requires.empty
 
-pub put_first-clip_node-requires : goal.put_first-clip_node-requires
-put_first-clip_node-requires t c =
-    let d : 5 * length (list_tokens c.args.children.now) + 2 ≡ t = c.decreases in
+pub put_first-put_part-requires : goal.put_first-put_part-requires
+put_first-put_part-requires t c =
+    let xs = c.args.children.now in
+    let i = c.find-first.result.index in
+    let r = c.find-first.result.rest in
+    let x = c.get.result.now in
+    let d : 5 * length (list_tokens xs) + 2 ≡ t = c.decreases in
     let lt = stands-before c.find-first.ensures c.if-first-eq0.false in
-    let w = child-within c.args.children.now c.find-first.result.index c.get.result.now lt c.get.ensures in
-    let g : 5 * length (node_tokens (arc_value c.get.result.now)) + 1 < t = omega (arith, d, w) in
-    let at = c.find-first.ensures.offset in
-    (g, omega (arith, at, c.requires.order))
-
-pub put_first-push_some-requires : goal.put_first-push_some-requires
-put_first-push_some-requires t c =
-    let lt = stands-before c.find-first.ensures c.if-first-eq0.false in
-    let w = child-within c.args.children.now c.find-first.result.index c.get.result.now lt c.get.ensures in
-    omega (arith, ap length c.requires.empty, w, c.in_ok-piece.ensures.small, c.requires.bound)
+    let size : length (node_tokens c.deref.result.now) ≡ length (node_tokens (arc_value x)) = ap (λ n. length (node_tokens n)) c.deref.ensures in
+    let w = child-within xs i x lt c.get.ensures in
+    let inside = c.find-first.ensures.inside x lt c.get.ensures in
+    let at : length (front xs i) + r ≡ c.args.from = c.find-first.ensures.offset in
+    let order : r ≤ c.args.to - (c.args.from - r) = omega (arith, at, c.requires.order) in
+    let g : 5 * length (node_tokens c.deref.result.now) + 1 < t = omega (arith, d, w, size) in
+    (g, (omega (arith, ap length c.requires.empty, w, size, c.requires.bound), (order, (omega (arith, inside, size), (omega (arith, order, c.if-first-eq0.false), λ z. absurd (c.if-first-eq0.false z))))))
 
 pub put_first-overflow_add-result : goal.put_first-overflow_add-result
 put_first-overflow_add-result t c =
@@ -121,34 +111,14 @@ put_first-overflow_add-result t c =
 
 pub put_first-returns : goal.put_first-returns
 put_first-returns t c =
+    let r = c.find-first.result.rest in
+    let end = c.args.to - (c.args.from - r) in
     let lt = stands-before c.find-first.ensures c.if-first-eq0.false in
-    clipped-first c.args.children.now c.args.from c.args.to c.requires.order c.requires.each c.find-first.result.index c.find-first.result.rest (c.args.to - (c.args.from - c.find-first.result.rest)) c.get.result.now c.args.made.now c.push_some.new.made (some_arc_tokens c.in_ok-piece.piece)
-    c.find-first.ensures lt c.get.ensures refl c.requires.empty c.in_ok-push_some.ensures c.in_ok-piece.ensures.tokens c.in_ok-piece.ensures.small
+    let is = subst (λ n. c.put_part.new.made ≡ c.args.made.now ++ clipped (node_tokens n) r end) c.deref.ensures c.in_ok-put_part.ensures.tokens in
+    let small = subst (λ n. length (clipped (node_tokens n) r end) ≤ length (node_tokens n)) c.deref.ensures c.in_ok-put_part.ensures.small in
+    clipped-first c.args.children.now c.args.from c.args.to c.requires.order c.requires.each c.find-first.result.index r end c.get.result.now c.args.made.now c.put_part.new.made c.find-first.ensures lt c.get.ensures refl c.requires.empty is small
 
 -- ---- of a node
-
-pub clip_node-returns-then-to-eq0 : goal.clip_node-returns-then-to-eq0
-clip_node-returns-then-to-eq0 t c =
-    record { tokens = sym (clipped-none (node_tokens (arc_value c.args.node.now)) c.args.from c.args.to c.if-to-eq0.true c.requires); small = omega arith }
-
-pub clip_node-returns-then-size-from : goal.clip_node-returns-then-size-from
-clip_node-returns-then-size-from t c =
-    let ts = node_tokens (arc_value c.args.node.now) in
-    let size : c.size-size.result ≡ length ts = c.size-size.ensures.size ∙ ap (λ m. length (node_tokens m)) c.deref.ensures in
-    record {
-      tokens = sym (clipped-past ts c.args.from c.args.to (subst (λ m. Balanced (node_tokens m)) c.deref.ensures c.size-size.ensures.whole) (omega (arith, size, c.if-size-from.true)) c.requires);
-      small = omega arith;
-    }
-
-pub clip_node-returns-then-size-to : goal.clip_node-returns-then-size-to
-clip_node-returns-then-size-to t c =
-    let ts = node_tokens (arc_value c.args.node.now) in
-    let size : c.size-size.result ≡ length ts = c.size-size.ensures.size ∙ ap (λ m. length (node_tokens m)) c.deref.ensures in
-    let same : node_tokens (arc_value c.in_ok-shared.shared) ≡ ts = ap node_tokens c.in_ok-shared.ensures in
-    record {
-      tokens = same ∙ sym (clipped-whole ts c.args.from c.args.to (subst (λ m. Balanced (node_tokens m)) c.deref.ensures c.size-size.ensures.whole) c.if-from-eq0.true (omega (arith, size, c.if-size-to.true)));
-      small = omega (arith, ap length same);
-    }
 
 pub clip_part-cut-requires-clause-order : goal.clip_part-cut-requires-clause-order
 clip_part-cut-requires-clause-order t c =
