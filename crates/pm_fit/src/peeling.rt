@@ -15,7 +15,7 @@ pub fn peel(content: &Fragment) -> Option<&Fragment>
     if children.len() != 1 {
         return None;
     }
-    match &children[0].body {
+    match &children.get(0).body {
         Body::Children(inner) => {
             if inner.size() == 0 {
                 return None;

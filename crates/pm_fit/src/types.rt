@@ -34,7 +34,7 @@ pub fn first_type(schema: &Schema, content: &Fragment) -> Option<TypeId>
     if children.len() == 0 {
         return None;
     }
-    Some(type_of(schema, &children[0]))
+    Some(type_of(schema, children.get(0)))
 }
 
 /// The types of the children of a node that begin before a position, counted in tokens from the start of its content.
@@ -84,11 +84,12 @@ fn types_within(
 {
     let mut types = Listed::new(alloc);
     let mut rest = pos;
-    for child in content.children() {
+    let children = content.children();
+    for i in 0..children.len() {
         if rest == 0 {
             return Ok(types);
         }
-        let node: &Node = child;
+        let node: &Node = children.get(i);
         types.push(type_of(schema, node))?;
         rest = rest.saturating_sub(node.size());
     }
