@@ -9,6 +9,7 @@ pub mod RestoredWalk
 pub mod TakenWalk
 pub mod FirstLost
 pub mod InverseLaws
+pub mod BetweenLaws
 pub mod MarkedWalk
 pub mod MarkedNodes
 pub mod NodeMarkLaws

@@ -1,20 +1,19 @@
 -- A walk over the children of a content that tells whether a marking, behind another one, gives their marks back.
-use Rattle.std.specs.Prelude.{◌≡◌, ℕ, ◌+◌, ◌-◌, ◌≤◌, ◌<◌, Bool, true, false, List, [], ◌∷◌, ◌++◌, length, take, drop, get_or}
+use Rattle.std.specs.Prelude.{◌≡◌, ℕ, ◌+◌, ◌-◌, ◌≤◌, ◌<◌, Bool, true, false, List, [], ◌∷◌, ◌++◌, length, drop, get_or}
 use Rattle.std.specs.declared.sync.Arc.{Arc}
 use Rattle.std.specs.Arc.{arc_value}
-use Rattle.std.proofs.Common.{refl, ap, sym, ◌∙◌, subst, arith, length-append}
-use Rattle.std.proofs.lemmas.List.{take_all}
+use Rattle.std.proofs.Common.{inl, inr, refl, ap, sym, ◌∙◌, subst, arith, length-append}
 use Rattle.pm_attrs.specs.Attrs.{same_attrs}
 use Rattle.pm_marks.specs.Sets.{same_marks}
 use Rattle.pm_tokens.specs.Tokens.{Marks, Token, Open, Close, Leaf, CodeUnit}
-use Rattle.pm_tokens.specs.Scan.{Balanced, none}
+use Rattle.pm_tokens.specs.Scan.{Balanced}
 use Rattle.pm_tokens.specs.Schemas.{Schema}
 use Rattle.pm_tokens.proofs.BalanceLaws.{balanced-append}
 use Rattle.pm_node.specs.declared.node.Node.{Node}
 use Rattle.pm_node.specs.declared.node.Body.TheVariants.{Text, Leaf as Childless, Children}
-use Rattle.pm_node.specs.Trees.{node_tokens, list_tokens}
+use Rattle.pm_node.specs.Trees.{node_tokens, list_tokens, EachWhole}
 use Rattle.pm_node.proofs.TreeLaws.{node_tokens_at, length-text_tokens}
-use Rattle.pm_node.proofs.WalkLaws.{front, front-more, list-split}
+use Rattle.pm_node.proofs.WalkLaws.{front, rest, front-more, list-split}
 use Rattle.pm_meaning.specs.Inverses.{same_tokens}
 use Rattle.pm_meaning.specs.Marked.{takes_marks, is_inline_token, starts_node}
 use Rattle.pm_apply.specs.declared.marking.Marking.{Marking}
@@ -22,6 +21,7 @@ use Rattle.pm_apply.specs.declared.marking.Sort.{Sort}
 use Rattle.pm_apply.specs.declared.marking.Reach.TheVariants.{Inline}
 use Rattle.pm_apply.specs.Markings.{new_marks, sort_marks}
 use Rattle.pm_apply.specs.Backs.{marked_twice, twice}
+use Rattle.pm_apply.proofs.BetweenLaws.{front-rest, front-whole, behind-range}
 use Rattle.pm_apply.proofs.MarkedLaws.{read-none, read-past}
 use Rattle.pm_apply.proofs.MarkedNodes.{sort-is}
 use Rattle.pm_apply.proofs.SameTokens.{tokens-itself}
@@ -45,8 +45,15 @@ module _ (s : Schema) (m b : Marking) where
       pub whole : Balanced (front xs i)
 
     module _ {Z : Type 0} (xs : List (Arc Node Z)) (from to : ℕ) (h : from ≤ to) where
-      pub restored-start : Restored xs 0 from to from to
-      restored-start = record { same = λ ps. refl; starts = omega arith; ends = omega arith; whole = none }
+      -- the children before the range
+      pub restored-from : (i before : ℕ) → EachWhole xs → before ≡ length (front xs i) → before ≤ from → Restored xs i from to (from - before) (to - before)
+      restored-from i before w e l = record {
+        same = λ ps.
+            ap (λ z. same_tokens z (front xs i)) (read-past (twice s m b) (parent ∷ ps) from to (front xs i) (omega (arith, e, l))) ∙ tokens-itself (front xs i);
+        starts = omega (arith, e);
+        ends = omega (arith, e);
+        whole = front-whole xs i w;
+      }
 
       pub restored-order : (i st e : ℕ) → Restored xs i from to st e → st ≤ e
       restored-order i st e w = omega (arith, w.starts, w.ends, h)
@@ -90,9 +97,16 @@ module _ (s : Schema) (m b : Marking) where
             ap (kept (twice s m b) (parent ∷ ps) from to) (list-split xs i x l r)
             ∙ lost-part (twice s m b) (parent ∷ ps) from to (front xs i) (node_tokens (arc_value x)) (list_tokens (drop (i + 1) xs)) w.whole bal (found i st e n x k w q f ps ∙ t))
 
-        pub restored-end : (i st e : ℕ) → Restored xs i from to st e → length xs ≤ i → (ps : List ℕ) → true ≡ are_back (parent ∷ ps) from to content
-        restored-end i st e w l = decided true
-            (λ ps. ap (λ (zs : List (Arc Node Z)). kept (twice s m b) (parent ∷ ps) from to (list_tokens zs)) (sym (take_all i xs l)) ∙ w.same ps)
+        -- and those behind it
+        pub restored-end : (i st e : ℕ) → Restored xs i from to st e → (i < length xs → to ≤ length (front xs i)) → (ps : List ℕ) → true ≡ are_back (parent ∷ ps) from to content
+        restored-end i st e w stop = decided true
+            (λ ps.
+            let n = length (front xs i) in
+            let behind : kept (twice s m b) (parent ∷ ps) (from - n) (to - n) (rest xs i) ≡ true = elim (behind-range xs i from to h stop) [
+              | inl p ↦ (ap (λ z. same_tokens z (rest xs i)) (read-none (twice s m b) (parent ∷ ps) (from - n) (to - n) (rest xs i) p) ∙ tokens-itself (rest xs i))
+              | inr p ↦ ap (kept (twice s m b) (parent ∷ ps) (from - n) (to - n)) p
+            ] in
+            ap (kept (twice s m b) (parent ∷ ps) from to) (front-rest xs i) ∙ kept-more (twice s m b) (parent ∷ ps) from to (front xs i) (rest xs i) w.whole (w.same ps) behind)
 
     -- ---- one node
 

@@ -4,19 +4,19 @@ use Rattle.std.specs.declared.sync.Arc.{Arc}
 use Rattle.std.specs.Arc.{arc_value}
 use Rattle.std.proofs.Common.{zero, suc, inl, inr, refl, ap, sym, ◌∙◌, subst, arith, append_assoc, length-append, length-take, length-drop}
 use Rattle.std.proofs.lemmas.Bool.{cases_lt}
-use Rattle.std.proofs.lemmas.List.{take_all, take-append-drop}
+use Rattle.std.proofs.lemmas.List.{take-append-drop}
 use Rattle.pm_tokens.specs.Tokens.{Marks, Token, Open, Close, Leaf, CodeUnit}
 use Rattle.pm_tokens.specs.Kids.{text_tokens}
-use Rattle.pm_tokens.specs.Scan.{Balanced, none, part}
+use Rattle.pm_tokens.specs.Scan.{Balanced, part}
 use Rattle.pm_tokens.specs.Schemas.{Schema}
 use Rattle.pm_tokens.proofs.BalanceLaws.{balanced-append}
 use Rattle.pm_tokens.proofs.OwnedParts.{length-part}
 use Rattle.pm_tokens.proofs.PartLaws.{drop-part}
 use Rattle.pm_node.specs.declared.node.Node.{Node}
 use Rattle.pm_node.specs.declared.node.Body.TheVariants.{Text, Leaf as Childless, Children}
-use Rattle.pm_node.specs.Trees.{node_tokens, list_tokens}
+use Rattle.pm_node.specs.Trees.{node_tokens, list_tokens, EachWhole}
 use Rattle.pm_node.proofs.TreeLaws.{node_tokens_at, length-text_tokens, text_tokens-append}
-use Rattle.pm_node.proofs.WalkLaws.{front, front-more, list-split}
+use Rattle.pm_node.proofs.WalkLaws.{front, rest, front-more, list-split}
 use Rattle.pm_meaning.specs.Marked.{takes_marks}
 use Rattle.pm_meaning.specs.Runs.{close_run, continues, due, next_run}
 use Rattle.pm_apply.specs.declared.runs.Runs.{Runs}
@@ -24,7 +24,8 @@ use Rattle.pm_apply.specs.declared.marking.Marking.{Marking}
 use Rattle.pm_apply.specs.declared.marking.Reach.TheVariants.{Inline}
 use Rattle.pm_apply.specs.Markings.{marked_in, new_marks}
 use Rattle.pm_apply.specs.Walks.{Took, run_of}
-use Rattle.pm_apply.proofs.MarkedLaws.{read, read-is, read-nodes, read-node, read-length, in_range}
+use Rattle.pm_apply.proofs.BetweenLaws.{front-rest, front-whole, behind-range}
+use Rattle.pm_apply.proofs.MarkedLaws.{read, read-is, read-none, read-past, read-nodes, read-node, read-length, in_range}
 use Rattle.pm_apply.proofs.MarkedNodes.{marked-none, marked-past, marked-text, marked-leaf}
 use Rattle.pm_apply.proofs.DueLaws.{differ, due-same, after-same, Due, due-start, due-both, due-units, due-token}
 
@@ -73,13 +74,15 @@ module _ (s : Schema) where
       pub whole : Balanced (front xs i)
 
     module _ {Z : Type 0} (xs : List (Arc Node Z)) (at from to : ℕ) (old : Runs) (h : from ≤ to) where
-      pub taken-start : Taken xs 0 at from to at from to old old
-      taken-start = record {
-        took = λ ps. of-due at [] [] old old (due-start s at (run_of old.run) old.steps.items);
-        starts = omega arith;
-        ends = omega arith;
-        stands = omega arith;
-        whole = none;
+      -- the children before the range pass
+      pub taken-from : (i before place : ℕ) (new : Runs) → EachWhole xs → before ≡ length (front xs i) → before ≤ from → place ≡ at + before → ((ts : List Token) → length ts ≡ before → Took s at ts ts old new)
+          → Taken xs i at from to place (from - before) (to - before) old new
+      taken-from i before place new w e l p k = record {
+        took = λ ps. subst (λ (z : List Token). Took s at (front xs i) z old new) (sym (read-past f (parent ∷ ps) from to (front xs i) (omega (arith, e, l)))) (k (front xs i) (sym e));
+        starts = omega (arith, e);
+        ends = omega (arith, e);
+        stands = omega (arith, e, p);
+        whole = front-whole xs i w;
       }
 
       pub taken-order : (i place st e : ℕ) (mid : Runs) → Taken xs i at from to place st e old mid → st ≤ e
@@ -118,12 +121,29 @@ module _ (s : Schema) where
           let behind = list_tokens (drop (i + 1) xs) in
           omega (arith, w.stands, ap length (list-split xs i x l r), length-append (front xs i) (ts ++ behind), length-append ts behind)
 
-      pub taken-end : (i place st e : ℕ) (new : Runs) (content : List Token) → Taken xs i at from to place st e old new → length xs ≤ i → list_tokens xs ≡ content
+      -- how many tokens are left
+      pub taken-left : (i place st e : ℕ) (mid : Runs) → Taken xs i at from to place st e old mid → place + length (rest xs i) ≡ at + length (list_tokens xs)
+      taken-left i place st e mid w = omega (arith, w.stands, ap length (front-rest xs i), length-append (front xs i) (rest xs i))
+
+      -- and so do those behind it
+      pub taken-end : (i place st e count : ℕ) (mid new : Runs) (content : List Token) → Taken xs i at from to place st e old mid → (i < length xs → to ≤ length (front xs i))
+          → count ≡ (at + length (list_tokens xs)) - place → ((ts : List Token) → length ts ≡ count → Took s place ts ts mid new) → list_tokens xs ≡ content
           → (ps : List ℕ) → Took s at content (marked_in f (parent ∷ ps) from to content) old new
-      taken-end i place st e new content w l all ps =
-          let g : front xs i ≡ content = ap list_tokens (take_all i xs l) ∙ all in
-          subst (λ (z : List Token). Took s at content z old new) (sym (read-is f (parent ∷ ps) from to content h))
-          (subst (λ (z : List Token). Took s at z (read f (parent ∷ ps) from to z) old new) g (w.took ps))
+      taken-end i place st e count mid new content w stop n k all ps =
+          let qs = parent ∷ ps in
+          let a = front xs i in
+          let b = rest xs i in
+          let same : read f qs (from - length a) (to - length a) b ≡ b = elim (behind-range xs i from to h stop) [
+            | inl p ↦ read-none f qs (from - length a) (to - length a) b p
+            | inr p ↦ ap (read f qs (from - length a) (to - length a)) p ∙ sym p
+          ] in
+          let both : Took s at (a ++ b) (read f qs from to a ++ b) old new =
+          took-both at place a (read f qs from to a) b b old mid new (read-length f qs from to a) w.stands (w.took ps) (k b (omega (arith, n, taken-left i place st e mid w))) in
+          let is : read f qs from to a ++ b ≡ marked_in f qs from to content =
+          ap (λ z. read f qs from to a ++ z) (sym same) ∙ (sym (read-nodes f qs from to a b w.whole)
+          ∙ (sym (read-is f qs from to (a ++ b) h) ∙ ap (marked_in f qs from to) (sym (front-rest xs i) ∙ all))) in
+          subst (λ (z : List Token). Took s at z (marked_in f qs from to content) old new) (sym (front-rest xs i) ∙ all)
+          (subst (λ (z : List Token). Took s at (a ++ b) z old new) is both)
 
     -- ---- one node
 

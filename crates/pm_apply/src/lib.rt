@@ -3,6 +3,7 @@
 
 mod apply;
 mod around;
+mod between;
 mod change;
 mod inverse;
 mod mark_steps;

@@ -8,6 +8,7 @@ ghost use Rattle.pm_node.specs.Trees.{node_tokens, body_tokens};
 ghost use Rattle.pm_schema.specs.Documents.{documents_of};
 ghost use Rattle.pm_apply.specs.Markings.{AreKnown, marked_in, new_marks};
 
+use crate::between::children_in;
 use crate::marking::{Marking, Reach, Sort, UNIT};
 use pm_attrs::Attrs;
 use pm_auto::TypeId;
@@ -37,11 +38,13 @@ pub fn mark_content(
         → f ≡ marked_in (new_marks (documents_of schema.now.spec) marking.now reach) (parent ∷ ps) from to content.now) }
 {
     let _ = content.size();
-    let mut made = Fragment::new(alloc);
-    let mut start = from;
-    let mut end = to;
     let children = content.children();
-    for i in 0..children.len() {
+    let touched = children_in(&children, from, to);
+    let mut made = Fragment::new(alloc);
+    made.append(alloc, &children, 0, touched.first)?;
+    let mut start = from - touched.before;
+    let mut end = to - touched.before;
+    for i in touched.first..touched.end {
         let child = children.get(i);
         let size = child.size();
         mark_child(
@@ -50,6 +53,7 @@ pub fn mark_content(
         start = start.saturating_sub(size);
         end = end.saturating_sub(size);
     }
+    made.append(alloc, &children, touched.end, children.len())?;
     Ok(made)
 }
 

@@ -9,6 +9,7 @@ ghost use Rattle.pm_schema.specs.Documents.{documents_of};
 ghost use Rattle.pm_apply.specs.Markings.{AreKnown, sort_marks};
 ghost use Rattle.pm_apply.specs.Backs.{marked_twice, twice};
 
+use crate::between::children_in;
 use crate::marking::{Marking, Reach, Sort, UNIT};
 use pm_attrs::Attrs;
 use pm_auto::TypeId;
@@ -36,10 +37,11 @@ pub fn restores(
         → b ≡ same_tokens (marked_twice (documents_of schema.now.spec) marking.now back.now (parent ∷ ps) from to content.now) content.now) }
 {
     let _ = content.size();
-    let mut start = from;
-    let mut end = to;
     let children = content.children();
-    for i in 0..children.len() {
+    let touched = children_in(&children, from, to);
+    let mut start = from - touched.before;
+    let mut end = to - touched.before;
+    for i in touched.first..touched.end {
         let child = children.get(i);
         let size = child.size();
         let kept = restores_in(alloc, schema, parent, child, start, end, marking, back)?;

@@ -6,6 +6,7 @@ ghost use Rattle.pm_schema.specs.Documents.{documents_of};
 ghost use Rattle.pm_apply.specs.Markings.{AreKnown, marked_in, new_marks};
 ghost use Rattle.pm_apply.specs.Walks.{Took};
 
+use crate::between::children_in;
 use crate::marking::{Marking, Reach, Sort, UNIT};
 use crate::runs::Runs;
 use pm_auto::TypeId;
@@ -36,11 +37,13 @@ impl Runs {
             (marked_in (new_marks (documents_of schema.now.spec) marking.now Reach.Inline) (parent ∷ ps) from to content.now) self.old self.new) }
     {
         let _ = content.size();
-        let mut place = at;
-        let mut start = from;
-        let mut end = to;
         let children = content.children();
-        for i in 0..children.len() {
+        let touched = children_in(&children, from, to);
+        self.pass(alloc, at, touched.before)?;
+        let mut place = at + touched.before;
+        let mut start = from - touched.before;
+        let mut end = to - touched.before;
+        for i in touched.first..touched.end {
             let child = children.get(i);
             let size = child.size();
             self.take_child(alloc, schema, parent, child, place, start, end, marking)?;
@@ -48,7 +51,8 @@ impl Runs {
             start = start.saturating_sub(size);
             end = end.saturating_sub(size);
         }
-        Ok(())
+        let past = at + children.size();
+        self.pass(alloc, place, past - place)
     }
 
     /// Takes the tokens of a child.

@@ -7,29 +7,43 @@ use Rattle.pm_schema.specs.Documents.{documents_of}
 use Rattle.pm_node.specs.declared.node.Body.TheVariants.{Text, Leaf as Childless, Children}
 use Rattle.pm_node.specs.Trees.{node_tokens}
 use Rattle.pm_node.proofs.TreeLaws.{node_tokens_at, length-text_tokens}
-use Rattle.pm_node.proofs.WalkLaws.{child-within, in-range, past-range}
+use Rattle.pm_node.proofs.WalkLaws.{front, rest, child-within}
 use Rattle.pm_apply.specs.Markings.{AreKnown, marked_in, new_marks}
+use Rattle.pm_apply.proofs.BetweenLaws.{front-is, rest-is, front-rest, front-all}
 use Rattle.pm_apply.proofs.KnownLaws.{known-child, known-inner}
-use Rattle.pm_apply.proofs.MarkedWalk.{marked-start, marked-more, marked-end, marked-room, marked-order}
+use Rattle.pm_apply.proofs.MarkedWalk.{Marked, marked-from, marked-more, marked-end, marked-size, marked-room, marked-order}
 use Rattle.pm_apply.proofs.MarkedNodes.{sort-is, and-yes, marked-none, marked-past, marked-text, marked-leaf, marked-open, marked-length}
 use Rattle.pm_apply.proofs.marks.+mark.Goals as goal
+
+pub mark_content-append-requires-clause-room : goal.mark_content-append-requires-clause-room
+mark_content-append-requires-clause-room t c =
+    let xs = c.children-children.result in
+    let i = c.children_in-touched.result.first in
+    omega (arith, ap length c.new-made.ensures, ap length (front-is xs i), front-all xs i, c.children-children.ensures.bound)
+
+pub mark_content-loop-i-init : goal.mark_content-loop-i-init
+mark_content-loop-i-init t c =
+    let f = new_marks (documents_of c.args.schema.now.spec) c.args.marking.now c.args.reach in
+    let b = c.children_in-touched.ensures in
+    marked-from f c.args.parent c.children-children.result c.args.from c.args.to c.requires.order _ _ _ _ c.children-children.ensures.each b.counted b.starts c.new-made.ensures c.in_ok-append.ensures
 
 pub mark_content-mark_child-requires : goal.mark_content-mark_child-requires
 mark_content-mark_child-requires t c =
     let f = new_marks (documents_of c.args.schema.now.spec) c.args.marking.now c.args.reach in
     let xs = c.children-children.result in
     let all = c.children-children.ensures.tokens in
+    let l : c.loop-i.i < length xs = omega (arith, c.loop-i-test.true, c.children_in-touched.ensures.within) in
     let d : 3 * length c.args.content.now + 2 ≡ t = c.decreases in
-    let w = child-within xs _ c.get-child.result.now (in-range c.len-i-end.ensures c.loop-i-test.true) c.get-child.ensures in
+    let w = child-within xs _ c.get-child.result.now l c.get-child.ensures in
     let g : 3 * length (node_tokens (arc_value c.get-child.result.now)) + 1 < t = omega (arith, d, w, ap length all) in
-    let room = marked-room f c.args.parent xs c.args.from c.args.to c.requires.order _ _ _ c.get-child.result.now _ c.loop-i.invariant (in-range c.len-i-end.ensures c.loop-i-test.true) c.get-child.ensures in (
+    let room = marked-room f c.args.parent xs c.args.from c.args.to c.requires.order _ _ _ c.get-child.result.now _ c.loop-i.invariant l c.get-child.ensures in (
       g,
       (
         marked-order f c.args.parent xs c.args.from c.args.to c.requires.order _ _ _ _ c.loop-i.invariant,
         (
           c.requires.parent,
           (
-            known-child (length c.args.schema.now.spec.nodes) xs _ c.get-child.result.now (in-range c.len-i-end.ensures c.loop-i-test.true) c.get-child.ensures (subst (AreKnown (length c.args.schema.now.spec.nodes)) (sym all) c.requires.known),
+            known-child (length c.args.schema.now.spec.nodes) xs _ c.get-child.result.now l c.get-child.ensures (subst (AreKnown (length c.args.schema.now.spec.nodes)) (sym all) c.requires.known),
             omega (arith, room, c.size.ensures.size, c.size.ensures.bound, ap length all),
           ),
         ),
@@ -39,15 +53,32 @@ mark_content-mark_child-requires t c =
 pub mark_content-loop-i-preserved : goal.mark_content-loop-i-preserved
 mark_content-loop-i-preserved t c =
     let f = new_marks (documents_of c.args.schema.now.spec) c.args.marking.now c.args.reach in
+    let l : c.loop-i.i < length c.children-children.result = omega (arith, c.loop-i-test.true, c.children_in-touched.ensures.within) in
     let d = c.deref.ensures in
-    marked-more f c.args.parent c.children-children.result c.args.from c.args.to c.requires.order _ _ _ c.size-size.result _ _ c.get-child.result.now _ _ c.loop-i.invariant (in-range c.len-i-end.ensures c.loop-i-test.true) c.get-child.ensures
+    marked-more f c.args.parent c.children-children.result c.args.from c.args.to c.requires.order _ _ _ c.size-size.result _ _ c.get-child.result.now _ _ c.loop-i.invariant l c.get-child.ensures
     (subst (λ n. Balanced (node_tokens n)) d c.size-size.ensures.whole) (c.size-size.ensures.size ∙ ap (λ n. length (node_tokens n)) d)
     c.in_ok-mark_child.ensures c.saturating_sub-start.ensures c.saturating_sub-end.ensures
+
+pub mark_content-append-requires-2-clause-room : goal.mark_content-append-requires-2-clause-room
+mark_content-append-requires-2-clause-room t c =
+    let f = new_marks (documents_of c.args.schema.now.spec) c.args.marking.now c.args.reach in
+    let xs = c.children-children.result in
+    let e = c.children_in-touched.result.end in
+    let g : c.loop-i.i ≡ e = omega (arith, c.loop-i-test.false, c.children_in-touched.ensures.order) in
+    let size = marked-size f c.args.parent xs c.args.from c.args.to c.requires.order _ _ _ _ c.loop-i.invariant in
+    let behind = rest-is xs e c.len.result c.len.ensures (omega (arith, c.len.ensures, c.children_in-touched.ensures.within)) in
+    omega (arith, size, ap (λ k. length (front xs k)) g, ap length behind, ap length (front-rest xs e), length-append (front xs e) (rest xs e), c.children-children.ensures.bound)
 
 pub mark_content-returns : goal.mark_content-returns
 mark_content-returns t c = λ ps.
     let f = new_marks (documents_of c.args.schema.now.spec) c.args.marking.now c.args.reach in
-    marked-end f c.args.parent c.children-children.result c.args.from c.args.to c.requires.order _ _ _ _ c.loop-i.invariant (past-range c.len-i-end.ensures c.loop-i-test.false) ps
+    let xs = c.children-children.result in
+    let b = c.children_in-touched.ensures in
+    let e = c.children_in-touched.result.end in
+    let g : c.loop-i.i ≡ e = omega (arith, c.loop-i-test.false, b.order) in
+    marked-end f c.args.parent xs c.args.from c.args.to c.requires.order e _ _ c.len.result _ _
+    (subst (λ k. Marked f c.args.parent xs k c.args.from c.args.to c.loop-i.start c.loop-i.end c.loop-i.made) g c.loop-i.invariant)
+    c.len.ensures (omega (arith, c.len.ensures, b.within)) b.stops c.in_ok-append-2.ensures ps
     ∙ ap (marked_in f (c.args.parent ∷ ps) c.args.from c.args.to) c.children-children.ensures.tokens
 
 pub mark_child-returns-then-to-from : goal.mark_child-returns-then-to-from

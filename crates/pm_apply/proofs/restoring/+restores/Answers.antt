@@ -11,27 +11,29 @@ use Rattle.pm_schema.specs.Documents.{documents_of}
 use Rattle.pm_node.specs.declared.node.Body.TheVariants.{Children}
 use Rattle.pm_node.specs.Trees.{node_tokens}
 use Rattle.pm_node.proofs.TreeLaws.{node_tokens_at}
-use Rattle.pm_node.proofs.WalkLaws.{child-within, in-range, past-range}
+use Rattle.pm_node.proofs.WalkLaws.{child-within}
 use Rattle.pm_apply.specs.declared.marking.Reach.TheVariants.{Inline}
 use Rattle.pm_apply.specs.Markings.{AreKnown, sort_marks}
 use Rattle.pm_apply.specs.Backs.{twice}
 use Rattle.pm_apply.proofs.KnownLaws.{known-child, known-inner}
 use Rattle.pm_apply.proofs.MarkedNodes.{and-yes}
-use Rattle.pm_apply.proofs.RestoredWalk.{are_back, restored-start, restored-order, restored-more, restored-lost, restored-end, back-none, back-past, back-text, back-leaf, back-lost, back-inner, sort-twice}
+use Rattle.pm_apply.proofs.RestoredWalk.{are_back, Restored, restored-from, restored-order, restored-more, restored-lost, restored-end, back-none, back-past, back-text, back-leaf, back-lost, back-inner, sort-twice}
 use Rattle.pm_apply.proofs.restoring.+restores.Goals as goal
 
 pub restores-loop-i-init : goal.restores-loop-i-init
 restores-loop-i-init t c =
-    restored-start (documents_of c.args.schema.now.spec) c.args.marking.now c.args.back.now c.args.parent c.children-children.result c.args.from c.args.to c.requires.order
+    restored-from (documents_of c.args.schema.now.spec) c.args.marking.now c.args.back.now c.args.parent c.children-children.result c.args.from c.args.to c.requires.order _ _
+    c.children-children.ensures.each c.children_in-touched.ensures.counted c.children_in-touched.ensures.starts
 
 pub restores-restores_in-requires : goal.restores-restores_in-requires
 restores-restores_in-requires t c =
+    let l : c.loop-i.i < length c.children-children.result = omega (arith, c.loop-i-test.true, c.children_in-touched.ensures.within) in
     let s = documents_of c.args.schema.now.spec in
     let xs = c.children-children.result in
     let all = c.children-children.ensures.tokens in
     let count = length c.args.schema.now.spec.nodes in
     let d : 2 * length c.args.content.now + 1 ≡ t = c.decreases in
-    let w = child-within xs _ c.get-child.result.now (in-range c.len-i-end.ensures c.loop-i-test.true) c.get-child.ensures in
+    let w = child-within xs _ c.get-child.result.now l c.get-child.ensures in
     let n = ap (λ m. length (node_tokens m)) c.deref-in-loop-i.ensures in
     let g : 2 * length (node_tokens c.deref-in-loop-i.result.now) < t = omega (arith, d, w, n, ap length all) in (
       g,
@@ -40,31 +42,37 @@ restores-restores_in-requires t c =
         (
           c.requires.parent,
           subst (λ m. AreKnown count (node_tokens m)) (sym c.deref-in-loop-i.ensures)
-              (known-child count xs _ c.get-child.result.now (in-range c.len-i-end.ensures c.loop-i-test.true) c.get-child.ensures (subst (AreKnown count) (sym all) c.requires.known)),
+              (known-child count xs _ c.get-child.result.now l c.get-child.ensures (subst (AreKnown count) (sym all) c.requires.known)),
         ),
       ),
     )
 
 pub restores-loop-i-preserved : goal.restores-loop-i-preserved
 restores-loop-i-preserved t c =
+    let l : c.loop-i.i < length c.children-children.result = omega (arith, c.loop-i-test.true, c.children_in-touched.ensures.within) in
     let d = c.deref.ensures in
     restored-more (documents_of c.args.schema.now.spec) c.args.marking.now c.args.back.now c.args.parent c.children-children.result c.args.from c.args.to c.requires.order
-    _ _ _ c.size-size.result _ _ c.deref-in-loop-i.result.now c.get-child.result.now c.in_ok-kept.kept c.loop-i.invariant (in-range c.len-i-end.ensures c.loop-i-test.true) c.get-child.ensures c.deref-in-loop-i.ensures
+    _ _ _ c.size-size.result _ _ c.deref-in-loop-i.result.now c.get-child.result.now c.in_ok-kept.kept c.loop-i.invariant l c.get-child.ensures c.deref-in-loop-i.ensures
     (subst (λ n. Balanced (node_tokens n)) d c.size-size.ensures.whole) (c.size-size.ensures.size ∙ ap (λ n. length (node_tokens n)) d)
     c.in_ok-kept.ensures c.if-not-kept.false c.saturating_sub-start.ensures c.saturating_sub-end.ensures
 
 pub restores-returns-then-not-kept : goal.restores-returns-then-not-kept
 restores-returns-then-not-kept t c =
+    let l : c.loop-i.i < length c.children-children.result = omega (arith, c.loop-i-test.true, c.children_in-touched.ensures.within) in
     restored-lost (documents_of c.args.schema.now.spec) c.args.marking.now c.args.back.now c.args.parent c.children-children.result c.args.from c.args.to c.requires.order
     c.args.content.now c.children-children.ensures.tokens
-    _ _ _ c.deref-in-loop-i.result.now c.get-child.result.now c.in_ok-kept.kept c.loop-i.invariant (in-range c.len-i-end.ensures c.loop-i-test.true) c.get-child.ensures c.deref-in-loop-i.ensures
+    _ _ _ c.deref-in-loop-i.result.now c.get-child.result.now c.in_ok-kept.kept c.loop-i.invariant l c.get-child.ensures c.deref-in-loop-i.ensures
     (subst (λ n. Balanced (node_tokens n)) c.deref.ensures c.size-size.ensures.whole)
     c.in_ok-kept.ensures c.if-not-kept.true
 
 pub restores-returns : goal.restores-returns
 restores-returns t c =
-    restored-end (documents_of c.args.schema.now.spec) c.args.marking.now c.args.back.now c.args.parent c.children-children.result c.args.from c.args.to c.requires.order
-    c.args.content.now c.children-children.ensures.tokens _ _ _ c.loop-i.invariant (past-range c.len-i-end.ensures c.loop-i-test.false)
+    let s = documents_of c.args.schema.now.spec in
+    let xs = c.children-children.result in
+    let b = c.children_in-touched.ensures in
+    let g : c.loop-i.i ≡ c.children_in-touched.result.end = omega (arith, c.loop-i-test.false, b.order) in
+    restored-end s c.args.marking.now c.args.back.now c.args.parent xs c.args.from c.args.to c.requires.order c.args.content.now c.children-children.ensures.tokens _ _ _
+    (subst (λ k. Restored s c.args.marking.now c.args.back.now c.args.parent xs k c.args.from c.args.to c.loop-i.start c.loop-i.end) g c.loop-i.invariant) b.stops
 
 pub restores_in-returns-then-to-from : goal.restores_in-returns-then-to-from
 restores_in-returns-then-to-from t c =

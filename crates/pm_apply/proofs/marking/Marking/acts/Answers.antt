@@ -1,4 +1,3 @@
-use Rattle.std.proofs.Common.{◌≡◌}
 use Rattle.pm_schema.specs.Documents.{documents_of}
 use Rattle.pm_apply.proofs.marking.Marking.acts.Goals as goal
 

@@ -7,29 +7,32 @@ use Rattle.pm_schema.specs.Documents.{documents_of}
 use Rattle.pm_node.specs.declared.node.Body.TheVariants.{Text, Children}
 use Rattle.pm_node.specs.Trees.{node_tokens}
 use Rattle.pm_node.proofs.TreeLaws.{node_tokens_at, length-text_tokens}
-use Rattle.pm_node.proofs.WalkLaws.{child-within, in-range, past-range}
+use Rattle.pm_node.proofs.WalkLaws.{child-within}
 use Rattle.pm_apply.specs.declared.marking.Reach.TheVariants.{Inline}
 use Rattle.pm_apply.specs.Markings.{AreKnown}
+use Rattle.pm_apply.proofs.BetweenLaws.{front-all}
 use Rattle.pm_apply.proofs.KnownLaws.{known-child, known-inner}
 use Rattle.pm_apply.proofs.MarkedNodes.{sort-is, and-yes}
-use Rattle.pm_apply.proofs.TakenWalk.{taken-start, taken-order, taken-more, taken-room, taken-end, took-none, took-past, took-leaf, took-node, took-text, on-both}
+use Rattle.pm_apply.proofs.TakenWalk.{Taken, taken-from, taken-order, taken-more, taken-room, taken-left, taken-end, took-none, took-past, took-leaf, took-node, took-text, on-both}
 use Rattle.pm_apply.proofs.runs.Runs.+take.Goals as goal
 
 pub take_content-loop-i-init : goal.take_content-loop-i-init
 take_content-loop-i-init t c =
-    taken-start (documents_of c.args.schema.now.spec) c.args.marking.now c.args.parent c.children-children.result c.args.at c.args.from c.args.to c.args.self.now c.requires.order
+    taken-from (documents_of c.args.schema.now.spec) c.args.marking.now c.args.parent c.children-children.result c.args.at c.args.from c.args.to c.args.self.now c.requires.order _ _ _ _
+    c.children-children.ensures.each c.children_in-touched.ensures.counted c.children_in-touched.ensures.starts refl (c.in_ok-pass.ensures (documents_of c.args.schema.now.spec))
 
 pub take_content-take_child-requires : goal.take_content-take_child-requires
 take_content-take_child-requires t c =
+    let l : c.loop-i.i < length c.children-children.result = omega (arith, c.loop-i-test.true, c.children_in-touched.ensures.within) in
     let s = documents_of c.args.schema.now.spec in
     let xs = c.children-children.result in
     let all = c.children-children.ensures.tokens in
     let count = length c.args.schema.now.spec.nodes in
     let d : 2 * length c.args.content.now + 1 ≡ t = c.decreases in
-    let w = child-within xs _ c.get-child.result.now (in-range c.len-i-end.ensures c.loop-i-test.true) c.get-child.ensures in
+    let w = child-within xs _ c.get-child.result.now l c.get-child.ensures in
     let n = ap (λ m. length (node_tokens m)) c.deref-in-loop-i.ensures in
     let g : 2 * length (node_tokens c.deref-in-loop-i.result.now) < t = omega (arith, d, w, n, ap length all) in
-    let room = taken-room s c.args.marking.now c.args.parent xs c.args.at c.args.from c.args.to c.args.self.now c.requires.order _ _ _ _ c.get-child.result.now c.loop-i.self c.loop-i.invariant (in-range c.len-i-end.ensures c.loop-i-test.true) c.get-child.ensures in (
+    let room = taken-room s c.args.marking.now c.args.parent xs c.args.at c.args.from c.args.to c.args.self.now c.requires.order _ _ _ _ c.get-child.result.now c.loop-i.self c.loop-i.invariant l c.get-child.ensures in (
       g,
       (
         taken-order s c.args.marking.now c.args.parent xs c.args.at c.args.from c.args.to c.args.self.now c.requires.order _ _ _ _ c.loop-i.self c.loop-i.invariant,
@@ -37,33 +40,52 @@ take_content-take_child-requires t c =
           c.requires.parent,
           (
             subst (λ m. AreKnown count (node_tokens m)) (sym c.deref-in-loop-i.ensures)
-                (known-child count xs _ c.get-child.result.now (in-range c.len-i-end.ensures c.loop-i-test.true) c.get-child.ensures (subst (AreKnown count) (sym all) c.requires.known)),
+                (known-child count xs _ c.get-child.result.now l c.get-child.ensures (subst (AreKnown count) (sym all) c.requires.known)),
             omega (arith, room, n, c.requires.room, ap length all),
           ),
         ),
       ),
     )
 
-pub take_content-overflow_add-place : goal.take_content-overflow_add-place
-take_content-overflow_add-place t c =
+pub take_content-overflow_add-place-in-loop-i : goal.take_content-overflow_add-place-in-loop-i
+take_content-overflow_add-place-in-loop-i t c =
+    let l : c.loop-i.i < length c.children-children.result = omega (arith, c.loop-i-test.true, c.children_in-touched.ensures.within) in
     let s = documents_of c.args.schema.now.spec in
     let xs = c.children-children.result in
     let all = c.children-children.ensures.tokens in
-    let room = taken-room s c.args.marking.now c.args.parent xs c.args.at c.args.from c.args.to c.args.self.now c.requires.order _ _ _ _ c.get-child.result.now c.loop-i.self c.loop-i.invariant (in-range c.len-i-end.ensures c.loop-i-test.true) c.get-child.ensures in
+    let room = taken-room s c.args.marking.now c.args.parent xs c.args.at c.args.from c.args.to c.args.self.now c.requires.order _ _ _ _ c.get-child.result.now c.loop-i.self c.loop-i.invariant l c.get-child.ensures in
     omega (arith, room, c.size-size.ensures.size, ap (λ m. length (node_tokens m)) c.deref.ensures, c.requires.room, ap length all)
 
 pub take_content-loop-i-preserved : goal.take_content-loop-i-preserved
 take_content-loop-i-preserved t c =
+    let l : c.loop-i.i < length c.children-children.result = omega (arith, c.loop-i-test.true, c.children_in-touched.ensures.within) in
     let d = c.deref.ensures in
     taken-more (documents_of c.args.schema.now.spec) c.args.marking.now c.args.parent c.children-children.result c.args.at c.args.from c.args.to c.args.self.now c.requires.order
-    _ _ _ _ c.size-size.result _ _ _ c.deref-in-loop-i.result.now c.get-child.result.now c.loop-i.self c.take_child.new.self c.loop-i.invariant (in-range c.len-i-end.ensures c.loop-i-test.true) c.get-child.ensures c.deref-in-loop-i.ensures
+    _ _ _ _ c.size-size.result _ _ _ c.deref-in-loop-i.result.now c.get-child.result.now c.loop-i.self c.take_child.new.self c.loop-i.invariant l c.get-child.ensures c.deref-in-loop-i.ensures
     (subst (λ n. Balanced (node_tokens n)) d c.size-size.ensures.whole) (c.size-size.ensures.size ∙ ap (λ n. length (node_tokens n)) d)
     c.in_ok-take_child.ensures refl c.saturating_sub-start.ensures c.saturating_sub-end.ensures
 
+pub take_content-overflow_add-place : goal.take_content-overflow_add-place
+take_content-overflow_add-place t c =
+    omega (arith, c.children_in-touched.ensures.counted, front-all c.children-children.result c.children_in-touched.result.first, c.requires.room, ap length c.children-children.ensures.tokens)
+
+pub take_content-overflow_sub-past : goal.take_content-overflow_sub-past
+take_content-overflow_sub-past t c =
+    let s = documents_of c.args.schema.now.spec in
+    let left = taken-left s c.args.marking.now c.args.parent c.children-children.result c.args.at c.args.from c.args.to c.args.self.now c.requires.order _ _ _ _ c.loop-i.self c.loop-i.invariant in
+    omega (arith, left, c.size-2.ensures)
+
 pub take_content-returns : goal.take_content-returns
 take_content-returns t c =
-    taken-end (documents_of c.args.schema.now.spec) c.args.marking.now c.args.parent c.children-children.result c.args.at c.args.from c.args.to c.args.self.now c.requires.order
-    _ _ _ _ c.loop-i.self c.args.content.now c.loop-i.invariant (past-range c.len-i-end.ensures c.loop-i-test.false) c.children-children.ensures.tokens
+    let s = documents_of c.args.schema.now.spec in
+    let xs = c.children-children.result in
+    let b = c.children_in-touched.ensures in
+    let g : c.loop-i.i ≡ c.children_in-touched.result.end = omega (arith, c.loop-i-test.false, b.order) in
+    let w = subst (λ k. Taken s c.args.marking.now c.args.parent xs k c.args.at c.args.from c.args.to c.loop-i.place c.loop-i.start c.loop-i.end c.args.self.now c.loop-i.self) g c.loop-i.invariant in
+    on_ok_weaker c.pass-2.result
+    (λ k. taken-end s c.args.marking.now c.args.parent xs c.args.at c.args.from c.args.to c.args.self.now c.requires.order
+    _ _ _ _ _ c.loop-i.self c.pass-2.new.self c.args.content.now w b.stops (ap (λ n. (c.args.at + n) - c.loop-i.place) c.size-2.ensures) (k s) c.children-children.ensures.tokens)
+    c.pass-2.ensures
 
 pub take_child-returns-then-to-from : goal.take_child-returns-then-to-from
 take_child-returns-then-to-from t c =
