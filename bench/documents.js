@@ -1,22 +1,15 @@
-// The measurements of crates/pm_bench_docs, taken of ProseMirror on the same lines, and the lines themselves.
+// The parts that crates/pm_bench_docs times, taken of ProseMirror on the same lines, and the lines themselves.
 //
-//   node documents.js lines KIND          writes the lines of standard input that KIND names: schema, wide, paragraphs, letters,
-//                                         long, short or images
-//   node documents.js schema REPEATS      reads the schema of the first line
-//   node documents.js document REPEATS    reads, checks, copies and writes the document of the second line
-//   node documents.js edits REPEATS       resolves 50 positions of that document, and replaces the letter behind each
-//   node documents.js STEP REPEATS        applies 50 steps of a kind to that document, each with the step that takes it back and
-//                                         1,000 positions over it: replace, replaceAround, addMark, removeMark, addNodeMark or
-//                                         removeNodeMark
-//
-// A measurement writes a number that says what was computed, and the nanoseconds of its parts.
+//   node documents.js lines NAME           writes lines: a schema, a document, and steps. NAME is schema or wide (many types), paragraphs
+//                                          or letters (long documents), short (replace steps in 20,000 paragraphs), or a kind of steps,
+//                                          in 2,000 paragraphs
+//   node documents.js PART REPEATS         times a part on the lines of standard input, and writes a number that says what was computed
+//                                          and the nanoseconds, the least of all repeats
 
 "use strict"
 
-const {Schema, Node, Slice, Fragment} = require("prosemirror-model")
-const {AddMarkStep, RemoveMarkStep, ReplaceStep, ReplaceAroundStep, StepMap, StepResult} = require("prosemirror-transform")
-
-function nanosSince(start) { return Number(process.hrtime.bigint() - start) }
+const {Schema, Node, Mark, Slice, Fragment} = require("prosemirror-model")
+const {Step, StepMap, StepResult} = require("prosemirror-transform")
 
 // ---- lines
 
@@ -58,107 +51,67 @@ function letters(count, from) {
   return text
 }
 
-function paragraph(text) { return {content: [{text, type: "text"}], type: "paragraph"} }
+function docOf(paragraphs) { return {content: paragraphs.map(content => ({content, type: "paragraph"})), type: "doc"} }
 
 // A line of 1,000,000 bytes with 10,000 paragraphs.
 function paragraphs() {
-  const size = 1000000, count = 10000, content = []
-  const empty = JSON.stringify({content: Array(count).fill(paragraph("")), type: "doc"}).length
+  const size = 1000000, count = 10000, all = []
+  const empty = JSON.stringify(docOf(Array(count).fill([{text: "", type: "text"}]))).length
   const each = Math.floor((size - empty) / count), rest = size - empty - each * count
-  for (let i = 0; i < count; i++) content.push(paragraph(letters(each + (i < rest ? 1 : 0), i)))
-  return {content, type: "doc"}
+  for (let i = 0; i < count; i++) all.push([{text: letters(each + (i < rest ? 1 : 0), i), type: "text"}])
+  return docOf(all)
 }
 
 // One text, as long as a document may be.
-function oneText() { return {content: [paragraph(letters(499998, 0))], type: "doc"} }
+function oneText() { return docOf([[{text: letters(499998, 0), type: "text"}]]) }
 
-// 400,000 tokens in so many paragraphs.
-function tokens(count) {
-  const content = []
-  for (let i = 0; i < count; i++) content.push(paragraph(letters(400000 / count - 2, i)))
-  return {content, type: "doc"}
+// 400,000 tokens in so many paragraphs. Each begins with an image, and all that is inline has these marks.
+function tokens(count, marks) {
+  const all = []
+  for (let i = 0; i < count; i++) {
+    const text = letters(400000 / count - 3, i)
+    all.push([{attrs: {src: "a"}, ...marks, type: "image"}, {...marks, text, type: "text"}])
+  }
+  return docOf(all)
 }
 
-// 400,000 tokens in paragraphs of 200, each of which begins with an image.
-function images() {
-  const content = []
-  for (let i = 0; i < 2000; i++) content.push({content: [{attrs: {src: "a"}, type: "image"}, {text: letters(197, i), type: "text"}], type: "paragraph"})
-  return {content, type: "doc"}
+const EM = {marks: [{type: "em"}]}
+
+// The steps stand 7,920 tokens apart. In paragraphs of 20 tokens or of 200, `from` is in a text with 20 letters behind it.
+function steps(stepType, paragraph) {
+  const mark = EM.marks[0], all = []
+  for (let i = 0; i < 50; i++) {
+    const from = i * 7920 + 4, start = from - from % paragraph, to = start + paragraph
+    all.push({
+      replace: {from, slice: {content: [{text: "a", type: "text"}]}, to: from + 1},
+      replaceAround: {from: start, gapFrom: start, gapTo: to, insert: 1, slice: {content: [{type: "blockquote"}]}, structure: true, to},
+      addMark: {from, mark, to: from + 20},
+      removeMark: {from, mark, to: from + 20},
+      addNodeMark: {mark, pos: start + 1},
+      removeNodeMark: {mark, pos: start + 1},
+    }[stepType])
+  }
+  return all.map(step => ({...step, stepType}))
 }
 
-function lines(kind) {
-  const texts = {
-    schema: () => [manyTypes(200)],
-    wide: () => [manyTypes(4)],
+function lines(name) {
+  const first = {content: [{type: "type_1"}], type: "doc"}
+  const all = {
+    schema: () => [manyTypes(200), first],
+    wide: () => [manyTypes(4), first],
     paragraphs: () => [BASIC, paragraphs()],
     letters: () => [BASIC, oneText()],
-    long: () => [BASIC, tokens(2000)],
-    short: () => [BASIC, tokens(20000)],
-    images: () => [BASIC, images()],
-  }[kind]()
-  process.stdout.write(texts.map(text => JSON.stringify(text) + "\n").join(""))
+    short: () => [BASIC, tokens(20000), ...steps("replace", 20)],
+  }[name] || (() => [BASIC, tokens(2000, name.startsWith("remove") ? EM : {}), ...steps(name, 200)])
+  process.stdout.write(all().map(value => JSON.stringify(value) + "\n").join(""))
 }
 
-// ---- measurements
+// ---- what the lines tell
 
 // ProseMirror wants the types as members of an object, under their names.
 function specOf({nodes, marks = [], topNode}) {
   const named = types => Object.fromEntries(types.map(type => [type.name, type]))
   return {nodes: named(nodes), marks: named(marks), topNode}
-}
-
-function schema([line]) {
-  let start = process.hrtime.bigint()
-  const json = JSON.parse(line)
-  const parse = nanosSince(start)
-  const spec = specOf(json)
-  start = process.hrtime.bigint()
-  const schema = new Schema(spec)
-  const read = nanosSince(start)
-  const check = Object.keys(schema.nodes).length + Object.keys(schema.marks).length
-  return {check, times: [parse, read, 0, 0, 0, 0]}
-}
-
-function document([first, line]) {
-  const schema = new Schema(specOf(JSON.parse(first)))
-  let start = process.hrtime.bigint()
-  let json = JSON.parse(line)
-  const parse = nanosSince(start)
-  start = process.hrtime.bigint()
-  const doc = Node.fromJSON(schema, json)
-  const read = nanosSince(start)
-  start = process.hrtime.bigint()
-  doc.check()
-  const validate = nanosSince(start)
-  start = process.hrtime.bigint()
-  const same = doc.copy(doc.content)
-  const copy = nanosSince(start)
-  start = process.hrtime.bigint()
-  json = same.toJSON()
-  const write = nanosSince(start)
-  start = process.hrtime.bigint()
-  const text = JSON.stringify(json)
-  const print = nanosSince(start)
-  return {check: doc.content.size + text.length, times: [parse, read, validate, copy, write, print]}
-}
-
-// The positions are those of crates/pm_bench_docs. ProseMirror keeps the last positions that it resolved, so each is resolved anew.
-function edits([first, line]) {
-  const schema = new Schema(specOf(JSON.parse(first)))
-  const doc = Node.fromJSON(schema, JSON.parse(line))
-  const letter = new Slice(Fragment.from(schema.text("a")), 0, 0)
-  let check = 0, resolving = 0, replacing = 0
-  for (let i = 0; i < 50; i++) {
-    const from = i * 7920 + 4
-    let start = process.hrtime.bigint()
-    check += doc.resolveNoCache(from).depth
-    resolving += nanosSince(start)
-    start = process.hrtime.bigint()
-    const made = doc.replace(from, from + 1, letter)
-    replacing += nanosSince(start)
-    check += 2 * made.content.size
-  }
-  return {check, times: [resolving, replacing, replacing, 0, 0, 0]}
 }
 
 // Adds a mark to the node at a position, or takes it away, as AddNodeMarkStep and RemoveNodeMarkStep of later versions do.
@@ -182,61 +135,82 @@ class NodeMarkStep {
   getMap() { return StepMap.empty }
 }
 
-// The steps are those of crates/pm_bench_docs.
-const STEPS = {
-  replace: (schema, from) => new ReplaceStep(from, from + 1, new Slice(Fragment.from(schema.text("a")), 0, 0)),
-  replaceAround: (schema, from) => {
-    const start = from - from % 200, quote = new Slice(Fragment.from(schema.nodes.blockquote.create()), 0, 0)
-    return new ReplaceAroundStep(start, start + 200, start, start + 200, quote, 1, true)
-  },
-  addMark: (schema, from) => new AddMarkStep(from, from + 20, schema.marks.em.create()),
-  removeMark: (schema, from) => new RemoveMarkStep(from, from + 20, schema.marks.em.create()),
-  addNodeMark: (schema, from) => new NodeMarkStep(from - from % 200 + 1, schema.marks.em.create(), true),
-  removeNodeMark: (schema, from) => new NodeMarkStep(from - from % 200 + 1, schema.marks.em.create(), false),
+function stepOf(schema, json) {
+  if (!json.stepType.endsWith("NodeMark")) return Step.fromJSON(schema, json)
+  return new NodeMarkStep(json.pos, Mark.fromJSON(schema, json.mark), json.stepType == "addNodeMark")
 }
 
-// Steps that take marks away are applied to what the steps that add them have made.
-const ADDING = {removeMark: STEPS.addMark, removeNodeMark: STEPS.addNodeMark}
+function inputsOf(text) {
+  const [types, line, ...steps] = text.split("\n").filter(line => line)
+  const spec = specOf(JSON.parse(types)), schema = new Schema(spec)
+  const json = JSON.parse(line), doc = Node.fromJSON(schema, json)
+  doc.check()
+  return {spec, schema, line, json, doc, written: doc.toJSON(), steps: steps.map(step => stepOf(schema, JSON.parse(step)))}
+}
 
-function steps(kind, [first, line]) {
-  const schema = new Schema(specOf(JSON.parse(first)))
-  const doc = Node.fromJSON(schema, JSON.parse(line))
-  const times = [0, 0, 0, 0, 0, 0]
-  let check = 0
-  for (let i = 0; i < 50; i++) {
-    const from = i * 7920 + 4
-    const before = ADDING[kind] ? ADDING[kind](schema, from).apply(doc).doc : doc
-    const step = STEPS[kind](schema, from)
-    let start = process.hrtime.bigint()
-    const made = step.apply(before).doc
-    times[0] += nanosSince(start)
-    start = process.hrtime.bigint()
-    const back = step.invert(before)
-    times[2] += nanosSince(start)
-    start = process.hrtime.bigint()
-    const map = step.getMap(), size = before.content.size
-    for (let j = 0; j < 1000; j++) check += map.map(Math.min(j * 400, size), 1)
-    times[3] += nanosSince(start)
-    if (!back) throw new Error("nothing takes the step back")
-    start = process.hrtime.bigint()
-    made.check()
-    times[1] += nanosSince(start)
-    check += made.content.size
+// ---- parts: the call that is timed, and the number that says what it computed
+
+const WHOLE = {
+  schema: [({spec}) => new Schema(spec), schema => Object.keys(schema.nodes).length + Object.keys(schema.marks).length],
+  parse: [({line}) => JSON.parse(line), json => json.content.length],
+  read: [({schema, json}) => Node.fromJSON(schema, json), doc => doc.nodeSize],
+  check: [({doc}) => doc.check(), (_, {doc}) => doc.content.size],
+  copy: [({doc}) => copies(doc), sum => sum],
+  write: [({doc}) => doc.toJSON(), json => json.content.length],
+  // The keys stand in another order than in the line.
+  print: [({written}) => JSON.stringify(written), text => text.length],
+}
+
+const EACH = {
+  // ProseMirror keeps the last positions that it resolved, so each is resolved anew.
+  resolve: [({doc}, step) => doc.resolveNoCache(step.from), place => place.depth],
+  splice: [({doc}, step) => doc.replace(step.from, step.to, step.slice), doc => doc.content.size],
+  replace: [({doc}, step) => doc.replace(step.from, step.to, step.slice), doc => doc.content.size],
+  apply: [({doc}, step) => step.apply(doc), result => result.doc.content.size],
+  invert: [({doc}, step) => step.invert(doc), back => back ? 1 : 0],
+  map: [({doc}, step) => positions(step.getMap(), doc.content.size), sum => sum],
+}
+
+function copies(doc) {
+  let sum = 0
+  for (let i = 0; i < 1000; i++) sum += doc.copy(doc.content).content.size
+  return sum
+}
+
+function positions(map, size) {
+  let sum = 0
+  for (let i = 0; i < 1000; i++) sum += map.map(Math.min(i * 400, size), 1)
+  return sum
+}
+
+function timed([call, number], inputs, step) {
+  const start = process.hrtime.bigint()
+  const made = call(inputs, step)
+  const nanos = Number(process.hrtime.bigint() - start)
+  return {check: number(made, inputs), nanos}
+}
+
+function round(part, inputs) {
+  if (WHOLE[part]) return timed(WHOLE[part], inputs)
+  const all = {check: 0, nanos: 0}
+  for (const step of inputs.steps) {
+    const {check, nanos} = timed(EACH[part], inputs, step)
+    all.check += check
+    all.nanos += nanos
   }
-  return {check, times}
+  return all
 }
 
-function main([name, word]) {
-  if (name == "lines") return lines(word)
-  const text = require("fs").readFileSync(0, "utf8").split("\n")
-  const measure = {schema, document, edits}[name] || (text => steps(name, text))
-  const best = measure(text)
+function main([part, word]) {
+  if (part == "lines") return lines(word)
+  const inputs = inputsOf(require("fs").readFileSync(0, "utf8"))
+  const best = round(part, inputs)
   for (let i = 1; i < +word; i++) {
-    const next = measure(text)
+    const next = round(part, inputs)
     if (next.check != best.check) throw new Error("two rounds differ")
-    best.times = best.times.map((time, i) => Math.min(time, next.times[i]))
+    best.nanos = Math.min(best.nanos, next.nanos)
   }
-  console.log(best.check, ...best.times)
+  console.log(best.check, best.nanos)
 }
 
 main(process.argv.slice(2))

@@ -35,13 +35,13 @@ build() {
   touch "$made"
 }
 
-# Of lines `CHECK FIRST SECOND`, which have to agree in CHECK: the least of each time.
+# Of lines `CHECK FIRST` or `CHECK FIRST SECOND`, which have to agree in CHECK: the least of each time.
 least() {
-  awk 'NR == 1 { check = $1; first = $2; second = $3 }
+  awk 'NR == 1 { check = $1; first = $2; second = $3; parts = NF }
     $1 != check { differ = 1 }
     $2 < first { first = $2 }
     $3 < second { second = $3 }
-    END { if (NR == 0 || differ) exit 1; print check, first, second }' "$1"
+    END { if (NR == 0 || differ) exit 1; print check, first (parts > 2 ? " " second : "") }' "$1"
 }
 
 title() { printf '\n%-58s %12s %12s %8s\n' "$1" "$2" "$3" ratio; }
@@ -49,84 +49,67 @@ title() { printf '\n%-58s %12s %12s %8s\n' "$1" "$2" "$3" ratio; }
 # row WHAT OURS THEIRS, in nanoseconds, printed in milliseconds
 row() { awk -v what="$1" -v a="$2" -v b="$3" 'BEGIN { printf "%-58s %12.3f %12.3f %8.2f\n", what, a / 1e6, b / 1e6, a / b }'; }
 
+# sides OURS THEIRS INPUT WORDS..: both programs take the words and the input, in turn, and leave CHECK and the least times of
+# each side in `ours` and `theirs`
+sides() {
+  first_side=$1 second_side=$2 input=$3
+  shift 3
+  : >"$work/ours"
+  : >"$work/theirs"
+  for _ in $(seq "$tries"); do
+    "$first_side" "$@" <"$input" >>"$work/ours"
+    node "$second_side" "$@" <"$input" >>"$work/theirs"
+  done
+  ours=$(least "$work/ours")
+  theirs=$(least "$work/theirs")
+  [ "${ours%% *}" = "${theirs%% *}" ] || { echo "bench: the two sides differ at $*" >&2; exit 1; }
+}
+
 # both FIRST-LABEL SECOND-LABEL WORDS..: ours beside ProseMirror
 both() {
   label=$1 other=$2
   shift 2
-  : >"$work/ours"
-  : >"$work/theirs"
-  for _ in $(seq "$tries"); do
-    "$program" "$@" >>"$work/ours"
-    node "$here/prosemirror.js" "$@" >>"$work/theirs"
-  done
-  read -r check first second <<OURS
-$(least "$work/ours")
-OURS
-  read -r check2 first2 second2 <<THEIRS
-$(least "$work/theirs")
-THEIRS
-  [ "$check" = "$check2" ] || { echo "bench: the two sides differ at $*" >&2; exit 1; }
-  row "$label" "$first" "$first2"
-  row "$other" "$second" "$second2"
+  sides "$program" "$here/prosemirror.js" /dev/null "$@"
+  row "$label" "$(echo "$ours" | cut -d ' ' -f 2)" "$(echo "$theirs" | cut -d ' ' -f 2)"
+  row "$other" "$(echo "$ours" | cut -d ' ' -f 3)" "$(echo "$theirs" | cut -d ' ' -f 3)"
 }
 
-# best WORDS..: of lines of a check and six times, which have to agree in the check, the least of each time
-best() {
-  awk 'NR == 1 { for (i = 1; i <= 7; i++) least[i] = $i }
-    $1 != least[1] { differ = 1 }
-    { for (i = 2; i <= 7; i++) if ($i < least[i]) least[i] = $i }
-    END { if (NR == 0 || differ) exit 1; print least[1], least[2], least[3], least[4], least[5], least[6], least[7] }' "$1"
+# part LABEL LINES PART REPEATS: one part of ours on these lines, beside that of ProseMirror
+part() {
+  [ -f "$work/$2" ] || node "$here/documents.js" lines "$2" >"$work/$2"
+  sides "$documents" "$here/documents.js" "$work/$2" "$3" "$4"
+  row "$1" "${ours#* }" "${theirs#* }"
 }
 
-# of_documents LINES MEASUREMENT REPEATS: both sides measure the lines, in turn, and leave a check and six times each in
-# `ours` and `theirs`
-of_documents() {
-  [ -f "$work/$1" ] || node "$here/documents.js" lines "$1" >"$work/$1"
-  : >"$work/ours"
-  : >"$work/theirs"
-  for _ in $(seq "$tries"); do
-    "$documents" "$2" "$3" <"$work/$1" >>"$work/ours"
-    node "$here/documents.js" "$2" "$3" <"$work/$1" >>"$work/theirs"
-  done
-  ours=$(best "$work/ours")
-  theirs=$(best "$work/theirs")
-  [ "${ours%% *}" = "${theirs%% *}" ] || { echo "bench: the two sides differ at $1 $2" >&2; exit 1; }
-}
-
-# part LABEL NUMBER [NUMBER]: a row of one of the six times of ours, beside that of theirs or another one of theirs
-part() { row "$1" "$(echo "$ours" | cut -d ' ' -f $(($2 + 1)))" "$(echo "$theirs" | cut -d ' ' -f $((${3-$2} + 1)))"; }
-
-schema() {
-  of_documents "$1" schema $((20 * tries))
-  part "$2, parsed" 1
-  part "  read and built, beside new Schema" 2
+# memory LABEL LINES PROGRAM..: the greatest memory of a program while it prints the document, in kilobytes
+memory() {
+  label=$1 input=$work/$2
+  shift 2
+  most=$(/usr/bin/time -f %M "$@" print 1 <"$input" 2>&1 >/dev/null | tail -n 1)
+  printf '%-58s %12s\n' "$label" "$most"
 }
 
 document() {
-  of_documents "$1" document $((2 * tries))
-  part "$2, parsed" 1
-  part "  read" 2
-  part "  checked" 3
-  part "  copied" 4
-  part "  written" 5
-  part "  printed" 6
-  memory=$(/usr/bin/time -f %M "$documents" document 1 <"$work/$1" 2>&1 >/dev/null | tail -n 1)
-  printf '%-58s %12s\n' "  greatest memory of one round of ours, KB" "$memory"
+  part "$2, parsed" "$1" parse 10
+  part "  read" "$1" read 10
+  part "  checked" "$1" check 10
+  part "  written" "$1" write 10
+  part "  printed" "$1" print 10
+  part "  1,000 copies" "$1" copy 10
+  memory "  greatest memory of ours, KB" "$1" "$documents"
+  memory "  and of node, KB" "$1" node "$here/documents.js"
 }
 
 edits() {
-  of_documents "$1" edits $((2 * tries))
-  part "$2, resolved" 1
-  part "  spliced, beside doc.replace" 2
-  part "  replaced, with the check, beside doc.replace" 3
+  part "$2, resolved" "$1" resolve 10
+  part "  spliced, beside doc.replace" "$1" splice 10
+  part "  replaced" "$1" replace 10
 }
 
 step() {
-  of_documents images "$1" $((2 * tries))
-  part "$1, applied" 1
-  part "  the result checked by itself, beside doc.check" 2
-  part "  inverted" 3
-  part "  1,000 positions mapped by each" 4
+  part "$1, applied" "$1" apply 5
+  part "  taken back" "$1" invert 5
+  part "  1,000 positions mapped by each" "$1" map 5
 }
 
 # desk THREADS CALLS: calls per second, of a desk beside a mutex, and the middle of single runs: the best run is one in which the
@@ -163,15 +146,15 @@ title "maps, milliseconds" "ours" "ProseMirror"
 both "200 pending maps carried over 2,000 foreign ones" "  1,000 positions over all of them" maps 200 2000 20
 
 title "schemas of 200 types with 30 attributes each, milliseconds" "ours" "ProseMirror"
-schema schema "one type that may hold all others"
-schema wide "50 types that may hold all others"
+part "one type that may hold all others, read and built" schema schema 20
+part "50 types that may hold all others" wide schema 20
 
 title "documents, milliseconds" "ours" "ProseMirror"
 document paragraphs "10,000 paragraphs, a line of 1 MB"
 document letters "one text of 499,998 letters"
 
 title "50 letters replaced in 400,000 tokens, milliseconds" "ours" "ProseMirror"
-edits long "2,000 paragraphs"
+edits replace "2,000 paragraphs"
 edits short "20,000 paragraphs"
 
 title "50 steps in 400,000 tokens, milliseconds" "ours" "ProseMirror"

@@ -1,52 +1,103 @@
-//! Reading, checking, copying and writing a document.
-use crate::figures::Figures;
-use crate::schemas::schema_of;
+//! Reading a schema, and reading, checking, copying and writing a document.
+
+use crate::round::Round;
 use crate::time::nanos_since;
-use crate::writing::written;
-use anyhow::{Context, Result, ensure};
-use pm_docjson::read_node;
+use anyhow::{Result, ensure};
+use pm_docjson::{read_node, write_node};
 use pm_node::Document;
 use pm_schema::Schema;
+use pm_schemajson::read_schema;
 use serde_json::Value;
-use std::alloc::Global;
 use std::rt::Clock;
 use std::time::Instant;
 
-/// The document of the line.
-pub fn document_of(alloc: Global, schema: &Schema, line: &str) -> Result<Document> {
-    let json = Value::from_str(alloc, line)?;
-    let top = read_node(alloc, schema, &json)?;
-    Ok(Document::new(alloc, top)?)
+/// How often a document is copied.
+const COPIES: u32 = 1_000;
+
+/// Times reading a schema from its JSON value. What was computed is the number of types and of mark types.
+pub fn schema<R: Clock + AllocGlobal>(rt: &R, types: &Value) -> Result<Round> {
+    let start = Instant::now(rt)?;
+    let schema = read_schema(rt.alloc(), types)?;
+    let nanos = nanos_since(rt, &start)?;
+    let nodes = schema.node_count() as u64;
+    let check = nodes.wrapping_add(schema.mark_count() as u64);
+    Ok(Round { check, nanos })
 }
 
-/// Times the calls that take a line to a document and back: parsing, reading, the check, a copy, the JSON value, its text. What
-/// was computed is the number of tokens, and of bytes that were written, which have to be those of the line.
-pub fn measure<R: Clock + AllocGlobal>(rt: &R, schema: &str, line: &str) -> Result<Figures> {
-    let alloc = rt.alloc();
-    let schema = schema_of(alloc, schema)?;
+/// Times parsing a line. What was computed is the number of nodes at the top.
+pub fn parse<R: Clock + AllocGlobal>(rt: &R, line: &str) -> Result<Round> {
     let start = Instant::now(rt)?;
-    let json = Value::from_str(alloc, line)?;
-    let parse = nanos_since(rt, &start)?;
+    let json = Value::from_str(rt.alloc(), line)?;
+    let nanos = nanos_since(rt, &start)?;
+    let check = nodes_of(&json);
+    Ok(Round { check, nanos })
+}
+
+/// How many nodes the document has at the top.
+fn nodes_of(json: &Value) -> u64 {
+    let content = json.get("content").and_then(Value::as_array);
+    content.map_or(0, |nodes| nodes.len() as u64)
+}
+
+/// Times reading a document from its JSON value. What was computed is the number of its tokens.
+pub fn read<R: Clock + AllocGlobal>(rt: &R, schema: &Schema, json: &Value) -> Result<Round> {
     let start = Instant::now(rt)?;
-    let top = read_node(alloc, &schema, &json)?;
-    let read = nanos_since(rt, &start)?;
-    let document = Document::new(alloc, top)?;
+    let top = read_node(rt.alloc(), schema, json)?;
+    let nanos = nanos_since(rt, &start)?;
+    let check = top.size() as u64;
+    Ok(Round { check, nanos })
+}
+
+/// Times the check of a document. What was computed is the number of tokens of its content.
+pub fn check<R: Clock + AllocGlobal>(
+    rt: &R,
+    schema: &Schema,
+    document: &Document,
+) -> Result<Round> {
     let start = Instant::now(rt)?;
-    document.check(alloc, &schema)?;
-    let validate = nanos_since(rt, &start)?;
+    document.check(rt.alloc(), schema)?;
+    let nanos = nanos_since(rt, &start)?;
+    let check = document.size() as u64;
+    Ok(Round { check, nanos })
+}
+
+/// Times copies of a document, each of which is let go at once. What was computed is the sum of their tokens.
+pub fn copy<R: Clock + AllocGlobal>(rt: &R, document: &Document) -> Result<Round> {
     let start = Instant::now(rt)?;
-    let same = document.copy()?;
-    let copy = nanos_since(rt, &start)?;
+    let mut check = 0u64;
+    for _ in 0..COPIES {
+        check = check.wrapping_add(document.copy()?.size() as u64);
+    }
+    let nanos = nanos_since(rt, &start)?;
+    Ok(Round { check, nanos })
+}
+
+/// Times writing a document as a JSON value. What was computed is the number of nodes at the top.
+pub fn write<R: Clock + AllocGlobal>(
+    rt: &R,
+    schema: &Schema,
+    document: &Document,
+) -> Result<Round> {
     let start = Instant::now(rt)?;
-    let json = written(alloc, &schema, &same)?.context("a top node without content")?;
-    let write = nanos_since(rt, &start)?;
+    let json = write_node(rt.alloc(), schema, document.top())?;
+    let nanos = nanos_since(rt, &start)?;
+    let check = nodes_of(&json);
+    Ok(Round { check, nanos })
+}
+
+/// Times printing the JSON value that is written of a document, which has to give the line that it was read from. What was
+/// computed is the number of bytes.
+pub fn print<R: Clock + AllocGlobal>(
+    rt: &R,
+    schema: &Schema,
+    document: &Document,
+    line: &str,
+) -> Result<Round> {
+    let json = write_node(rt.alloc(), schema, document.top())?;
     let start = Instant::now(rt)?;
-    let text = json.to_string(alloc)?;
-    let print = nanos_since(rt, &start)?;
+    let text = json.to_string(rt.alloc())?;
+    let nanos = nanos_since(rt, &start)?;
     ensure!(text.as_str() == line, "another line was written");
-    let size = document.size() as u64;
-    Ok(Figures {
-        check: size.wrapping_add(text.len() as u64),
-        times: [parse, read, validate, copy, write, print],
-    })
+    let check = text.len() as u64;
+    Ok(Round { check, nanos })
 }

@@ -1,73 +1,91 @@
-//! Resolving positions of a document, and replacing a letter at each of them.
+//! Resolving a position, and replacing a range by a slice.
+ghost use Rattle.std.specs.Prelude.{◌≡◌, ◌≤◌, ◌<◌, ◌+◌, ◌-◌, ◌^◌, true, IsTrue, length};
 ghost use Rattle.pm_tokens.specs.Faults.{Valid};
+ghost use Rattle.pm_tokens.specs.Slices.{depths_fit, slice_size};
 ghost use Rattle.pm_schema.specs.Documents.{documents_of};
 
-use crate::documents::document_of;
-use crate::figures::Figures;
-use crate::kinds::letter;
-use crate::schemas::schema_of;
-use crate::splices::spliced;
+use crate::round::Round;
 use crate::time::nanos_since;
-use anyhow::Result;
-use pm_node::Document;
-use pm_replace::replace;
+use anyhow::{Result, bail, ensure};
+use pm_build::depth_at;
+use pm_node::{Body, Document, Fragment, MAX_SIZE};
+use pm_replace::{replace, splice};
 use pm_resolve::resolve;
 use pm_schema::Schema;
 use pm_slice::Slice;
-use std::alloc::Global;
 use std::rt::Clock;
 use std::time::Instant;
 
-/// How many letters are replaced, each in the document as it was read.
-const EDITS: u32 = 50;
+/// Times resolving a position. What was computed is its depth.
+pub fn resolve_at<R: Clock + AllocGlobal>(rt: &R, document: &Document, pos: u64) -> Result<Round> {
+    let start = Instant::now(rt)?;
+    let place = resolve(rt.alloc(), document, pos as usize)?;
+    let nanos = nanos_since(rt, &start)?;
+    let check = place.depth() as u64;
+    Ok(Round { check, nanos })
+}
 
-/// How far apart the positions are, of which each is inside of a text, in paragraphs of 200 tokens and of 20.
-const STRIDE: u32 = 7_920;
-
-/// Times resolving the position, the splice of a letter in place of the token behind it, and the whole replacement. What was
-/// computed is the depth of the position and the sizes of both results, 0 where there is none.
-fn edit<R: Clock + AllocGlobal>(
+/// Times the splice of a slice in place of a range, without the check of the result. What was computed is the size of the
+/// result.
+pub fn splice_in<R: Clock + AllocGlobal>(
     rt: &R,
     schema: &Schema,
     document: &Document,
-    letter: &Slice,
-    from: u32,
-) -> Result<Figures>
-    requires { Valid (documents_of schema.now.spec) document.now }
-{
-    let alloc = rt.alloc();
+    from: u64,
+    to: u64,
+    slice: &Slice,
+) -> Result<Round> {
+    let from = from as usize;
+    let to = to as usize;
+    let Body::Children(content) = &document.top().body else {
+        bail!("a top node without content");
+    };
+    ensure!(fits(content, from, to, slice), "the slice does not fit");
     let start = Instant::now(rt)?;
-    let depth = resolve(alloc, document, from as usize)?.depth();
-    let resolving = nanos_since(rt, &start)?;
-    let (size, splicing) = spliced(rt, schema, document, letter, from)?;
-    let to = u64::from(from) + 1;
-    let start = Instant::now(rt)?;
-    let replaced = replace(alloc, schema, document, u64::from(from), to, letter);
-    let replacing = nanos_since(rt, &start)?;
-    let whole = replaced.map_or(0, |made| made.size());
-    let check = (depth as u64)
-        .wrapping_add(size as u64)
-        .wrapping_add(whole as u64);
-    Ok(Figures {
-        check,
-        times: [resolving, splicing, replacing, 0, 0, 0],
-    })
+    let made = splice(rt.alloc(), schema, content, from, to, slice);
+    let nanos = nanos_since(rt, &start)?;
+    let Ok(made) = made else {
+        bail!("the slice does not join");
+    };
+    let check = made.size() as u64;
+    Ok(Round { check, nanos })
 }
 
-/// Times all edits of the document of the second line.
-pub fn measure<R: Clock + AllocGlobal>(rt: &R, schema: &str, line: &str) -> Result<Figures> {
-    let alloc = rt.alloc();
-    let schema = schema_of(alloc, schema)?;
-    let document = document_of(alloc, &schema, line)?;
-    document.check(alloc, &schema)?;
-    let letter = letter(alloc)?;
-    let mut all = Figures {
-        check: 0,
-        times: [0, 0, 0, 0, 0, 0],
-    };
-    for i in 0..EDITS {
-        let figures = edit(rt, &schema, &document, &letter, i * STRIDE + 4)?;
-        all = all.and(figures);
+/// Whether the slice can stand in place of the range.
+fn fits(content: &Fragment, from: usize, to: usize, slice: &Slice) -> bool
+    ensures order { IsTrue result → from ≤ to }
+    ensures within { IsTrue result → to ≤ length content.now }
+    ensures depths { IsTrue result → depths_fit content.now from to slice.now ≡ true }
+    ensures room { IsTrue result → from + slice_size slice.now + (length content.now - to) < 2 ^ 32 }
+{
+    let size = content.size();
+    if to < from || size < to || MAX_SIZE < size || MAX_SIZE < slice.size() {
+        return false;
     }
-    Ok(all)
+    let left = depth_at(content, from);
+    let right = depth_at(content, to);
+    let start = slice.open_start();
+    let end = slice.open_end();
+    start <= left && left + end == right + start
+}
+
+/// Times replacing a range by a slice, with the check of the result. What was computed is the size of the result.
+pub fn replace_in<R: Clock + AllocGlobal>(
+    rt: &R,
+    schema: &Schema,
+    document: &Document,
+    from: u64,
+    to: u64,
+    slice: &Slice,
+) -> Result<Round>
+    requires { Valid (documents_of schema.now.spec) document.now }
+{
+    let start = Instant::now(rt)?;
+    let made = replace(rt.alloc(), schema, document, from, to, slice);
+    let nanos = nanos_since(rt, &start)?;
+    let Ok(made) = made else {
+        bail!("the range cannot be replaced");
+    };
+    let check = made.size() as u64;
+    Ok(Round { check, nanos })
 }
