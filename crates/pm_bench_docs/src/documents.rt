@@ -35,8 +35,10 @@ pub fn parse<R: Clock + AllocGlobal>(rt: &R, line: &str) -> Result<Round> {
 
 /// How many nodes the document has at the top.
 fn nodes_of(json: &Value) -> u64 {
-    let content = json.get("content").and_then(Value::as_array);
-    content.map_or(0, |nodes| nodes.len() as u64)
+    match json.get("content") {
+        Some(Value::Array(nodes)) => nodes.len() as u64,
+        _ => 0,
+    }
 }
 
 /// Times reading a document from its JSON value. What was computed is the number of its tokens.
