@@ -167,5 +167,4 @@ node "$here/check.js" "$here/../crates/pm_program/out/pm_program" $((10 * tries)
 
 title "the word replay, milliseconds" "ours" "ProseMirror"
 node "$here/undos.js" "$here/../crates/pm_program/out/pm_program" 5000 1000 $tries
-node "$here/typing.js" "$here/../crates/pm_program/out/pm_program" 1000
-node "$here/typing.js" "$here/../crates/pm_program/out/pm_program" 2000
+for lines in 1000 10000 100000; do node "$here/typing.js" "$here/../crates/pm_program/out/pm_program" $lines; done
