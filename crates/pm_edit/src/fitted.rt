@@ -4,7 +4,9 @@ ghost use Rattle.pm_tokens.specs.Faults.{Valid};
 ghost use Rattle.pm_text.specs.Units.{utf16};
 ghost use Rattle.pm_node.specs.Trees.{node_tokens};
 ghost use Rattle.pm_schema.specs.Documents.{documents_of};
+ghost use Rattle.pm_resolve.specs.Places.{marks_at, inclusive_in};
 ghost use Rattle.pm_fit.specs.Fits.{fit_step};
+ghost use Rattle.pm_edit.specs.Nodes.{text_slice};
 ghost use Rattle.pm_edit.specs.Edits.{fitted, insert_text, delete, paste, insert_node};
 ghost use Rattle.pm_edit.specs.Ops.{Answers};
 
@@ -39,10 +41,7 @@ pub fn insert_text(
     if from == to && units.len() == 0 {
         return Err(EditRefusal::NotThere);
     }
-    let place = place_at(alloc, doc, from)?;
-    let marks = place.marks(alloc, schema)?;
-    let slice = text_slice(alloc, &marks, &units)?;
-    fit_in(alloc, schema, doc, from, to, &slice)
+    fit_text(alloc, schema, doc, from, to, &units)
 }
 
 /// Takes from..to out. `Range` comes exactly where not from <= to <= size, `NotThere` where the range is empty, and `NoFit`
@@ -105,6 +104,26 @@ pub fn insert_node(
     }
     let slice = node_slice(alloc, node)?;
     fit_in(alloc, schema, doc, pos, pos, &slice)
+}
+
+/// The step that fits a text in, with the marks at `from`, or `NoFit`.
+fn fit_text(
+    alloc: Global,
+    schema: &Schema,
+    doc: &Document,
+    from: u64,
+    to: u64,
+    units: &Units,
+) -> Result<Step, EditRefusal>
+    requires valid { Valid (documents_of schema.now.spec) doc.now }
+    requires order { from ≤ to }
+    requires within { to ≤ length doc.now.tokens }
+    ensures { Answers (fitted (fit_step schema.now doc.now from to (text_slice (marks_at (inclusive_in schema.now.spec) doc.now from) units.now))) result }
+{
+    let place = place_at(alloc, doc, from)?;
+    let marks = place.marks(alloc, schema)?;
+    let slice = text_slice(alloc, &marks, units)?;
+    fit_in(alloc, schema, doc, from, to, &slice)
 }
 
 /// The step that fits the slice in, or `NoFit`.
