@@ -3,28 +3,10 @@
 
 mod answer;
 mod call;
-#[cfg(test)]
-mod check_tests;
-#[cfg(test)]
-mod edit_tests;
 mod making;
-#[cfg(test)]
-mod rebasing_tests;
 mod replaying;
 #[cfg(test)]
-mod schema_line;
-#[cfg(test)]
-mod several_tests;
-#[cfg(test)]
 mod tests;
-#[cfg(test)]
-mod three_clients_tests;
-#[cfg(test)]
-mod tree_tests;
-#[cfg(test)]
-mod undo_table_tests;
-#[cfg(test)]
-mod undo_tests;
 mod words;
 
 use call::{Status, run};

@@ -1,5 +1,0 @@
-//! Tests of session files.
-#![tactic(auto)]
-
-#[cfg(test)]
-mod script;

@@ -1,0 +1,62 @@
+#!/bin/sh
+# Plays the sessions of tests/ and examples/ by the built program, and compares report and status.
+#
+#   tests/run.sh [PROGRAM]
+#
+# A case is NAME.session with NAME.out, the bytes that are wanted. NAME.words holds the words (else: replay), and
+# NAME.status the exit status (else: 0). A failed case is told with the first line that differs.
+# The last line is 'N passed, M failed', and the status is 1 where a case failed.
+top=$(cd "$(dirname "$0")/.." && pwd) || exit 2
+program=${1:-$top/crates/pm_program/out/pm_program}
+[ -x "$program" ] || { echo "tests: there is no program at $program; ./pm build makes it" >&2; exit 2; }
+got=$(mktemp) || exit 2
+trap 'rm -f "$got"' EXIT
+passed=0
+failed=0
+
+# Counts a case: its name, the status that came and the one that is wanted, and the file of the wanted output.
+judge() {
+  if [ "$2" = "$3" ] && cmp -s "$got" "$4"; then
+    passed=$((passed + 1))
+    return
+  fi
+  failed=$((failed + 1))
+  echo "tests: ${1#"$top"/}: status $2, wanted $3"
+  diff "$4" "$got" | head -n 4 | cut -c 1-160
+}
+
+for session in "$top"/tests/*/*.session "$top"/examples/*.session; do
+  name=${session%.session}
+  words=replay
+  [ -f "$name.words" ] && words=$(cat "$name.words")
+  status=0
+  [ -f "$name.status" ] && status=$(cat "$name.status")
+  # The words of a case are parted by blanks.
+  # shellcheck disable=SC2086
+  "$program" $words <"$session" >"$got" 2>/dev/null
+  judge "$session" $? "$status" "$name.out"
+done
+
+# Inputs at a limit are made here, since they are large: one byte more than an input may have, one op line more than a
+# session, and an op line that is one byte too long and one that is not.
+wanted=$(mktemp) || exit 2
+large=$(mktemp) || exit 2
+trap 'rm -f "$got" "$wanted" "$large"' EXIT
+head=$top/examples/first.session
+limit() {
+  echo "$2" >"$wanted"
+  "$program" check <"$large" >"$got" 2>/dev/null
+  judge "$1" $? 1 "$wanted"
+}
+blanks() { head -c "$1" /dev/zero | tr '\0' ' '; }
+blanks 67108865 >"$large"
+limit "an input of one byte too many" "refused 0 1"
+{ head -n 3 "$head" && yes '{"c":"ann","op":"push"}' | head -n 100001; } >"$large"
+limit "an op line too many" "refused 100004 4"
+{ head -n 3 "$head" && blanks 1048577; } >"$large"
+limit "an op line too long" "refused 4 3"
+{ head -n 3 "$head" && blanks 1048576; } >"$large"
+limit "an op line of blanks" "refused 4 5"
+
+echo "$passed passed, $failed failed"
+[ "$failed" -eq 0 ]
