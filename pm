@@ -1,14 +1,21 @@
-#!/bin/sh
-# Builds the program where it isn't built, and runs it with the given words.
-# Standard input and the exit status pass through.
+#!/usr/bin/env python3
+"""Builds the program where it is not built, and runs it with the given words.
 
-top=$(cd "$(dirname "$0")" && pwd) || exit 70
-crate=$top/crates/pm_program
-program=$crate/out/pm_program
+Each crate is proved in a room of its own: a copy of the crates that it stands on, under out/ at the top. Commands of
+rt in one tree would wait for each other, and in rooms they run side by side. What rt makes of a crate comes back to
+the crate's own out/ however its proof ends, so an interrupted build goes on where it stopped.
+"""
+import fcntl, os, re, shutil, signal, subprocess, sys, time
 
-help() {
-  cat <<'TXT'
-usage: ./pm WORDS < SESSION
+TOP = os.path.dirname(os.path.abspath(__file__))
+PROGRAM, ROOMS = "pm_program", f"{TOP}/out"
+MADE = f"{TOP}/crates/{PROGRAM}/out/{PROGRAM}"
+PARTS = ("src", "specs", "proofs")
+# The memory, in bytes, that one more check is likely to take.
+EACH = 3_000_000_000
+HELP = """usage: ./pm WORDS < SESSION      builds the program if it is missing or old, and runs it
+       ./pm build                builds it, and tells how far the build is
+       ./pm try WORDS < SESSION  runs the words at once, with nothing proved
 
 words
   check       write how many op lines the session has and how large its first document is
@@ -24,50 +31,222 @@ statuses
   70 the program could not be built
   127 the toolchain is missing
 
+A build proves the crates that the program stands on, as many side by side as there are processors and memory: it
+takes some 25 minutes on four processors the first time. PM_JOBS=N does N at a time. `try` takes about a minute.
 The session file and the report are described in docs/FORMATS.md, and examples/ has sessions to try.
-Other options: --help, --version.
-TXT
-}
+Other options: --help, --version."""
 
-need_toolchain() {
-  command -v rt >/dev/null 2>&1 && return
-  echo "pm: the command rt of the Rattle toolchain is not on the PATH; install the toolchain, then try again" >&2
-  exit 127
-}
 
-# The program is built where it is missing or older than a source.
-is_built() {
-  [ -x "$program" ] && [ -z "$(find "$top/crates.txt" "$top"/crates/*/src "$top"/crates/*/specs "$top"/crates/*/proofs \
-    -newer "$program" -type f -print 2>/dev/null | head -n 1)" ]
-}
+def say(text):
+    print(f"pm: {text}", file=sys.stderr, flush=True)
 
-build() {
-  need_toolchain
-  echo "pm: proving and building the program; the first time takes some minutes" >&2
-  log=$(mktemp) || exit 70
-  # The build ends by a run with no words, which tells the usage and ends with status 2.
-  (cd "$crate" && rt run </dev/null) >"$log" 2>&1
-  if [ $? -eq 2 ] && [ -x "$program" ] && grep -q '^usage: ' "$log"; then
-    touch "$program"
-  else
-    tail -n 20 "$log" >&2
-    echo "pm: the program could not be built" >&2
-    rm -f "$log"
-    exit 70
-  fi
-  rm -f "$log"
-}
 
-case "${1-}" in
-  --help) [ $# -eq 1 ] && { help; exit 0; } ;;
-  --version)
-    if [ $# -eq 1 ]; then
-      need_toolchain
-      echo "gezhufet $(cat "$top/VERSION")"
-      rt version
-      exit 0
-    fi ;;
-esac
+def need_toolchain():
+    if not shutil.which("rt"):
+        say("the command rt of the Rattle toolchain is not on the PATH; install the toolchain, then try again")
+        sys.exit(127)
 
-is_built || build
-exec "$program" "$@"
+
+def crates_below():
+    """Returns the crates that the program stands on and the program, lowest first, each with its own list of crates."""
+    with open(f"{TOP}/crates.txt", encoding="utf-8") as file:
+        rows = [line.partition("#")[0].partition(":") for line in file]
+    listed = {head.split()[0]: (head + ":" + deps).strip() for head, _, deps in rows if head.strip()}
+    uses = {name: [it for it in line.partition(":")[2].split() if it in listed] for name, line in listed.items()}
+    found = {}
+
+    def visit(name):
+        if name not in found:
+            for it in uses[name]:
+                visit(it)
+            found[name] = {it: listed[it] for dep in uses[name] for it in [*found[dep]]} | {name: listed[name]}
+
+    visit(PROGRAM)
+    return found
+
+
+def sources(name):
+    for part in PARTS:
+        for folder, _, files in os.walk(f"{TOP}/crates/{name}/{part}"):
+            yield from (f"{folder}/{it}" for it in files)
+
+
+def is_fresh():
+    if not os.access(MADE, os.X_OK):
+        return False
+    files = [f"{TOP}/crates.txt", *(file for name in crates_below() for file in sources(name))]
+    return max(map(os.path.getmtime, files)) < os.path.getmtime(MADE)
+
+
+def linked(one, other):
+    try:
+        os.link(one, other)
+    except OSError:
+        shutil.copy2(one, other)
+
+
+def enter(name, below):
+    """Makes the crate's room, moves the crate's out/ there, and returns the crate's folder in it."""
+    room = f"{ROOMS}/{name}"
+    os.makedirs(f"{room}/crates")
+    with open(f"{room}/crates.txt", "w", encoding="utf-8") as file:
+        file.write("\n".join(below.values()) + "\n")
+    for it in below:
+        for part in (*PARTS, *["out/rlib"] * (it != name)):
+            if os.path.isdir(f"{TOP}/crates/{it}/{part}"):
+                shutil.copytree(f"{TOP}/crates/{it}/{part}", f"{room}/crates/{it}/{part}", copy_function=linked)
+    inside = f"{room}/crates/{name}"
+    if os.path.isdir(f"{TOP}/crates/{name}/out"):
+        os.rename(f"{TOP}/crates/{name}/out", f"{inside}/out")
+    return inside
+
+
+def leave(name):
+    """Moves the crate's out/ back from its room, and removes the room."""
+    made, home = f"{ROOMS}/{name}/crates/{name}/out", f"{TOP}/crates/{name}/out"
+    if os.path.isdir(made) and not os.path.exists(home):
+        os.rename(made, home)
+    shutil.rmtree(f"{ROOMS}/{name}", ignore_errors=True)
+
+
+class Build:
+    def __init__(self, below):
+        self.below, self.left, self.done, self.running, self.failed = below, [*below], [], {}, []
+        self.size = {it: sum(map(os.path.getsize, sources(it))) for it in below}
+        self.start, self.lanes = time.time(), self.width()
+        self.is_bar = sys.stderr.isatty()
+
+    def width(self):
+        """Returns how many checks run at a time."""
+        given = os.environ.get("PM_JOBS", "")
+        with open("/proc/meminfo", encoding="utf-8") as file:
+            free = 1024 * int(re.search(r"MemAvailable:\s+(\d+)", file.read())[1])
+        return int(given) if given.isdigit() else max(min(len(os.sched_getaffinity(0)), free // EACH), 1)
+
+    def chain(self, name):
+        """Returns the work of the longest chain of crates that begins with this one."""
+        above = [self.chain(it) for it in self.left if it != name and name in self.below[it]]
+        return self.size[name] + max(above, default=0)
+
+    def begin(self):
+        """Starts what can start, first the crates with the longest chain above them. A crate gets the processors that no other waits for."""
+        ready = [it for it in self.left if all(dep == it or dep in self.done for dep in self.below[it])]
+        ready.sort(key=self.chain, reverse=True)
+        for at, name in enumerate(ready):
+            idle = self.lanes - sum(jobs for _, _, jobs in self.running.values())
+            if idle < 1 or self.failed:
+                return
+            jobs = min(4, max(1, idle // (len(ready) - at)))
+            # The longest chain decides when the build ends, so its crate gets two at least.
+            if self.lanes > 2 and all(self.chain(name) >= self.chain(it) for it in self.running):
+                jobs = max(jobs, 2)
+            inside = enter(name, self.below[name])
+            # A run with no words tells the usage, and ends with status 2.
+            verb = "run" if name == PROGRAM else "lib"
+            log = open(f"{ROOMS}/{name}/log", "w+", encoding="utf-8", errors="replace")
+            how = {"cwd": inside, "stdin": subprocess.DEVNULL, "stdout": log, "stderr": log}
+            self.left.remove(name)
+            self.running[name] = subprocess.Popen(["rt", verb, "--jobs", str(jobs)], **how), log, jobs
+
+    def end(self, name):
+        ran, log, _ = self.running.pop(name)
+        log.seek(0)
+        said = log.read().replace(f"{ROOMS}/{name}", TOP)
+        log.close()
+        leave(name)
+        is_usage = ran.returncode == 2 and os.access(MADE, os.X_OK) and re.search("^usage: ", said, re.M)
+        if is_usage if name == PROGRAM else ran.returncode == 0:
+            self.done.append(name)
+            self.show(name)
+        else:
+            self.failed.append(name)
+            self.clear()
+            lines = [it for it in said.splitlines() if not re.match(r"statements |fn \S+: proved$", it)]
+            print("\n".join(lines[-60:]), file=sys.stderr)
+            say(f"{name} is not proved: its message is above. The crates that are under way are finished first")
+
+    def clear(self):
+        if self.is_bar:
+            print("\r\033[K", end="", file=sys.stderr)
+
+    def show(self, proved=None):
+        done, to_go, took = len(self.done), len(self.left) + len(self.running), int(time.time() - self.start)
+        far = f"{done} of {len(self.below)} crates done, {to_go} to go, {took // 60} min {took % 60:02} s"
+        if self.is_bar:
+            full = 24 * done // len(self.below)
+            wide = shutil.get_terminal_size().columns - 1
+            line = f"pm: [{'#' * full}{'.' * (24 - full)}] {far}: {' '.join(self.running)}"
+            print(f"\r\033[K{line[:wide]}", end="", file=sys.stderr, flush=True)
+        elif proved:
+            say(f"{far}: {proved}")
+
+    def run(self):
+        try:
+            while (self.left or self.running) and not (self.failed and not self.running):
+                self.begin()
+                self.show()
+                time.sleep(0.3)
+                for name in [it for it, (ran, _, _) in self.running.items() if ran.poll() is not None]:
+                    self.end(name)
+        finally:
+            self.clear()
+            for ran, _, _ in self.running.values():
+                ran.terminate()
+                ran.wait()
+            for name in self.below:
+                leave(name)
+            shutil.rmtree(ROOMS, ignore_errors=True)
+        return not self.failed
+
+
+def build():
+    """Builds the program. Only one build works in a tree at a time, and rt waits for it where it locks the same folder."""
+    need_toolchain()
+    with_lock = os.open(f"{TOP}/crates/{PROGRAM}", os.O_RDONLY)
+    try:
+        fcntl.flock(with_lock, fcntl.LOCK_EX | fcntl.LOCK_NB)
+    except BlockingIOError:
+        say("waiting for another build in this folder to end")
+        fcntl.flock(with_lock, fcntl.LOCK_EX)
+    below = crates_below()
+    # A build that was killed has left its rooms.
+    for name in below:
+        leave(name)
+    work = Build(below)
+    say(f"proving {len(below)} crates, {work.lanes} at a time; what is proved already goes fast")
+    if not work.run():
+        say("the program could not be built")
+        sys.exit(70)
+    os.utime(MADE)
+    took = int(time.time() - work.start)
+    say(f"built in {took // 60} min {took % 60:02} s")
+    os.close(with_lock)
+
+
+def main(words):
+    if words == ["--help"]:
+        print(HELP)
+    elif words == ["--version"]:
+        need_toolchain()
+        with open(f"{TOP}/VERSION", encoding="utf-8") as file:
+            print(f"gezhufet {file.read().strip()}", flush=True)
+        subprocess.run(["rt", "version"], check=False)
+    elif words[:1] == ["try"]:
+        need_toolchain()
+        say("nothing is proved in this run; it takes about a minute")
+        os.chdir(f"{TOP}/crates/{PROGRAM}")
+        os.execvp("rt", ["rt", "try", "--", *words[1:]])
+    elif words == ["build"]:
+        say("the program is built") if is_fresh() else build()
+    else:
+        if not is_fresh():
+            build()
+        os.execv(MADE, [MADE, *words])
+
+
+if __name__ == "__main__":
+    signal.signal(signal.SIGTERM, lambda *_: sys.exit(143))
+    try:
+        main(sys.argv[1:])
+    except KeyboardInterrupt:
+        sys.exit(130)

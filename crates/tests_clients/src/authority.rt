@@ -1,6 +1,6 @@
 //! The authority over a number that may not pass a limit, through the bound of a change.
 use crate::number::{Reason, Set};
-use pm_authority::{Answer, Authority, Message, Name, Named, Request, apply_all, copy_steps};
+use pm_authority::{Answer, Authority, Message, Name, Named, Request};
 use pm_change::Machine;
 use pm_list::Listed;
 use std::alloc::{AllocError, Global};
@@ -75,19 +75,6 @@ fn a_submission_is_taken_whole_or_not_at_all(rt: HostRuntime) -> Result<(), Allo
     let late = authority.present(alloc, &limit, 7, &message)?;
     assert!(rt; matches!(late, Answer::WrongVersion { length: 2 }));
     assert_eq!(rt; state(&authority), (40, 100, 2));
-    Ok(())
-}
-
-#[test]
-fn steps_are_copied_and_run(rt: HostRuntime) -> Result<(), AllocError> {
-    let alloc = rt.alloc();
-    let Message::Submit { version: _, steps } = submit(alloc, 0, &[5, 6])? else {
-        return Err(AllocError);
-    };
-    let copies = copy_steps(alloc, steps.as_slice())?;
-    assert!(rt; copies.len() == 2);
-    let last = apply_all(alloc, &100, &1, copies.as_slice());
-    assert!(rt; matches!(last, Ok(6)));
     Ok(())
 }
 

@@ -6,6 +6,4 @@ mod authority;
 #[cfg(test)]
 mod client;
 #[cfg(test)]
-mod client_undo;
-#[cfg(test)]
 mod number;

@@ -1,32 +1,19 @@
-//! Rows of single calls, with ample memory. The types are those of a small schema: 0 doc, 1 paragraph, 2 blockquote,
-//! 3 heading, 4 bullet_list, 5 list_item, 6 image, 7 text.
+//! Rows of single calls, with ample memory. The types 6 and 7 are inline.
 ghost use Rattle.std.specs.Prelude.{◌<◌, length};
 
 use pm_auto::{Auto, AutoError, Expr, State, TypeId};
-use pm_list::Listed;
 use std::alloc::{AllocError, Global};
 use std::test::Fail;
 
 const INLINE: [bool; 8] = [false, false, false, false, false, false, true, true];
-
-const BLOCKS: [bool; 8] = [true, true, true, true, true, true, false, false];
 
 fn block(alloc: Global) -> Result<Expr, AllocError> {
     let all = vec![in alloc; Expr::One(1), Expr::One(2), Expr::One(3), Expr::One(4)]?;
     Ok(Expr::Choice(all))
 }
 
-fn inline(alloc: Global) -> Result<Expr, AllocError> {
-    let all = vec![in alloc; Expr::One(6), Expr::One(7)]?;
-    Ok(Expr::Choice(all))
-}
-
 fn plus(alloc: Global, inner: Expr) -> Result<Expr, AllocError> {
     Ok(Expr::Plus(Box::new(alloc, inner)?))
-}
-
-fn star(alloc: Global, inner: Expr) -> Result<Expr, AllocError> {
-    Ok(Expr::Star(Box::new(alloc, inner)?))
 }
 
 fn range(alloc: Global, inner: Expr, low: u32, high: Option<u32>) -> Result<Expr, AllocError> {
@@ -35,29 +22,6 @@ fn range(alloc: Global, inner: Expr, low: u32, high: Option<u32>) -> Result<Expr
 
 fn build(alloc: Global, expr: Expr) -> Result<Auto, AutoError> {
     Auto::build(alloc, &expr, INLINE.as_slice())
-}
-
-/// The automaton of each type.
-fn schema(alloc: Global) -> Result<Vec<Auto>, AutoError> {
-    let item = Expr::Seq(vec![in alloc; Expr::One(1), star(alloc, block(alloc)?)?]?);
-    let mut autos = Vec::new(alloc);
-    autos.push(build(alloc, plus(alloc, block(alloc)?)?)?)?;
-    autos.push(build(alloc, star(alloc, inline(alloc)?)?)?)?;
-    autos.push(build(alloc, plus(alloc, block(alloc)?)?)?)?;
-    autos.push(build(alloc, star(alloc, inline(alloc)?)?)?)?;
-    autos.push(build(alloc, plus(alloc, Expr::One(5))?)?)?;
-    autos.push(build(alloc, item)?)?;
-    autos.push(build(alloc, Expr::Empty)?)?;
-    autos.push(build(alloc, Expr::Empty)?)?;
-    Ok(autos)
-}
-
-/// Whether the answer is this list.
-fn is_list(answer: &Option<Listed<TypeId>>, list: &[TypeId]) -> bool {
-    match answer {
-        Some(found) => found.as_slice() == list,
-        None => false,
-    }
 }
 
 /// Whether the list leads from the state to a valid end.
@@ -120,52 +84,6 @@ fn a_part_without_a_list_leaves_no_place(rt: HostRuntime) -> Result<(), Fail> {
     assert!(rt; edges.len() == 1);
     assert!(rt; edges[0].kind == 2);
     assert!(rt; accepts(&auto, auto.start(), [2, 2].as_slice()));
-    Ok(())
-}
-
-#[test]
-fn the_small_schema_is_filled_and_wrapped(rt: HostRuntime) -> Result<(), Fail> {
-    let alloc = rt.alloc();
-    let autos = schema(alloc)?;
-    assert!(rt; autos.len() == 8);
-    let doc = &autos[0];
-    let start = doc.start();
-    assert!(rt; !doc.valid_end(start));
-    assert!(rt;
-        is_list(
-            &doc.fill(alloc, start, [].as_slice(), true, BLOCKS.as_slice())?,
-            [1].as_slice()
-        )
-    );
-    assert!(rt;
-        doc.fill(alloc, start, [5].as_slice(), false, BLOCKS.as_slice())?
-            .is_none()
-    );
-    let wrap = BLOCKS.as_slice();
-    assert!(rt;
-        is_list(
-            &doc.wrapping(alloc, start, 7, autos.as_slice(), wrap)?,
-            [1].as_slice()
-        )
-    );
-    assert!(rt;
-        is_list(
-            &doc.wrapping(alloc, start, 5, autos.as_slice(), wrap)?,
-            [4].as_slice()
-        )
-    );
-    assert!(rt;
-        is_list(
-            &doc.wrapping(alloc, start, 1, autos.as_slice(), wrap)?,
-            [].as_slice()
-        )
-    );
-    assert!(rt;
-        doc.wrapping(alloc, start, 0, autos.as_slice(), wrap)?
-            .is_none()
-    );
-    assert!(rt; autos[1].compatible(&autos[3]));
-    assert!(rt; !autos[2].compatible(&autos[4]));
     Ok(())
 }
 

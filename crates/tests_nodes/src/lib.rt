@@ -1,11 +1,9 @@
-//! Tests of trees of nodes, and of the heads of session files.
+//! Tests of trees of nodes.
 #![tactic(auto)]
 
 #[cfg(test)]
 mod children;
 #[cfg(test)]
 mod filled;
-#[cfg(test)]
-mod head;
 #[cfg(test)]
 mod node;

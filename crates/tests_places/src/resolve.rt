@@ -146,26 +146,6 @@ fn a_place_tells_its_path(rt: HostRuntime) -> Result<(), Fail> {
     Ok(())
 }
 
-#[test]
-fn each_level_counts_its_own_children(rt: HostRuntime) -> Result<(), Fail> {
-    let alloc = rt.alloc();
-    let quote = vec![in alloc; paragraph(alloc, "ac")?, paragraph(alloc, "a")?]?;
-    let doc = document(alloc, block(alloc, QUOTE, quote)?)?;
-    let place = resolve(alloc, &doc, 7)?;
-    assert!(rt; tells(&place, 0, 0, 0, 9));
-    assert!(rt; tells(&place, 1, 1, 1, 8));
-    assert!(rt; tells(&place, 2, 1, 6, 7));
-    assert!(rt; doc.size() == 9);
-    assert!(rt; place.shared_depth(6) == 2);
-    assert!(rt; place.shared_depth(3) == 1);
-    assert!(rt; place.shared_depth(9) == 0);
-    let between = resolve(alloc, &doc, 5)?;
-    assert!(rt; between.depth() == 1);
-    assert!(rt; tells(&between, 1, 1, 1, 8));
-    assert!(rt; tells(&resolve(alloc, &doc, 9)?, 0, 1, 0, 9));
-    Ok(())
-}
-
 /// The letters of a paragraph, a position, and a letter with the marks there.
 const MARKS: &str = ",1,-;l,1,-;l,2,-;ll,2,l;i,1,i;ia,2,i;ai,2,-;lb,2,l;bi,2,i";
 

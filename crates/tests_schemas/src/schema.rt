@@ -2,13 +2,10 @@
 //! 4 bullet_list, 5 list_item, 6 image, 7 text; its marks are 0 link, 1 em, 2 strong, 3 code.
 ghost use Rattle.std.specs.Prelude.{◌<◌, length};
 
-use pm_auto::{AutoError, Expr};
+use pm_auto::Expr;
 use pm_list::Listed;
 use pm_schema::laws::content_decides;
-use pm_schema::{
-    AnyType, AttrError, AttrSpec, AttrSpecs, Attrs, MarkSpec, NodeSpec, Schema, SchemaError,
-    SchemaSpec,
-};
+use pm_schema::{AttrSpec, AttrSpecs, MarkSpec, NodeSpec, Schema, SchemaSpec};
 use pm_value::{Text, Value};
 use std::alloc::{AllocError, Global};
 use std::test::Fail;
@@ -166,53 +163,6 @@ fn small(alloc: Global) -> Result<Schema, Fail> {
     )
 }
 
-#[test]
-fn a_schema_without_its_types_is_refused(rt: HostRuntime) -> Result<(), Fail> {
-    let alloc = rt.alloc();
-    let only_doc = [("doc", "")];
-    let full_text = [("doc", ""), ("text", "doc+")];
-    for (rows, top, want) in [
-        (NODES.as_slice(), "page", SchemaError::NoTop),
-        (NODES.as_slice(), "text", SchemaError::NoTop),
-        (only_doc.as_slice(), "doc", SchemaError::NoText),
-        (full_text.as_slice(), "doc", SchemaError::TextAttrs),
-    ] {
-        let spec = spec(alloc, rows, top)?;
-        assert!(rt; Schema::build(alloc, spec).err() == Some(want));
-    }
-    Ok(())
-}
-
-#[test]
-fn a_schema_with_a_faulty_type_is_refused(rt: HostRuntime) -> Result<(), Fail> {
-    let alloc = rt.alloc();
-    for (name, words, marks, want) in [
-        ("heading", "", None, SchemaError::DoubleName),
-        ("note", "", Some("em heading"), SchemaError::UnknownMark),
-        (
-            "note",
-            "paragraph | text",
-            None,
-            SchemaError::Content(AutoError::Mixed),
-        ),
-        ("note", "text+", None, SchemaError::DeadEnd { kind: 8 }),
-        ("note", "note+", None, SchemaError::DeadEnd { kind: 8 }),
-    ] {
-        let mut spec = spec(alloc, &NODES, "doc")?;
-        spec.nodes.push(node(alloc, name, words, marks)?)?;
-        assert!(rt; Schema::build(alloc, spec).err() == Some(want));
-    }
-    for (name, excludes, want) in [
-        ("heading", None, SchemaError::DoubleName),
-        ("up", Some("em _"), SchemaError::UnknownMark),
-    ] {
-        let mut spec = spec(alloc, &NODES, "doc")?;
-        spec.marks.push(mark(alloc, name, excludes)?)?;
-        assert!(rt; Schema::build(alloc, spec).err() == Some(want));
-    }
-    Ok(())
-}
-
 /// Whether the type is inline, a leaf, an atom, may be made by itself, and may be put around others.
 fn flags(schema: &Schema, kind: usize) -> [bool; 5]
     requires { kind < length schema.now.spec.nodes }
@@ -242,29 +192,6 @@ fn types_are_looked_up(rt: HostRuntime) -> Result<(), Fail> {
     for (kind, row) in rows.iter().enumerate() {
         if kind < schema.node_count() {
             assert!(rt; flags(&schema, kind) == *row);
-        }
-    }
-    Ok(())
-}
-
-#[test]
-fn names_are_looked_up(rt: HostRuntime) -> Result<(), Fail> {
-    let alloc = rt.alloc();
-    let schema = small(alloc)?;
-    for (kind, (name, _)) in NODES.iter().enumerate() {
-        assert!(rt; schema.node_named(name) == Some(kind));
-        assert!(rt; schema.mark_named(name).is_none());
-        if kind < schema.node_count() {
-            assert!(rt; schema.node_name(kind) == *name);
-        }
-    }
-    assert!(rt; schema.mark_count() == 4);
-    for (mark, name) in ["link", "em", "strong", "code"].iter().enumerate() {
-        assert!(rt; schema.mark_named(name) == Some(mark));
-        assert!(rt; schema.node_named(name).is_none());
-        if mark < schema.mark_count() {
-            assert!(rt; schema.mark_name(mark) == *name);
-            assert!(rt; schema.inclusive(mark) == (mark > 0));
         }
     }
     Ok(())
@@ -340,56 +267,5 @@ fn marks_exclude_by_names_and_groups(rt: HostRuntime) -> Result<(), Fail> {
     ] {
         assert!(rt; allowed(&schema, name) == Some(want));
     }
-    Ok(())
-}
-
-/// The number 3 under this name, or nothing without a name.
-fn given(alloc: Global, name: &str) -> Result<Vec<(String, Value)>, AllocError> {
-    if name.is_empty() {
-        return Ok(Vec::new(alloc));
-    }
-    Ok(vec![in alloc; (String::from_str(alloc, name)?, Value::Int(3))]?)
-}
-
-/// The attributes of a node of the type with what is given.
-fn attrs_of(
-    alloc: Global,
-    schema: &Schema,
-    kind: &str,
-    name: &str,
-) -> Result<Result<Attrs, AttrError>, Fail> {
-    let kind = schema.node_named(kind).ok_or("no such type")?;
-    let given = given(alloc, name)?;
-    Ok(schema.attrs_for(alloc, AnyType::Node(kind), given))
-}
-
-#[test]
-fn attributes_take_what_is_given_or_the_default(rt: HostRuntime) -> Result<(), Fail> {
-    let alloc = rt.alloc();
-    let schema = small(alloc)?;
-    for (kind, name, want) in [
-        ("image", "", AttrError::Missing { attr: 0 }),
-        ("image", "x", AttrError::Missing { attr: 0 }),
-        ("heading", "x", AttrError::Unknown { index: 0 }),
-    ] {
-        assert!(rt; attrs_of(alloc, &schema, kind, name)?.err() == Some(want));
-    }
-    for (name, level) in [("", 1), ("level", 3)] {
-        let attrs = attrs_of(alloc, &schema, "heading", name)??;
-        assert!(rt; attrs.values().len() == 1 && attrs.values()[0] == Value::Int(level));
-    }
-    Ok(())
-}
-
-#[test]
-fn declared_attributes_are_told(rt: HostRuntime) -> Result<(), Fail> {
-    let alloc = rt.alloc();
-    let schema = small(alloc)?;
-    let heading = AnyType::Node(schema.node_named("heading").ok_or("no heading")?);
-    let link = AnyType::Mark(schema.mark_named("link").ok_or("no link")?);
-    assert!(rt; schema.attr_count(heading) == 1);
-    assert!(rt; schema.attr_name(heading, 0) == "level");
-    assert!(rt; schema.attr_count(link) == 1);
-    assert!(rt; schema.attr_name(link, 0) == "href");
     Ok(())
 }

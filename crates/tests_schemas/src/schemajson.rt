@@ -62,17 +62,3 @@ fn tells_why_types_make_no_schema(rt: HostRuntime) -> Result<(), Fail> {
     }
     Ok(())
 }
-
-/// ProseMirror's basic schema with its lists, in this form.
-const BASIC: &str =
-    "{\"nodes\":[{\"name\":\"doc\",\"content\":\"block+\"},{\"name\":\"paragraph\",\"content\":\"inline*\",\"group\":\"block\"},{\"name\":\"blockquote\",\"content\":\"block+\",\"group\":\"block\"},{\"name\":\"horizontal_rule\",\"group\":\"block\"},{\"name\":\"heading\",\"content\":\"inline*\",\"group\":\"block\",\"attrs\":{\"level\":{\"default\":1}}},{\"name\":\"code_block\",\"content\":\"text*\",\"group\":\"block\",\"marks\":\"\"},{\"name\":\"text\",\"group\":\"inline\"},{\"name\":\"image\",\"group\":\"inline\",\"inline\":true,\"attrs\":{\"src\":{},\"alt\":{\"default\":null},\"title\":{\"default\":null}}},{\"name\":\"hard_break\",\"group\":\"inline\",\"inline\":true},{\"name\":\"ordered_list\",\"content\":\"list_item+\",\"group\":\"block\",\"attrs\":{\"order\":{\"default\":1}}},{\"name\":\"bullet_list\",\"content\":\"list_item+\",\"group\":\"block\"},{\"name\":\"list_item\",\"content\":\"paragraph block*\"}],\"marks\":[{\"name\":\"link\",\"attrs\":{\"href\":{},\"title\":{\"default\":null}},\"inclusive\":false},{\"name\":\"em\"},{\"name\":\"strong\"},{\"name\":\"code\"}]}";
-
-#[test]
-fn accepts_the_basic_schema_with_lists(rt: HostRuntime) -> Result<(), Fail> {
-    let alloc = rt.alloc();
-    let json = Value::from_str(alloc, BASIC)?;
-    let schema = read_schema(alloc, &json)?;
-    assert!(rt; schema.node_named("list_item") == Some(11));
-    assert!(rt; schema.mark_named("code") == Some(3));
-    Ok(())
-}

@@ -1,4 +1,0 @@
-use Rattle.tests_edits.proofs.sample.+write.Given as goal
-
-abbrev pub decreases-write : goal.decreases-write
-decreases-write l = l.levels
