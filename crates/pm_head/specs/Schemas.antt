@@ -3,8 +3,7 @@ use Rattle.std.specs.Prelude.{◌≡◌, ℕ, List, Some, Result, Ok, Err}
 use Rattle.serde_json.specs.Data.{Data}
 use Rattle.pm_schema.specs.declared.schema.Schema.{Schema}
 use Rattle.pm_schemajson.specs.declared.error.SchemaReadError.{SchemaReadError}
-use Rattle.pm_schemajson.specs.Contents.{schema_of}
-use Rattle.pm_schemajson.specs.Views.{types_of_spec, IsFault}
+use Rattle.pm_schemajson.specs.Views.{IsFault, IsSchemaOf}
 use Rattle.pm_head.specs.Codes.{schema_code}
 use Rattle.pm_head.specs.Lines.{json_line}
 
@@ -13,9 +12,9 @@ abbrev pub OfValue : {X : Type 0} → (Data → Result X ℕ → Type 0) → Res
 OfValue P (Ok d) r = P d r
 OfValue P (Err code) r = r ≡ Err code
 
--- the schema that the value writes, or the code of its first fault
+-- the schema that is built of the types which the value writes, or the code of its first fault
 abbrev pub SchemaIs : Data → Result Schema ℕ → Type 0
-SchemaIs d (Ok s) = schema_of d ≡ Ok (types_of_spec s.spec)
+SchemaIs d (Ok s) = IsSchemaOf d s
 SchemaIs d (Err code) = (e : SchemaReadError) × IsFault d e × (schema_code e ≡ Some code)
 
 -- line 1

@@ -10,3 +10,4 @@ pub mod Attrs
 pub mod Generated
 pub mod Shared
 pub mod Refusals
+pub mod Built

@@ -4,6 +4,7 @@ use Rattle.std.specs.List.{list_any, list_all}
 use Rattle.std.specs.Str.{bytes_eq}
 use Rattle.pm_auto.specs.declared.error.AutoError.{AutoError}
 use Rattle.pm_auto.specs.declared.error.AutoError.TheVariants.{Mixed, TooWide}
+use Rattle.pm_auto.specs.declared.error.AutoError.TheVariants as auto
 use Rattle.pm_auto.specs.Built.{Is_fault}
 use Rattle.pm_schema.specs.declared.spec.NodeSpec.{NodeSpec}
 use Rattle.pm_schema.specs.declared.spec.SchemaSpec.{SchemaSpec}
@@ -73,13 +74,15 @@ pub record FirstFault (s : SchemaSpec) (e : AutoError) : Type 0 where
   pub fault : Is_fault (node_at s kind).content (inline_table s) e
   pub before : (j : ℕ) → j < kind → HasAutomaton s j
 
--- why there is no schema; want of memory at any time
+-- why there is no schema; want of memory at any time, and never as a fault of content
 abbrev pub IsRefused : SchemaSpec → SchemaError → Type 0
 IsRefused s NoTop = has_top s ≡ false
 IsRefused s NoText = (has_top s ≡ true) × (has_text s ≡ false)
 IsRefused s TextAttrs = (has_top s ≡ true) × (has_text s ≡ true) × (is_plain_text s ≡ false)
 IsRefused s DoubleName = (has_types s ≡ true) × (has_double_name s ≡ true)
 IsRefused s UnknownMark = (has_types s ≡ true) × (has_double_name s ≡ false) × (knows_marks s ≡ false)
-IsRefused s (Content e) = IsNamed s × FirstFault s e
+IsRefused s (Content Mixed) = IsNamed s × FirstFault s Mixed
+IsRefused s (Content TooWide) = IsNamed s × FirstFault s TooWide
+IsRefused s (Content auto.NoMemory) = ⊥
 IsRefused s (DeadEnd k) = IsNamed s × HasAutomata s × FirstDeadEnd s.nodes k
 IsRefused s NoMemory = Unit {0}

@@ -1,8 +1,8 @@
 //! Building a schema.
-ghost use Rattle.std.specs.Prelude.{◌≡◌, length, map, IfOk, IfErr, OnOk};
+ghost use Rattle.std.specs.Prelude.{◌≡◌, map, IfOk, IfErr};
 ghost use Rattle.pm_schema.specs.Made.{can_wrap};
-ghost use Rattle.pm_schema.specs.Generated.{AutosOf, AllFinishing, IsGeneratable};
-ghost use Rattle.pm_schema.specs.Refusals.{HasAutomata, IsNamed, IsRefused};
+ghost use Rattle.pm_schema.specs.Built.{IsBuilt};
+ghost use Rattle.pm_schema.specs.Refusals.{IsRefused};
 
 use crate::ends::{build_autos, check_ends};
 use crate::error::SchemaError;
@@ -37,12 +37,7 @@ impl Schema {
     /// with the first type that has a state from which no generatable types lead to a valid end.
     pub fn build(alloc: Global, spec: SchemaSpec) -> Result<Schema, SchemaError>
         ensures spec { IfOk result (λ s. s.spec ≡ spec) }
-        ensures named { OnOk result (IsNamed spec) }
-        ensures full { IfOk result (λ s. length s.autos ≡ length spec.nodes) }
-        ensures automata { IfOk result (λ s. AutosOf spec.nodes s.autos) }
-        ensures have { OnOk result (HasAutomata spec) }
-        ensures generatable { IfOk result (λ s. IsGeneratable spec.nodes s.generatable) }
-        ensures no_dead_end { IfOk result (λ s. AllFinishing s.generatable s.autos) }
+        ensures built { IfOk result IsBuilt }
         ensures refused { IfErr result (IsRefused spec) }
     {
         let (top, text) = find_types(&spec)?;

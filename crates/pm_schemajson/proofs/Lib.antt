@@ -1,3 +1,4 @@
 mod Ascii
 mod Fronts
 mod Unbuilt
+mod Refusing

@@ -8,6 +8,9 @@ use Rattle.pm_schema.specs.declared.spec.NodeSpec.{NodeSpec}
 use Rattle.pm_schema.specs.declared.spec.MarkSpec.{MarkSpec}
 use Rattle.pm_schema.specs.declared.spec.SchemaSpec.{SchemaSpec}
 use Rattle.pm_schema.specs.declared.error.SchemaError.{SchemaError}
+use Rattle.pm_schema.specs.declared.error.SchemaError.TheVariants as build
+use Rattle.pm_schema.specs.declared.schema.Schema.{Schema as BuiltSchema}
+use Rattle.pm_schema.specs.Built.{IsBuilt}
 use Rattle.pm_schema.specs.Refusals.{IsRefused}
 use Rattle.pm_schemajson.specs.declared.kinds.NodeText.{NodeText}
 use Rattle.pm_schemajson.specs.declared.error.SchemaReadError.{SchemaReadError}
@@ -44,14 +47,20 @@ mark_types ms = map mark_type ms
 abbrev pub types_of_spec : SchemaSpec → Types Tree
 types_of_spec s = record { nodes = node_types s.nodes; marks = mark_types s.marks; top = s.top }
 
+-- the schema is built of the types that this JSON writes
+abbrev pub IsSchemaOf : Data → BuiltSchema → Type 0
+IsSchemaOf d s = (schema_of d ≡ Ok (types_of_spec s.spec)) × IsBuilt s
+
 -- types that this JSON writes, of which no schema can be built
 pub record Refused (d : Data) (e : SchemaError) : Type 0 where
   pub spec : SchemaSpec
   pub written : schema_of d ≡ Ok (types_of_spec spec)
   pub refused : IsRefused spec e
 
--- Why a JSON value is no schema: a fault of its reading, or what it writes is refused; or memory ran out.
+-- Why a JSON value is no schema: a fault of its reading, or what it writes is refused; or memory ran out,
+-- which no fault carries.
 abbrev pub IsFault : Data → SchemaReadError → Type 0
+IsFault d (Schema build.NoMemory) = ⊥
 IsFault d (Schema e) = Refused d e
 IsFault d NoMemory = Unit {0}
 IsFault d f = schema_of d ≡ Err f

@@ -3,7 +3,7 @@ ghost use Rattle.std.specs.Prelude.{◌≡◌, Ok, IfOk, IfErr};
 ghost use Rattle.serde_json.specs.View.{view};
 ghost use Rattle.pm_schemajson.specs.Answers.{Gives};
 ghost use Rattle.pm_schemajson.specs.Contents.{schema_of};
-ghost use Rattle.pm_schemajson.specs.Views.{types_of_spec, IsFault};
+ghost use Rattle.pm_schemajson.specs.Views.{types_of_spec, IsFault, IsSchemaOf};
 
 use crate::error::{Field, SchemaReadError};
 use crate::exprs::contents;
@@ -25,7 +25,7 @@ use std::alloc::Global;
 /// a field is absent or of another kind, `Name` at an ill-formed name in `name` or `group`, `Attr` at a default that is no
 /// value. Then `Expr` at the first node type whose content is no expression. Then `Schema`, where the types make no schema.
 pub fn read_schema(alloc: Global, json: &Value) -> Result<Schema, SchemaReadError>
-    ensures built { IfOk result (λ s. schema_of (view json.now) ≡ Ok (types_of_spec s.spec)) }
+    ensures built { IfOk result (IsSchemaOf (view json.now)) }
     ensures fault { IfErr result (IsFault (view json.now)) }
 {
     let spec = read_spec(alloc, json)?;
