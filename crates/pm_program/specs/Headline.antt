@@ -30,3 +30,12 @@ Silent Usage old new = new ≡ old
 Silent ReadFault old new = new ≡ old
 Silent WriteFault old new = ⊤
 Silent NoMemory old new = new ≡ old
+
+-- the number with which the program ends
+abbrev pub number_of : Status → ℕ
+number_of Done = 0
+number_of SessionRefused = 1
+number_of Usage = 2
+number_of ReadFault = 3
+number_of WriteFault = 4
+number_of NoMemory = 5

@@ -1,5 +1,6 @@
 -- What is written for an input, and the status that says so.
-use Rattle.std.specs.Prelude.{◌≡◌, ◌≤◌, ◌⊎◌, ℕ, List, length, take, codes, decimal, Option, Result, Ok, Err}
+use Rattle.std.specs.Prelude.{◌≡◌, ◌+◌, ◌≤◌, ◌⊎◌, ℕ, List, length, take, codes, decimal, Option, Result, Ok, Err}
+use Rattle.std.specs.Io.KnownBytes.{Consumes}
 use Rattle.pm_io.specs.Moves.{Adds}
 use Rattle.pm_script.specs.declared.session.Session.{Session}
 use Rattle.pm_script.specs.Sessions.{SessionIs}
@@ -63,3 +64,7 @@ Answered asked input NoMemory old new = new ≡ old
 -- the statuses with which an output is written whole
 abbrev pub IsAnswer : Status → Type 0
 IsAnswer status = (status ≡ Done) ⊎ (status ≡ SessionRefused)
+
+-- one byte more than the limit of an input was read from a source
+abbrev pub IsPastLimit : Option (List ℕ) → Option (List ℕ) → Type 0
+IsPastLimit old new = (bytes : List ℕ) × Consumes old new bytes × (length bytes ≡ 67108864 + 1)

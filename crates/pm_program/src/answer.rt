@@ -1,9 +1,10 @@
 //! What is written for an input.
-ghost use Rattle.std.specs.Prelude.{◌≡◌, ◌↔◌, ℕ, List, codes, decimal, string_bytes, IfOk, IsErrOf, Some};
+ghost use Rattle.std.specs.Prelude.{◌≡◌, ◌↔◌, ◌⊎◌, ℕ, List, codes, decimal, string_bytes, IfOk, IsErrOf, Some};
+ghost use Rattle.std.specs.Io.KnownBytes.{IsAtEnd};
 ghost use Rattle.pm_io.specs.Faults.{Rose};
 ghost use Rattle.pm_report.specs.Words.{◌&◌, line};
 ghost use Rattle.pm_script.specs.declared.session.Session.{Session};
-ghost use Rattle.pm_program.specs.Output.{IsOutput, IsAnswer, counts_of, refusal};
+ghost use Rattle.pm_program.specs.Output.{IsOutput, IsAnswer, IsPastLimit, counts_of, refusal};
 ghost use Rattle.pm_program.specs.Playing.{report_of};
 ghost use Rattle.pm_script.specs.Held.{Holds};
 
@@ -34,7 +35,10 @@ pub fn answer_of<R: Source>(
         → IsOutput command input (string_bytes a.text) a.status) }
     ensures answers { IfOk result (λ a. IsAnswer a.status) }
     ensures fault { IsErrOf result ReadError.ReadFault → Rose (R.faults source.old) (R.faults source.new) }
+    ensures no_fault { IsErrOf result ReadError.ReadFault ⊎ (R.faults source.new ≡ R.faults source.old) }
     ensures read { IsErrOf result ReadError.TooLong → ⊥ }
+    ensures to_end { IfOk result (λ a. IsAtEnd (R.left source.new)
+        ⊎ ((a.status ≡ Status.SessionRefused) × IsPastLimit (R.left source.old) (R.left source.new))) }
 {
     match read_all(alloc, source, MAX_INPUT) {
         Ok(input) => Ok(answer_to(alloc, command, &input)?),

@@ -1,11 +1,12 @@
 //! The top call: words and a source in, a status and a sink out.
 ghost use Rattle.std.specs.Prelude.{◌≡◌, ◌⊎◌, ◌↔◌, ℕ, List, None, Some, map, string_bytes};
+ghost use Rattle.std.specs.Io.KnownBytes.{IsAtEnd};
 ghost use Rattle.pm_io.specs.Faults.{Rose};
 ghost use Rattle.pm_program.specs.Words.{command_of};
 ghost use Rattle.pm_program.specs.declared.words.Command.{Command};
-ghost use Rattle.pm_program.specs.Output.{IsAnswer, Answered};
+ghost use Rattle.pm_program.specs.Output.{IsAnswer, Answered, IsPastLimit};
 ghost use Rattle.pm_program.specs.Sounds.{AllSound};
-ghost use Rattle.pm_program.specs.Headline.{Writes, Agrees, Silent};
+ghost use Rattle.pm_program.specs.Headline.{Writes, Agrees, Silent, number_of};
 
 use crate::answer::{Answer, answer_of};
 use crate::words::{Command, command_of};
@@ -29,6 +30,22 @@ pub enum Status {
     NoMemory,
 }
 
+impl Status {
+    /// The number with which the program ends: 0 to 5, in the order above.
+    pub fn number(self) -> u8
+        ensures { result ≡ number_of self }
+    {
+        match self {
+            Status::Done => 0,
+            Status::SessionRefused => 1,
+            Status::Usage => 2,
+            Status::ReadFault => 3,
+            Status::WriteFault => 4,
+            Status::NoMemory => 5,
+        }
+    }
+}
+
 /// Does what the words say, with a gate that is asked before each call of a client that has a thread
 /// of its own. There is no such client yet, so that the words are handed to `plain`.
 pub fn run<R: Source, W: Sink, G: Gate + Sync>(
@@ -45,11 +62,15 @@ pub fn run<R: Source, W: Sink, G: Gate + Sync>(
     ensures output { (asked : Command) (input : List ℕ) → command_of (map string_bytes words.now) ≡ Some asked
         → R.left source.old ≡ Some input
         → Answered asked input result (W.written sink.old) (W.written sink.new) }
-    ensures sound { (input : List ℕ) → R.left source.old ≡ Some input → AllSound input }
+    ensures sound { (input : List ℕ) → AllSound input }
     ensures read_fault { result ≡ Status.ReadFault → Rose (R.faults source.old) (R.faults source.new) }
     ensures write_fault { result ≡ Status.WriteFault → Rose (W.faults sink.old) (W.faults sink.new) }
-    ensures complete { (asked : Command) (input : List ℕ) → command_of (map string_bytes words.now) ≡ Some asked
-        → R.left source.old ≡ Some input
+    ensures no_read_fault { (result ≡ Status.ReadFault) ⊎ (R.faults source.new ≡ R.faults source.old) }
+    ensures no_write_fault { (result ≡ Status.WriteFault) ⊎ (W.faults sink.new ≡ W.faults sink.old) }
+    ensures read_whole { result ≡ Status.Done → IsAtEnd (R.left source.new) }
+    ensures read_enough { result ≡ Status.SessionRefused
+        → IsAtEnd (R.left source.new) ⊎ IsPastLimit (R.left source.old) (R.left source.new) }
+    ensures complete { (asked : Command) → command_of (map string_bytes words.now) ≡ Some asked
         → ¬ Rose (R.faults source.old) (R.faults source.new)
         → ¬ Rose (W.faults sink.old) (W.faults sink.new)
         → IsAnswer result ⊎ (result ≡ Status.NoMemory) }
@@ -76,14 +97,20 @@ pub fn plain<R: Source, W: Sink>(
     ensures output { (asked : Command) (input : List ℕ) → command_of (map string_bytes words.now) ≡ Some asked
         → R.left source.old ≡ Some input
         → Answered asked input result (W.written sink.old) (W.written sink.new) }
-    // Every room of the session is sound, whatever becomes of the call.
-    ensures sound { (input : List ℕ) → R.left source.old ≡ Some input → AllSound input }
+    // A theorem on what a session is: every room of every session is sound. With `output` it speaks of what was written.
+    ensures sound { (input : List ℕ) → AllSound input }
     // Faults only where they rose.
     ensures read_fault { result ≡ Status.ReadFault → Rose (R.faults source.old) (R.faults source.new) }
     ensures write_fault { result ≡ Status.WriteFault → Rose (W.faults sink.old) (W.faults sink.new) }
+    // With any other status no read failed, and no write.
+    ensures no_read_fault { (result ≡ Status.ReadFault) ⊎ (R.faults source.new ≡ R.faults source.old) }
+    ensures no_write_fault { (result ≡ Status.WriteFault) ⊎ (W.faults sink.new ≡ W.faults sink.old) }
+    // With an answer the input was read to its end. Of an input past the limit one byte more than the limit was read.
+    ensures read_whole { result ≡ Status.Done → IsAtEnd (R.left source.new) }
+    ensures read_enough { result ≡ Status.SessionRefused
+        → IsAtEnd (R.left source.new) ⊎ IsPastLimit (R.left source.old) (R.left source.new) }
     // Where no fault rose, the output and its status, or want of memory.
-    ensures complete { (asked : Command) (input : List ℕ) → command_of (map string_bytes words.now) ≡ Some asked
-        → R.left source.old ≡ Some input
+    ensures complete { (asked : Command) → command_of (map string_bytes words.now) ≡ Some asked
         → ¬ Rose (R.faults source.old) (R.faults source.new)
         → ¬ Rose (W.faults sink.old) (W.faults sink.new)
         → IsAnswer result ⊎ (result ≡ Status.NoMemory) }
@@ -105,6 +132,7 @@ fn deliver<W: Sink>(sink: &mut W, answer: &Answer) -> Status
     ensures writes { Writes result (W.written sink.old) (W.written sink.new) (string_bytes answer.now.text) }
     ensures agrees { Agrees result answer.now.status }
     ensures fault { result ≡ Status.WriteFault → Rose (W.faults sink.old) (W.faults sink.new) }
+    ensures no_fault { (result ≡ Status.WriteFault) ⊎ (W.faults sink.new ≡ W.faults sink.old) }
     ensures no_usage { result ≡ Status.Usage → ⊥ }
     ensures no_read { result ≡ Status.ReadFault → ⊥ }
     ensures memory { result ≡ Status.NoMemory → ⊥ }

@@ -33,7 +33,7 @@ fn main(rt: HostRuntime) -> io::Result<ExitCode> {
         Status::WriteFault => eprintln!(rt; "write fault")?,
         Status::NoMemory => eprintln!(rt; "no memory")?,
     }
-    Ok(ExitCode::from(number_of(status)))
+    Ok(ExitCode::from(status.number()))
 }
 
 /// The words after the program's name.
@@ -43,16 +43,4 @@ fn words_of(rt: &(impl Env + AllocGlobal)) -> io::Result<Vec<String>> {
         words.push(word)?;
     }
     Ok(words)
-}
-
-/// The number with which the program ends.
-fn number_of(status: Status) -> u8 {
-    match status {
-        Status::Done => 0,
-        Status::SessionRefused => 1,
-        Status::Usage => 2,
-        Status::ReadFault => 3,
-        Status::WriteFault => 4,
-        Status::NoMemory => 5,
-    }
 }
