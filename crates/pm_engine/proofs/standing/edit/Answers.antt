@@ -1,0 +1,16 @@
+use Rattle.std.specs.Prelude.{None}
+use Rattle.pm_client.specs.Keeps.{doc-good}
+use Rattle.pm_engine.proofs.Exchanged.{edit-name}
+use Rattle.pm_engine.proofs.standing.edit.Goals as goal
+
+pub edit-requires-clause-good : goal.edit-requires-clause-good
+edit-requires-clause-good g c =
+    let a = c.args.authority.now in
+    doc-good g.C.Change.means c.args.rules.now a.first a.log c.args.client.now c.requires g.met.C.Change.laws
+
+pub edit-requires-clause-cursors : goal.edit-requires-clause-cursors
+edit-requires-clause-cursors g c = c.requires.cursors
+
+pub returns-clause-name : goal.returns-clause-name
+returns-clause-name g c =
+    edit-name g.C.Change.means c.args.rules.now c.args.client.now c.edit.new.self c.args.steps.items None c.edit.result c.edit.ensures.made c.edit.ensures.err

@@ -1,0 +1,9 @@
+//! Three callers of the engine: one reads and applies, one works together with another, and one shares a desk.
+#![tactic(auto)]
+
+#[cfg(test)]
+mod applying;
+#[cfg(test)]
+mod desk;
+#[cfg(test)]
+mod together;
