@@ -16,10 +16,7 @@ use Rattle.pm_session.proofs.Opening.{opened-sound}
 use Rattle.pm_session.proofs.Playing.{session-sound, suit-front}
 use Rattle.pm_session.proofs.Turns.{settled-sound}
 use Rattle.pm_session.proofs.Settling.{settled-caught}
-use Rattle.pm_session.proofs.LogNames.{sound-names}
-use Rattle.pm_session.proofs.Restorings.{session-restores}
-use Rattle.pm_session.proofs.Rooms.{all-named, session-stays}
-use Rattle.pm_session.proofs.Unrefused.{messages-none, session-none}
+use Rattle.pm_session.proofs.Holdings.{room-holds, session-lines, settling-holds}
 use Rattle.pm_script.specs.declared.session.Session.{Session}
 use Rattle.pm_script.specs.Held.{Holds}
 use Rattle.pm_script.proofs.SessionLaws.{session-holds}
@@ -55,17 +52,12 @@ rooms-sound s suited =
     let end : Sound meaning rules (room_settled s) = settled-sound meaning rules laws (playing s).1 last in
     let played : (k : ℕ) → Sound meaning rules (room_after s k) = λ k. session-sound meaning rules laws (makes rules) room (take k s.lines) sound (suits k) in
     record {
-      when_played = played;
-      when_settled = end;
-      names_played = λ k. sound-names meaning rules (room_after s k) (played k);
-      names = sound-names meaning rules (room_settled s) end;
-      unrefused = session-none meaning rules laws (makes rules) room s.lines sound all;
-      messages_played = λ k. messages-none meaning rules laws (room_after s k) (played k);
-      messages = messages-none meaning rules laws (room_settled s) end;
-      tokens_played = λ k. all-named meaning rules laws (room_after s k) (played k);
-      tokens = all-named meaning rules laws (room_settled s) end;
-      cursors = λ k. session-stays meaning rules laws (makes rules) room s.lines sound all k;
-      restores = λ k line at. session-restores meaning rules laws (makes rules) room s.lines k line at;
+      played = λ k. room-holds meaning rules laws (room_after s k) (played k);
+      lines = λ k line at.
+          let p = session-lines meaning rules laws (makes rules) room s.lines sound all k line at in
+          record { outcome = p.0; told = p.1; holds = p.2 };
+      settling = settling-holds meaning rules laws (makes rules) (playing s).1 last;
+      settled = room-holds meaning rules laws (room_settled s) end;
       caught_up = settled-caught meaning rules laws (playing s).1 last;
     }
 

@@ -13,3 +13,4 @@ pub mod Stays
 pub mod Rooms
 pub mod Settling
 pub mod Restorings
+pub mod Holdings

@@ -83,7 +83,7 @@ module _ {Rules Doc Reason C : Type 0} (m : Meaning Rules Doc Reason C) (rules :
         placed-stays s sound i c at new next end moved.2.more moved.2.log_is (left-stayed m rules laws s.authority sound.authority c kin act (new, next) k)
 
   -- the same room
-  rests : (s : State C Rules Doc Reason) → Sound m rules s → CursorsStay m s s
+  pub rests : (s : State C Rules Doc Reason) → Sound m rules s → CursorsStay m s s
   rests s sound i c d at_c at_d =
       let same : c ≡ d = some-inj c d (sym at_c ∙ at_d) in
       let k = (sound.stand i d at_d).1 in

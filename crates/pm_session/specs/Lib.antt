@@ -8,3 +8,5 @@ pub mod Sounds
 pub mod Standing
 pub mod Restoring
 pub mod Openings
+pub mod Holding
+pub mod Answers
