@@ -19,12 +19,12 @@ allowed_rows-requires-clause-runs c =
 
 pub returns-clause-built : goal.returns-clause-built
 returns-clause-built c = record {
-      named = c.in_ok-check_marks.ensures.named;
-      have = c.in_ok-autos.ensures.have;
-      automata = c.in_ok-autos.ensures.automata;
-      generatable = subst (λ (ns : List NodeSpec). IsGeneratable ns c.in_ok-generatable.generatable) c.as_slice.ensures c.in_ok-generatable.ensures;
-      live = live-of c.in_ok-generatable.generatable c.as_slice-4.result.now c.in_ok-autos.autos c.as_slice-3.result.now c.as_slice-4.ensures c.as_slice-3.ensures c.in_ok-check_ends.ensures.live;
-    }
+  named = c.in_ok-check_marks.ensures.named;
+  have = c.in_ok-autos.ensures.have;
+  automata = c.in_ok-autos.ensures.automata;
+  generatable = subst (λ (ns : List NodeSpec). IsGeneratable ns c.in_ok-generatable.generatable) c.as_slice.ensures c.in_ok-generatable.ensures;
+  live = live-of c.in_ok-generatable.generatable c.as_slice-4.result.now c.in_ok-autos.autos c.as_slice-3.result.now c.as_slice-4.ensures c.as_slice-3.ensures c.in_ok-check_ends.ensures.live;
+}
 
 pub invariant_of-result : goal.invariant_of-result
 invariant_of-result c =
