@@ -137,7 +137,7 @@ runs-any rs k [] ns b = end-any rs k ns
 runs-any rs k (j ∷ v) ns b = runs-any rs j v (next_rows rs k ns) (end_rows rs k ns) ∙ next-any rs k j v ns
 
 -- a run over states
-abbrev run_sets : List Row → PlaceSet → List ℕ → Bool
+abbrev pub run_sets : List Row → PlaceSet → List ℕ → Bool
 run_sets rs s [] = s.ends
 run_sets rs s (k ∷ w) = run_sets rs (step rs k s) w
 
@@ -209,7 +209,7 @@ edges-of-at rs ss (t ∷ ts) (es ∷ ess) zero l h = h.0
 edges-of-at rs ss (t ∷ ts) (es ∷ ess) (suc i) l h = edges-of-at rs ss ts ess i (omega arith) h.1
 
 -- the walk along edges is the run over states
-walk-run : (rs : List Row) (ss : List PlaceSet) (ess : List (List Edge)) → length ess ≡ length ss → All_edges rs ss ss ess → (w : List ℕ) (i : ℕ) → i < length ss → accepted ss ess i w ≡ run_sets rs (set_at ss i) w
+pub walk-run : (rs : List Row) (ss : List PlaceSet) (ess : List (List Edge)) → length ess ≡ length ss → All_edges rs ss ss ess → (w : List ℕ) (i : ℕ) → i < length ss → accepted ss ess i w ≡ run_sets rs (set_at ss i) w
 walk-run rs ss ess n h [] i l = refl
 walk-run rs ss ess n h (k ∷ w) i l = at (has k (kinds rs (set_at ss i).places)) refl (walk-run rs ss ess n h w)
   where

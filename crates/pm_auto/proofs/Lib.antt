@@ -18,6 +18,7 @@ mod TypeLaws
 pub mod TreeLaws
 pub mod AcceptLaws
 mod FewLaws
+pub mod TwinLaws
 mod SearchLaws
 mod ShareLaws
 mod GraphLaws

@@ -37,7 +37,7 @@ at-end : (ss : List PlaceSet) (s : PlaceSet) → set_at (ss ++ s ∷ []) (length
 at-end [] s = refl
 at-end (x ∷ ss) s = at-end ss s
 
-reached-at : (rs : List Row) (s : PlaceSet) (ts : List PlaceSet) (i : ℕ) → i < length ts → All_reached rs s ts → (w : List ℕ) × Leads_to rs s w (set_at ts i)
+pub reached-at : (rs : List Row) (s : PlaceSet) (ts : List PlaceSet) (i : ℕ) → i < length ts → All_reached rs s ts → (w : List ℕ) × Leads_to rs s w (set_at ts i)
 reached-at rs s [] i h r = absurd (omega arith)
 reached-at rs s (t ∷ ts) zero h r = r.0
 reached-at rs s (t ∷ ts) (suc i) h r = reached-at rs s ts i (omega arith) r.1

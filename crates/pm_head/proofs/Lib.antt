@@ -2,3 +2,4 @@ pub mod Split
 pub mod Counts
 pub mod NameLists
 pub mod Missing
+mod OneSchema

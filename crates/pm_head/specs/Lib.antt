@@ -7,3 +7,4 @@ pub mod Entries
 pub mod Schemas
 pub mod Documents
 pub mod Heads
+pub mod Laws

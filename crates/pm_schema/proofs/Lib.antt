@@ -4,9 +4,9 @@ mod Plain
 mod Places
 mod Tables
 mod Shares
-mod Rounds
+pub mod Rounds
 mod Rows
-mod SameLaws
+pub mod SameLaws
 mod Dead
 mod Makes
 mod Pairs

@@ -49,7 +49,7 @@ both true c h = (refl, h)
 both false c h = absurd (cc)
 
 -- a list of types of a table is one of a table around it
-all_can-more : (table other : List Bool) → ((k : ℕ) → Has table k → Has other k) → (w : List ℕ) → all_can table w ≡ true → all_can other w ≡ true
+pub all_can-more : (table other : List Bool) → ((k : ℕ) → Has table k → Has other k) → (w : List ℕ) → all_can table w ≡ true → all_can other w ≡ true
 all_can-more table other f [] h = refl
 all_can-more table other f (k ∷ w) h =
     let b : (get_or table k false ≡ true) × (all_can table w ≡ true) = both (get_or table k false) (all_can table w) h in

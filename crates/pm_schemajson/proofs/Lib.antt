@@ -2,3 +2,5 @@ mod Ascii
 mod Fronts
 mod Unbuilt
 mod Refusing
+pub mod SameTypes
+pub mod SameEnds
