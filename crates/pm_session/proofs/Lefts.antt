@@ -12,15 +12,32 @@ use Rattle.pm_client.specs.Clients.{message_at}
 use Rattle.pm_client.specs.Kins.{Kin}
 use Rattle.pm_session.specs.declared.line.Act.{Act}
 use Rattle.pm_session.specs.declared.line.Act.TheVariants.{Edit, Undo, Redo, Cursor, Submit, Ask, Present, Take, Push, Pull}
+use Rattle.pm_session.specs.declared.line.Line.{Line}
 use Rattle.pm_session.specs.declared.maker.NoSteps.{NoSteps}
 use Rattle.pm_session.specs.declared.outcome.Outcome.{Outcome}
 use Rattle.pm_session.specs.Events.{State, placed, exchanges, acted}
-use Rattle.pm_session.specs.Left.{LeftAsWas, LeftPresenting, LeftExchanging, LeftBy}
+use Rattle.pm_session.specs.Left.{LeftAsWas, LeftPresenting, LeftExchanging, LeftBy, LeftByLine, LeftByExchange, LeftPulling}
 use Rattle.pm_session.specs.Sessions.{exchanged}
 use Rattle.pm_session.specs.Suits.{composes_one, gets_one, NamesOneOf}
 use Rattle.pm_session.specs.Sounds.{Sound}
 use Rattle.pm_session.proofs.SoundLaws.{message-stands, sound-after}
 use Rattle.pm_session.proofs.Moves.{Moved, unmoved, presented-moved, composes-moved, sent-moved, given-moved, exchanges-moved, acted-moved}
+
+-- what holds in any case holds where memory ran out
+pub left-err : {A E P : Type 0} (r : Result A E) → P → OnErr r P
+left-err (Ok a) p = tt
+left-err (Err e) p = p
+
+-- what was left of a room is what was left of an equal one
+module _ {Rules Doc Reason C : Type 0} (m : Meaning Rules Doc Reason C) (rules : Rules) where
+  pub exchange-at : (kind : Kind) (i : ℕ) (r s t : State C Rules Doc Reason) → r ≡ s → LeftByExchange m rules kind i r t → LeftByExchange m rules kind i s t
+  exchange-at kind i r s t e h = subst (λ (x : State C Rules Doc Reason). LeftByExchange m rules kind i x t) e h
+
+  pub pulling-at : (r s t : State C Rules Doc Reason) → r ≡ s → LeftPulling m rules r t → LeftPulling m rules s t
+  pulling-at r s t e h = subst (λ (x : State C Rules Doc Reason). LeftPulling m rules x t) e h
+
+  pub line-at : {Op : Type 0} (line : Line Op) (r s t : State C Rules Doc Reason) → r ≡ s → LeftByLine m rules r line t → LeftByLine m rules s line t
+  line-at line r s t e h = subst (λ (x : State C Rules Doc Reason). LeftByLine m rules x line t) e h
 
 module _ {Rules Doc Reason C : Type 0} (m : Meaning Rules Doc Reason C) (rules : Rules) (laws : Laws m) where
   module _ (a : Authority C Rules Doc Reason) (stood : IsKept m rules a) (c : Client C Rules Doc Reason) (kin : Kin m rules a.first a.log c) where

@@ -1,6 +1,6 @@
 -- Lines one after another.
-use Rattle.std.specs.Prelude.{◌≡◌, ◌⊎◌, ℕ, zero, suc, ◌+◌, ◌<◌, ◌==◌, ◌&&◌, Bool, true, false, List, [], ◌∷◌, ◌++◌, length, take, slice_get, Some, Result, refl}
-use Rattle.std.proofs.Common.{cond, sym, ap, ◌∙◌, arith, inl, inr}
+use Rattle.std.specs.Prelude.{◌≡◌, ◌⊎◌, ℕ, zero, suc, ◌+◌, ◌<◌, ◌==◌, ◌&&◌, Bool, true, false, List, [], ◌∷◌, ◌++◌, length, take, drop, slice_get, Some, Result, refl}
+use Rattle.std.proofs.Common.{cond, sym, ap, ◌∙◌, arith, add-one, inl, inr}
 use Rattle.std.proofs.lemmas.Bool.{eq-eqb, eqb-true}
 use Rattle.std.proofs.lemmas.Grind.{common_steps}
 use Rattle.pm_change.specs.Changes.{Meaning, Laws}
@@ -109,3 +109,30 @@ suit-front n earlier [] zero h = tt
 suit-front n earlier [] (suc k) h = tt
 suit-front n earlier (line ∷ lines) zero h = tt
 suit-front n earlier (line ∷ lines) (suc k) h = (h.0, suit-front n (earlier ++ line ∷ []) lines k h.1)
+
+-- the first of the lines that are left
+pub at-rest : {A : Type 0} (xs rest : List A) (k : ℕ) (x : A) → drop k xs ≡ x ∷ rest → slice_get xs k ≡ Some x
+at-rest [] rest zero x e = absurd (cc)
+at-rest [] rest (suc k) x e = absurd (cc)
+at-rest (y ∷ xs) rest zero x e = cc
+at-rest (y ∷ xs) rest (suc k) x e = at-rest xs rest k x e
+
+-- the room after one line more
+pub session-last : {Rules Doc Reason C Op : Type 0} (m : Meaning Rules Doc Reason C) (rules : Rules) (makes : Doc → Op → Result (List C) NoSteps)
+    (s : State C Rules Doc Reason) (lines : List (Line Op)) (k : ℕ) (line : Line Op) → slice_get lines k ≡ Some line
+    → (session m rules makes s (take (k + 1) lines)).1 ≡ (played m rules makes (session m rules makes s (take k lines)).1 line).1
+session-last {Rules = Rules} {Doc = Doc} {Reason = Reason} {C = C} {Op = Op} m rules makes s lines k line at = rw add-one (last s lines k at)
+  where
+    take-zero : {A : Type 0} (xs : List A) → take 0 xs ≡ []
+    take-zero [] = refl
+    take-zero (x ∷ xs) = refl
+
+    same-line : (a b : Line Op) → Some a ≡ Some b → a ≡ b
+    same-line a b h = cc
+
+    last : (s : State C Rules Doc Reason) (lines : List (Line Op)) (k : ℕ) → slice_get lines k ≡ Some line
+        → (session m rules makes s (take (suc k) lines)).1 ≡ (played m rules makes (session m rules makes s (take k lines)).1 line).1
+    last s [] k at = absurd (cc)
+    last s (first ∷ lines) zero at =
+        ap (λ l. (session m rules makes (played m rules makes s first).1 l).1) (take-zero lines) ∙ ap (λ l. (played m rules makes s l).1) (same-line first line at)
+    last s (first ∷ lines) (suc k) at = last (played m rules makes s first).1 lines k at

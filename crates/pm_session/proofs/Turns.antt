@@ -1,6 +1,6 @@
 -- Turns, one after another.
 use Rattle.std.specs.Prelude.{◌≡◌, ℕ, zero, suc, ◌+◌, ◌-◌, ◌<◌, length, slice_get, Option, Some, None, true, false, refl}
-use Rattle.std.proofs.Common.{arith}
+use Rattle.std.proofs.Common.{sym, ap, ◌∙◌, arith, add-one}
 use Rattle.pm_change.specs.Changes.{Meaning, Laws}
 use Rattle.pm_client.specs.declared.client.Client.{Client}
 use Rattle.pm_client.specs.declared.taken.Kind.{Kind}
@@ -15,6 +15,17 @@ use Rattle.pm_session.proofs.Lefts.{moved-sound}
 pub turn-more : {Rules Doc Reason C : Type 0} (does : ℕ → State C Rules Doc Reason → State C Rules Doc Reason) (k n : ℕ) (s : State C Rules Doc Reason) → k < n
     → in_turn does k (n - k) s ≡ in_turn does (k + 1) (n - (k + 1)) (does k s)
 turn-more does k n s some = let rest : n - k ≡ suc (n - (k + 1)) = omega (arith, some) in rw rest refl
+
+-- the turns of the first clients, and then that of one more
+pub turn-last : {Rules Doc Reason C : Type 0} (does : ℕ → State C Rules Doc Reason → State C Rules Doc Reason) (k : ℕ) (s : State C Rules Doc Reason)
+    → in_turn does 0 (k + 1) s ≡ does k (in_turn does 0 k s)
+turn-last {Rules = Rules} {Doc = Doc} {Reason = Reason} {C = C} does k s = let same : 0 + k ≡ k = omega arith in rw add-one (last 0 k s ∙ ap (λ i. does i (in_turn does 0 k s)) same)
+  where
+    last : (j n : ℕ) (s : State C Rules Doc Reason) → in_turn does j (suc n) s ≡ does (j + n) (in_turn does j n s)
+    last j zero s = let same : j + 0 ≡ j = omega arith in ap (λ i. does i s) (sym same)
+    last j (suc n) s =
+        let same : (j + 1) + n ≡ j + suc n = omega arith in
+        last (j + 1) n (does j s) ∙ ap (λ i. does i (in_turn does (j + 1) n (does j s))) same
 
 module _ {Rules Doc Reason C : Type 0} (m : Meaning Rules Doc Reason C) (rules : Rules) (laws : Laws m) where
   pub exchanged-sound : (kind : Kind) (i : ℕ) (s : State C Rules Doc Reason) → Sound m rules s → Sound m rules (exchanged m rules kind i s)

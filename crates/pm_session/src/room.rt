@@ -3,7 +3,7 @@ ghost use Rattle.std.specs.Prelude.{◌≡◌, ◌≤◌, ◌<◌, ◌+◌, ℕ,
 ghost use Rattle.std.specs.List.{AllByRecursion as Each};
 ghost use Rattle.pm_client.specs.declared.taken.Kind.TheVariants.{Ask};
 ghost use Rattle.pm_session.specs.Events.{state_of, played};
-ghost use Rattle.pm_session.specs.Left.{LeftByLine};
+ghost use Rattle.pm_session.specs.Left.{LeftByLine, LeftByLines, LeftByExchange, LeftBringing, LeftPulling, LeftBySettle};
 ghost use Rattle.pm_session.specs.Restoring.{Restores};
 ghost use Rattle.pm_session.specs.Sessions.{opened, session, exchanged, brought_up, in_turn, settled};
 ghost use Rattle.pm_session.specs.Refusals.{GetsNoRefusal};
@@ -111,6 +111,7 @@ impl<C: Change> Room<C> {
         ensures each { IfOk result (λ v. vec_len v ≡ length lines.now) }
         ensures unrefused { IfOk result (λ v. Each GetsNoRefusal v.items) }
         ensures room { OnOk result (state_of self.new ≡ (session C.means rules.now (K.makes maker.now rules.now) (state_of self.old) lines.now).1) }
+        ensures left { OnErr result (LeftByLines C.means rules.now (K.makes maker.now rules.now) (state_of self.old) lines.now (state_of self.new)) }
         ensures sound { Sound C.means rules.now (state_of self.new) }
         ensures names { NamesDiffer self.new.authority.log }
         // So it is from the room after each number of lines to the next.
@@ -129,12 +130,13 @@ impl<C: Change> Room<C> {
     }
 
     /// Each client in turn asks for what is past its version and submits what is pending; then each asks again. Want of
-    /// memory leaves the room after the first parts of this.
+    /// memory leaves the room after the exchanges that were done, and after the first parts of the next.
     pub fn settle(&mut self, alloc: Global, rules: &C::Rules) -> Result<(), AllocError>
         requires { Sound C.means rules.now (state_of self.old) }
         ensures settles { OnOk result (state_of self.new ≡ settled C.means rules.now (state_of self.old)) }
         // Each client has then the whole log and nothing pending, and its document is the authority's.
         ensures caught_up { OnOk result (AllCaughtUp (state_of self.new)) }
+        ensures left { OnErr result (LeftBySettle C.means rules.now (state_of self.old) (state_of self.new)) }
         ensures sound { Sound C.means rules.now (state_of self.new) }
         ensures names { NamesDiffer self.new.authority.log }
     {
@@ -146,6 +148,7 @@ impl<C: Change> Room<C> {
     fn bring_up_all(&mut self, alloc: Global, rules: &C::Rules) -> Result<(), AllocError>
         requires { Sound C.means rules.now (state_of self.old) }
         ensures brings { OnOk result (state_of self.new ≡ in_turn (brought_up C.means rules.now) 0 (length self.old.clients.items) (state_of self.old)) }
+        ensures left { OnErr result (LeftBringing C.means rules.now (state_of self.old) (state_of self.new)) }
         ensures clients { length self.new.clients.items ≡ length self.old.clients.items }
         ensures sound { Sound C.means rules.now (state_of self.new) }
     {
@@ -160,6 +163,7 @@ impl<C: Change> Room<C> {
     fn pull_all(&mut self, alloc: Global, rules: &C::Rules) -> Result<(), AllocError>
         requires { Sound C.means rules.now (state_of self.old) }
         ensures pulls { OnOk result (state_of self.new ≡ in_turn (exchanged C.means rules.now Ask) 0 (length self.old.clients.items) (state_of self.old)) }
+        ensures left { OnErr result (LeftPulling C.means rules.now (state_of self.old) (state_of self.new)) }
         ensures sound { Sound C.means rules.now (state_of self.new) }
     {
         for client in 0..self.clients.len() {
@@ -179,6 +183,7 @@ impl<C: Change> Room<C> {
         requires sound { Sound C.means rules.now (state_of self.old) }
         requires within { client < length self.old.clients.items }
         ensures exchanges { OnOk result (state_of self.new ≡ exchanged C.means rules.now kind client (state_of self.old)) }
+        ensures left { OnErr result (LeftByExchange C.means rules.now kind client (state_of self.old) (state_of self.new)) }
         ensures clients { length self.new.clients.items ≡ length self.old.clients.items }
         ensures sound { Sound C.means rules.now (state_of self.new) }
     {

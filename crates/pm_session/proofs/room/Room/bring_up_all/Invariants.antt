@@ -10,5 +10,6 @@ invariant-loop-client g l =
     record {
       clients : length l.self.clients.items ≡ n;
       turns : in_turn (brought_up g.C.Change.means l.rules) l.client (n - l.client) (state_of l.self) ≡ in_turn (brought_up g.C.Change.means l.rules) 0 n (state_of l.fn.self);
+      front : state_of l.self ≡ in_turn (brought_up g.C.Change.means l.rules) 0 l.client (state_of l.fn.self);
       sound : Sound g.C.Change.means l.rules (state_of l.self);
     }

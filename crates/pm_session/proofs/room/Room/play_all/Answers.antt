@@ -1,12 +1,13 @@
-use Rattle.std.proofs.Common.{rules, ◌≡◌, ◌+◌, ◌∷◌, ◌++◌, [], ◌∙◌, append_assoc, drop, ap, sym, subst}
+use Rattle.std.proofs.Common.{rules, inl, inr, take, ◌≡◌, ◌+◌, ◌∷◌, ◌++◌, [], ◌∙◌, append_assoc, drop, ap, sym, subst}
 use Rattle.std.proofs.lemmas.List.{drop_more}
 use Rattle.pm_client.specs.Lists.{Each-append}
-use Rattle.pm_session.specs.Events.{state_of}
+use Rattle.pm_session.specs.Events.{State, state_of, played}
 use Rattle.pm_session.specs.Sessions.{session}
 use Rattle.pm_session.specs.Suits.{LinesSuit}
 use Rattle.pm_session.specs.Refusals.{GetsNoRefusal}
+use Rattle.pm_session.proofs.Lefts.{left-err, line-at}
 use Rattle.pm_session.proofs.LogNames.{sound-names}
-use Rattle.pm_session.proofs.Playing.{suits-first, suits-rest, session-more}
+use Rattle.pm_session.proofs.Playing.{suits-first, suits-rest, session-more, session-last, at-rest}
 use Rattle.pm_session.proofs.Restorings.{session-restores}
 use Rattle.pm_session.proofs.Rooms.{session-stays}
 use Rattle.pm_session.proofs.room.Room.play_all.Goals as goal
@@ -39,6 +40,8 @@ loop-line-preserved g c =
           ∙ append_assoc c.loop-line.outcomes.items (c.in_ok-play.field-0 ∷ []) (session m c.args.rules.now makes t (drop (k + 1) lines)).0
           ∙ ap (λ q. c.loop-line.outcomes.items ++ q.0) (sym more) ∙ ap (λ l. c.loop-line.outcomes.items ++ (session m c.args.rules.now makes s l).0) (sym rest) ∙ c.loop-line.invariant.outcomes;
       room = ap (λ q. q.1) (sym more) ∙ ap (λ l. (session m c.args.rules.now makes s l).1) (sym rest) ∙ c.loop-line.invariant.room;
+      front = ap (λ q. q.1) c.in_ok-play.ensures.plays ∙ ap (λ (x : State g.row.C.Denot g.row.C-Rules.Denot g.row.C-Doc.Denot g.row.C-Reason.Denot). (played m c.args.rules.now makes x c.line-item.result).1) c.loop-line.invariant.front
+          ∙ sym (session-last m c.args.rules.now makes (state_of c.args.self.now) lines k c.line-item.result (at-rest lines (drop (k + 1) lines) k c.line-item.result rest));
       suit = subst (λ t. LinesSuit t (drop (k + 1) lines)) (sym (ap (λ p. p.1) c.in_ok-play.ensures.plays)) later;
       sound = c.play.ensures.sound;
       unrefused = rw c.in_ok-push.ensures.items
@@ -57,3 +60,33 @@ pub returns-clause-restores : goal.returns-clause-restores
 returns-clause-restores g c k line at =
     session-restores g.C.Change.means c.args.rules.now g.met.C.Change.laws (g.K.Maker.makes c.args.maker.now c.args.rules.now) (state_of c.args.self.now) c.args.lines.now
     k line at
+
+pub returns-in_err-play-clause-left : goal.returns-in_err-play-clause-left
+returns-in_err-play-clause-left g c =
+    let m = g.C.Change.means in
+    let makes = g.K.Maker.makes c.args.maker.now c.args.rules.now in
+    let k = c.loop-line.line-index in
+    let lines = c.args.lines.now in
+    let rest : drop k lines ≡ c.line-item.result ∷ drop (k + 1) lines = search (rules, drop_more) in
+    left-err c.from_residual.result (record {
+      played = k;
+      left = inr (
+        c.line-item.result,
+        at-rest lines (drop (k + 1) lines) k c.line-item.result rest,
+        line-at m c.args.rules.now c.line-item.result (state_of c.loop-line.self) (session m c.args.rules.now makes (state_of c.args.self.now) (take k lines)).1 (state_of c.play.new.self)
+            c.loop-line.invariant.front c.in_err-play.ensures.left,
+      );
+    })
+
+pub returns-in_err-push-clause-left : goal.returns-in_err-push-clause-left
+returns-in_err-push-clause-left g c =
+    let m = g.C.Change.means in
+    let makes = g.K.Maker.makes c.args.maker.now c.args.rules.now in
+    let k = c.loop-line.line-index in
+    let lines = c.args.lines.now in
+    let rest : drop k lines ≡ c.line-item.result ∷ drop (k + 1) lines = search (rules, drop_more) in
+    left-err c.from_residual-in_err-push.result (record {
+      played = k + 1;
+      left = inl (ap (λ q. q.1) c.in_ok-play.ensures.plays ∙ ap (λ (x : State g.row.C.Denot g.row.C-Rules.Denot g.row.C-Doc.Denot g.row.C-Reason.Denot). (played m c.args.rules.now makes x c.line-item.result).1) c.loop-line.invariant.front
+          ∙ sym (session-last m c.args.rules.now makes (state_of c.args.self.now) lines k c.line-item.result (at-rest lines (drop (k + 1) lines) k c.line-item.result rest)));
+    })

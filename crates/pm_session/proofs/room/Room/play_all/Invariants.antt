@@ -1,5 +1,5 @@
 use Rattle.std.specs.List.{AllByRecursion as Each}
-use Rattle.std.proofs.Common.{◌≡◌, ◌++◌, drop, vec_len}
+use Rattle.std.proofs.Common.{◌≡◌, ◌++◌, drop, take, vec_len}
 use Rattle.pm_session.specs.Events.{state_of}
 use Rattle.pm_session.specs.Sessions.{session}
 use Rattle.pm_session.specs.Refusals.{GetsNoRefusal}
@@ -15,6 +15,7 @@ invariant-loop-line g l =
       each : vec_len l.outcomes ≡ l.line-index;
       outcomes : l.outcomes.items ++ (session m l.rules makes (state_of l.self) (drop l.line-index l.lines)).0 ≡ (session m l.rules makes (state_of l.fn.self) l.lines).0;
       room : (session m l.rules makes (state_of l.self) (drop l.line-index l.lines)).1 ≡ (session m l.rules makes (state_of l.fn.self) l.lines).1;
+      front : state_of l.self ≡ (session m l.rules makes (state_of l.fn.self) (take l.line-index l.lines)).1;
       suit : LinesSuit (state_of l.self) (drop l.line-index l.lines);
       sound : Sound m l.rules (state_of l.self);
       unrefused : Each GetsNoRefusal l.outcomes.items;

@@ -11,5 +11,6 @@ invariant-loop-client g l =
     record {
       clients : length l.self.clients.items ≡ n;
       turns : in_turn (exchanged g.C.Change.means l.rules Ask) l.client (n - l.client) (state_of l.self) ≡ in_turn (exchanged g.C.Change.means l.rules Ask) 0 n (state_of l.fn.self);
+      front : state_of l.self ≡ in_turn (exchanged g.C.Change.means l.rules Ask) 0 l.client (state_of l.fn.self);
       sound : Sound g.C.Change.means l.rules (state_of l.self);
     }
