@@ -91,11 +91,11 @@ pub record Stands {T : Type 0} (ps : List (T × ℕ)) (pos index start : ℕ) : 
   pub reached : start ≤ pos
   pub next : index < length ps → pos < total_of (take (index + 1) ps)
 
--- the pairs of chunks that are being made, and then those of the open chunk
+-- the pairs of chunks that are being made, and then those of the growing chunk
 abbrev pub built_pairs : {T : Type 0} → Chunks T → Chunk T → List (T × ℕ)
 built_pairs made tail = pairs_of made ++ chunk_pairs tail
 
--- The chunks that were made have 32 items or more, and the open one at most so many.
+-- The chunks that were made have 32 items or more, and the growing one at most so many.
 pub record IsBuilt {T : Type 0} (made : Chunks T) (tail : Chunk T) : Type 0 where
   pub laid : IsLaid made
   pub full : AreFull made.chunks.items
