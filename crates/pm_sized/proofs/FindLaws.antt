@@ -1,14 +1,14 @@
 -- Where positions stand, and how chunks lie.
-use Rattle.std.specs.Prelude.{◌≡◌, ℕ, ◌+◌, ◌*◌, ◌-◌, ◌/◌, ◌≤◌, ◌<◌, ◌^◌, List, [], ◌∷◌, ◌++◌, length, take, drop, get_or}
+use Rattle.std.specs.Prelude.{◌≡◌, ℕ, ◌+◌, ◌-◌, ◌/◌, ◌≤◌, ◌<◌, ◌^◌, List, [], ◌∷◌, ◌++◌, length, take, drop, get_or}
 use Rattle.std.specs.declared.sync.Arc.{Arc}
 use Rattle.std.specs.declared.alloc.Global.{Global}
 use Rattle.std.specs.declared.vec.Vec.{Vec}
 use Rattle.std.specs.Arc.{arc_value}
-use Rattle.std.proofs.Common.{zero, suc, refl, ap, sym, ◌∙◌, subst, arith, append_assoc, length-append, inl, inr}
+use Rattle.std.proofs.Common.{zero, suc, refl, ap, sym, ◌∙◌, subst, arith, length-append, inl, inr}
 use Rattle.std.proofs.lemmas.Bool.{cases_lt}
 use Rattle.std.proofs.lemmas.Grind.{get_or_default_zero}
 use Rattle.std.proofs.Math.Seq.{take-append-add}
-use Rattle.std.proofs.lemmas.List.{append-nil, get_or_append_left, get_or-append-add, get_or_past, take_all, take-append-le, take_more}
+use Rattle.std.proofs.lemmas.List.{get_or_append_left, get_or-append-add, get_or_past, take_all, take-append-le}
 use Rattle.pm_sized.specs.declared.chunk.Chunk.{Chunk}
 use Rattle.pm_sized.specs.declared.chunks.Chunks.{Chunks}
 use Rattle.pm_sized.specs.Pairs.{measures, paired, chunk_pairs, all_pairs, pairs_of, total_of, IsCounted, IsChunk, AreFull, AreChunks, IsLaid, Stands}

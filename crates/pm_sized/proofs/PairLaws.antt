@@ -5,7 +5,7 @@ use Rattle.std.specs.declared.alloc.Global.{Global}
 use Rattle.std.specs.declared.vec.Vec.{Vec}
 use Rattle.std.specs.Arc.{arc_value}
 use Rattle.std.proofs.Common.{zero, suc, refl, ap, sym, ◌∙◌, subst, arith, append_assoc, length-append}
-use Rattle.std.proofs.lemmas.List.{append-nil, nil_from_length, take_more, drop_more, take_all, take-append-le, take-append-drop}
+use Rattle.std.proofs.lemmas.List.{append-nil, nil_from_length, take_more, drop_more, take-append-drop}
 use Rattle.pm_sized.specs.declared.chunk.Chunk.{Chunk}
 use Rattle.pm_sized.specs.declared.chunks.Chunks.{Chunks}
 use Rattle.pm_sized.specs.Pairs.{measures, paired, chunk_pairs, all_pairs, total_of, EachCounts, Rises, IsCounted, Grown, IsChunk, AreFull, AreChunks, pairs_of, IsBuilt, built_pairs}

@@ -1,5 +1,4 @@
-use Rattle.std.proofs.Common.{◌≡◌, ◌+◌, ◌++◌, ap, ◌∙◌, arith}
-use Rattle.std.specs.Arc.{arc_value}
+use Rattle.std.proofs.Common.{◌++◌, ap, ◌∙◌, arith}
 use Rattle.pm_sized.specs.Pairs.{chunk_pairs, all_pairs, pairs_of, total_of}
 use Rattle.pm_sized.proofs.PairLaws.{total_of-append, all_pairs-push}
 use Rattle.pm_sized.proofs.chunks.finish.Goals as goal

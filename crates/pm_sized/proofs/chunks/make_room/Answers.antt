@@ -1,8 +1,7 @@
-use Rattle.std.proofs.Common.{◌≡◌, ◌+◌, ◌++◌, ◌∷◌, [], ◌≤◌, ap, sym, ◌∙◌, subst, arith, length, List}
-use Rattle.std.proofs.lemmas.List.{append-nil}
+use Rattle.std.proofs.Common.{◌≡◌, ◌≤◌, ap, ◌∙◌, arith, length}
 use Rattle.std.specs.Arc.{arc_value}
-use Rattle.pm_sized.specs.Pairs.{chunk_pairs, all_pairs, pairs_of, total_of, AreFull, IsCounted, built_pairs}
-use Rattle.pm_sized.proofs.PairLaws.{total_of-append, all_pairs-push, full-push, counted-along, full-along, pairs-moved}
+use Rattle.pm_sized.specs.Pairs.{chunk_pairs, pairs_of, total_of}
+use Rattle.pm_sized.proofs.PairLaws.{total_of-append, full-push, counted-along, full-along, pairs-moved}
 use Rattle.pm_sized.proofs.chunks.make_room.Goals as goal
 
 pub push_chunk-requires-clause-room : goal.push_chunk-requires-clause-room

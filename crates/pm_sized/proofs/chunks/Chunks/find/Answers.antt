@@ -1,7 +1,6 @@
-use Rattle.std.proofs.Common.{◌≡◌, ◌+◌, ◌-◌, ◌<◌, ◌≤◌, ap, sym, ◌∙◌, arith, length, get_or}
+use Rattle.std.proofs.Common.{◌≡◌, ◌+◌, ◌<◌, ap, ◌∙◌, arith, length, get_or}
 use Rattle.std.proofs.lemmas.Grind.{get_or_default_zero}
 use Rattle.std.specs.Arc.{arc_value}
-use Rattle.pm_sized.specs.Pairs.{pairs_of, total_of}
 use Rattle.pm_sized.proofs.FindLaws.{around, found-at, both-bound}
 use Rattle.pm_sized.proofs.chunks.Chunks.find.Goals as goal
 

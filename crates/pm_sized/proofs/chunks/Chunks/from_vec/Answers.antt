@@ -1,4 +1,4 @@
-use Rattle.std.proofs.Common.{◌≡◌, ℕ, ◌+◌, ◌++◌, List, length, IfOk, ap, sym, ◌∙◌, subst, arith}
+use Rattle.std.proofs.Common.{◌≡◌, ℕ, ◌++◌, List, length, IfOk, ap, sym, ◌∙◌, subst, arith}
 use Rattle.pm_sized.specs.Pairs.{built_pairs, total_of, chunk_pairs, pairs_of}
 use Rattle.pm_sized.proofs.PairLaws.{few-front, total-front, item-counts, total_of-append, built-grown, pairs-grown, pairs-done}
 use Rattle.pm_sized.proofs.FindLaws.{chunk-size}

@@ -1,6 +1,5 @@
-use Rattle.std.proofs.Common.{◌≡◌, ◌+◌, ◌-◌, ◌<◌, ◌≤◌, ap, sym, ◌∙◌, arith, length, get_or, ℕ}
+use Rattle.std.proofs.Common.{◌≡◌, ◌+◌, ◌-◌, ◌<◌, ◌≤◌, ap, sym, ◌∙◌, arith, length, get_or}
 use Rattle.std.proofs.lemmas.Grind.{get_or_default_zero}
-use Rattle.pm_sized.specs.Pairs.{pairs_of}
 use Rattle.pm_sized.proofs.FindLaws.{around, item-within, item-at}
 use Rattle.pm_sized.proofs.chunks.Chunks.item.Goals as goal
 

@@ -1,4 +1,4 @@
-use Rattle.std.proofs.Common.{◌≡◌, ◌+◌, ap, sym, ◌∙◌, arith, length}
+use Rattle.std.proofs.Common.{◌≡◌, ap, ◌∙◌, arith, length}
 use Rattle.std.specs.Arc.{arc_value}
 use Rattle.pm_sized.specs.Pairs.{chunk_pairs, total_of}
 use Rattle.pm_sized.proofs.FindLaws.{laid-push, chunk-size, chunk-count}
