@@ -1,0 +1,3 @@
+pub mod HalfLaws
+pub mod PairLaws
+pub mod FindLaws

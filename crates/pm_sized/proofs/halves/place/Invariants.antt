@@ -1,0 +1,4 @@
+use Rattle.pm_sized.proofs.halves.place.Given as goal
+
+abbrev pub ghosts-place_with : goal.ghosts-place_with
+ghosts-place_with a = record { name = a.blank.name; parts = a.blank.parts }

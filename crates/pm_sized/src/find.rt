@@ -1,0 +1,44 @@
+//! Where a position stands.
+ghost use Rattle.std.specs.Prelude.{◌≤◌, ◌+◌, length};
+ghost use Rattle.pm_sized.specs.Pairs.{pairs_of, total_of, IsLaid, Stands};
+ghost use Rattle.pm_sized.specs.Bound.{find_bound};
+
+use crate::chunks::Chunks;
+use crate::halves::search;
+use crate::steps::Steps;
+use std::sync::ledger::Ledger;
+
+/// Where a position stands among items.
+#[derive(Clone, Copy)]
+pub struct Found {
+    /// How many of them end at or before the position.
+    pub index: usize,
+    /// The sum of their measures.
+    pub start: usize,
+}
+
+impl<T> Chunks<T> {
+    /// Where a position stands, counted from the start of the first item. Among c items it takes at most 6 steps plus the
+    /// number of binary digits of (c + 31) / 32. It takes no memory.
+    pub fn find<L: Ledger>(&self, pos: usize, steps: &mut Steps<L>) -> Found
+        requires laid { IsLaid self.now }
+        requires within { pos ≤ total_of (pairs_of self.now) }
+        ensures found { Stands (pairs_of self.now) pos result.index result.start }
+        ensures steps { steps.new ≤ steps.old + find_bound (length (pairs_of self.now)) }
+    {
+        if pos == self.total {
+            return Found {
+                index: self.len,
+                start: self.total,
+            };
+        }
+        let at = search(&self.starts, pos, steps);
+        let chunk = &self.chunks[at];
+        let start = self.starts[at];
+        let i = search(&chunk.starts, pos - start, steps);
+        Found {
+            index: self.firsts[at] + i,
+            start: start + chunk.starts[i],
+        }
+    }
+}

@@ -1,0 +1,14 @@
+//! Items in shared chunks with their measures, found by halves.
+#![tactic(auto)]
+
+pub mod chunk;
+pub mod chunks;
+pub mod find;
+pub mod halves;
+pub mod steps;
+#[cfg(test)]
+mod tests;
+
+pub use chunks::Chunks;
+pub use find::Found;
+pub use steps::Steps;
