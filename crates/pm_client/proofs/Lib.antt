@@ -1,6 +1,7 @@
 mod Names
 mod Advances
 mod Plannings
+mod Causings
 mod Rebasings
 mod Tokens
 mod Origins

@@ -1,9 +1,10 @@
 //! Taking an answer.
-ghost use Rattle.std.specs.Prelude.{◌≡◌, ◌+◌, ◌-◌, ◌<◌, ◌≤◌, ◌^◌, List, length, Ok, IfOk, OnOk, OnErr};
+ghost use Rattle.std.specs.Prelude.{◌≡◌, ◌↔◌, ◌+◌, ◌-◌, ◌<◌, ◌≤◌, ◌^◌, List, length, Some, Ok, IfOk, OnOk, OnErr};
 ghost use Rattle.pm_authority.specs.Runs.{AllApply};
 ghost use Rattle.pm_authority.specs.declared.named.Named.{Named};
 ghost use Rattle.pm_authority.specs.declared.message.Answer.TheVariants.{Accepted, Entries};
-ghost use Rattle.pm_client.specs.Clients.{taken, taken_at, rest_taken, confirmed_first, own_run, carried_history};
+ghost use Rattle.pm_client.specs.Clients.{answer_at, taken, taken_at, rest_taken, confirmed_first, own_run, carried_history};
+ghost use Rattle.pm_client.specs.Causes.{IsTaken};
 ghost use Rattle.pm_client.specs.TokenNames.{KeepsTokens};
 ghost use Rattle.pm_client.specs.Kins.{Kin, Stands};
 ghost use Rattle.pm_client.specs.Plans.{carried_out, MayCarryOut, Meets, MayConfirm, Fits};
@@ -44,6 +45,9 @@ impl<C: Change> Client<C> {
         // A cursor with side 1 that stood before a token stands before it, where that is still there.
         ensures tokens { OnOk result ((first : C.Doc) (log : List (Named C)) → Kin C.means rules.now first log self.old
             → KeepsTokens C.means log self.old self.new (C.means.size self.old.base)) }
+        // Of the answer of this number, each thing is told exactly where its cause holds.
+        ensures causes { (answer : _) (t : _) → answer_at self.old i ≡ Some answer
+            → IfOk result (λ told. (told ≡ t) ↔ IsTaken C.means rules.now self.old answer t) }
     {
         let plan = self.plan(alloc, rules, i)?;
         self.carry_out(alloc, plan)
