@@ -22,12 +22,12 @@ use Rattle.pm_client.specs.Rebases.{maps_of, start, rebased}
 use Rattle.pm_client.specs.RebaseLaws.{fork, maps-fit, plain-paired}
 use Rattle.pm_client.specs.Cursors.{moved_cursor}
 use Rattle.pm_client.specs.Timelines.{edit_steps}
-use Rattle.pm_client.specs.Clients.{named, gone_on, edited, tried, confirmed, brought, taken_if, taken_at, answer_at}
-use Rattle.pm_client.specs.Takings.{one-taken, answer-stands}
+use Rattle.pm_client.specs.Clients.{named, own_run, gone_on, edited, tried, confirmed, brought, taken_if, taken_at, answer_at}
+use Rattle.pm_client.specs.Takings.{own_run-is, one-taken, answer-stands}
 use Rattle.pm_authority.specs.declared.message.Answer.{Answer}
 use Rattle.pm_client.specs.Kins.{IsOwn, IsForeign, Kin}
 use Rattle.pm_client.specs.Keeps.{base-good, kin-edited}
-use Rattle.pm_client.specs.TokenNames.{Token, Has, names_after, NoneBy, AllDiffer, passed, KeepsTokens}
+use Rattle.pm_client.specs.TokenNames.{Token, Unpinched, Has, names_after, NoneBy, AllDiffer, AllUnpinched, passed, over_others, gone_over, KeepsTokens}
 use Rattle.pm_client.proofs.Leads.{Leads}
 use Rattle.pm_client.proofs.TokenRuns.{none-spliced}
 use Rattle.pm_client.proofs.TokenLeads.{names-append, Named_well, next-named, maps-lead, Following, rebased-leads}
@@ -83,6 +83,17 @@ unfolding Apart
 none-after m [] ys names p h = h
 none-after m (x ∷ xs) ys names p h = none-after m xs ys _ p.1 (none-spliced x.name ys (m.step_map x.change) names p.0 h)
 
+-- where others' steps were passed, none is pinched of those that were carried over them, of them, and of those kept
+others-apart : {Rules Doc Reason C : Type 0} (m : Meaning Rules Doc Reason C) (others carried kept made : List (Named C)) → 0 < length others
+    → AllUnpinched m (over_others others carried kept made) → AllUnpinched m carried × AllUnpinched m others × AllUnpinched m kept
+others-apart m [] carried kept made some h = absurd (omega arith)
+others-apart m (n ∷ others) carried kept made some h =
+    let rest : AllUnpinched m ((n ∷ others) ++ kept) = Each-back (λ k. Unpinched (m.step_map k.change)) carried ((n ∷ others) ++ kept) h in (
+      Each-front (λ k. Unpinched (m.step_map k.change)) carried ((n ∷ others) ++ kept) h,
+      Each-front (λ k. Unpinched (m.step_map k.change)) (n ∷ others) kept rest,
+      Each-back (λ k. Unpinched (m.step_map k.change)) (n ∷ others) kept rest,
+    )
+
 get-map : {A B : Type 0} (f : A → B) (xs : List A) (i : ℕ) (x : A) → slice_get xs i ≡ Some x → slice_get (map f xs) i ≡ Some (f x)
 get-map f [] i x h = absurd (cc)
 get-map f (y ∷ xs) zero x h = let e : y ≡ x = cc in ap (λ z. Some (f z)) e
@@ -137,11 +148,11 @@ module _ {Rules Doc Reason C : Type 0} (m : Meaning Rules Doc Reason C) (rules :
       (p, at, rw (front, rest) (rw whole at before))
 
   -- the later steps were carried over others'
-  brought-keeps : (base : Doc) (front back : List (Named C)) (r : Rebasing C Rules Doc Reason) → kin.stands.foreign ≡ front ++ back
+  brought-keeps : (base : Doc) (front back : List (Named C)) (r : Rebasing C Rules Doc Reason) → 0 < length front → kin.stands.foreign ≡ front ++ back
       → fold m rules c.base (changes_of (kin.stands.standing ++ front)) ≡ Some base
       → r ≡ rebased m rules (start m base (maps_of m front)) kin.stands.later
       → KeepsTokens m log c (brought m rules c kin.standing front base r) (m.size c.base)
-  brought-keeps base front back r split h is names may i p t at before after =
+  brought-keeps base front back r some split h is names may i p t at before after =
       let s = kin.stands in
       let gone : List (Named C) = s.standing ++ front in
       let past : kin.past ≡ gone ++ back = s.past_is ∙ ap (λ l. s.standing ++ l) split ∙ sym (append_assoc s.standing front back) in
@@ -150,9 +161,9 @@ module _ {Rules Doc Reason C : Type 0} (m : Meaning Rules Doc Reason C) (rules :
       let good = base-good m rules first log c kin laws in
       let pending : AllDiffer (s.standing ++ s.later) = rw s.pending_is at pending-differ in
       let well : Named_well m rules laws c.base gone names =
-      record { good = good; size = may.size; once = may.once; none = rw went at may.past; differ = rw went at may.differ; apart = rw went at may.past_unpinched } in
+      record { good = good; size = may.size; once = may.once; none = rw went at may.past; differ = rw went at may.differ } in
       let old : Named_well m rules laws c.base (s.standing ++ s.later) names =
-      record { good = good; size = may.size; once = may.once; none = rw s.pending_is at may.pending; differ = pending; apart = rw s.pending_is at may.unpinched } in
+      record { good = good; size = may.size; once = may.once; none = rw s.pending_is at may.pending; differ = pending } in
       let f = fork m rules laws c.base base c.doc s.standing front s.later good h (ap (λ l. fold m rules c.base (changes_of l)) (sym s.pending_is) ∙ kin.doc_is) in
       let shared : List Token = names_after m names s.standing in
       let front_well = well-after m rules laws c.base f.at s.standing front names f.reached well in
@@ -164,6 +175,18 @@ module _ {Rules Doc Reason C : Type 0} (m : Meaning Rules Doc Reason C) (rules :
       let later_none : NoneBy s.later names = Each-back _ s.standing s.later (rw s.pending_is at may.pending) in
       let fresh : NoneBy s.later (names_after m shared front) =
       subst (λ (l : List Token). NoneBy s.later l) (names-append m names s.standing front) (none-after m gone s.later names apart later_none) in
+      let run : own_run c.name gone ≡ length s.standing =
+      own_run-is c.name s.standing front (Each-front (IsOwn c.name) s.standing s.later (rw s.pending_is at kin.own)) far in
+      let others_are : drop (own_run c.name gone) gone ≡ front = ap (λ k. drop k gone) run ∙ drop-append_seam s.standing front in
+      let carried_are : drop (own_run c.name gone) c.pending ≡ s.later =
+      ap (λ k. drop k c.pending) run ∙ ap (λ l. drop (length s.standing) l) s.pending_is ∙ drop-append_seam s.standing s.later in
+      let over_gone : AllUnpinched m (gone_over c.name gone c.pending r.kept) =
+      subst (λ (l : List (Named C)). AllUnpinched m (gone_over c.name l c.pending r.kept)) went may.unpinched in
+      let made : List (Named C) = drop (length c.pending) r.kept in
+      let over_front : AllUnpinched m (over_others front s.later r.kept made) =
+      subst (λ (l : List (Named C)). AllUnpinched m (over_others front l r.kept made)) carried_are
+      (subst (λ (l : List (Named C)). AllUnpinched m (over_others l (drop (own_run c.name gone) c.pending) r.kept made)) others_are over_gone) in
+      let gone_apart : AllUnpinched m s.later × AllUnpinched m front × AllUnpinched m r.kept = others-apart m front s.later r.kept made some over_front in
       let following : Following m rules laws f.at (start m base (maps_of m front)) s.later shared (names_after m shared front) =
       record {
         can = record {
@@ -174,13 +197,14 @@ module _ {Rules Doc Reason C : Type 0} (m : Meaning Rules Doc Reason C) (rules :
           paired = plain-paired m rules front;
         };
         old_names = later_well;
+        old_apart = gone_apart.0;
         new_size = new_well.size;
         new_once = new_well.once;
         new_none = fresh;
-        leads = maps-lead m rules laws f.at base front shared f.left_applies front_well;
+        leads = maps-lead m rules laws f.at base front shared f.left_applies front_well gone_apart.1;
       } in
       let leads : Leads r.maps (names_after m shared s.later) (names_after m (names_after m shared front) r.kept) =
-      rw is (rebased-leads m rules laws f.at (start m base (maps_of m front)) s.later shared (names_after m shared front) following (rw (← is) may.made_unpinched)) in
+      rw is (rebased-leads m rules laws f.at (start m base (maps_of m front)) s.later shared (names_after m shared front) following (rw (← is) gone_apart.2)) in
       let was : slice_get (names_after m shared s.later) p ≡ Some t =
       ap (λ l. slice_get l p) (sym (names-append m names s.standing s.later) ∙ ap (names_after m names) (sym s.pending_is)) ∙ before in
       let same : names_after m (names_after m names (passed log c.version (c.version + (kin.standing + length front)))) r.kept ≡ names_after m (names_after m shared front) r.kept =
@@ -197,9 +221,12 @@ module _ {Rules Doc Reason C : Type 0} (m : Meaning Rules Doc Reason C) (rules :
   made-keeps cs doc h applies differ names may i p t at before after =
       let new : List (Named C) = named c.name (c.serials + 1) cs in
       let well : Named_well m rules laws c.base (c.pending ++ new) names =
-      record { good = base-good m rules first log c kin laws; size = may.size; once = may.once; none = may.made; differ = differ; apart = may.made_unpinched } in
+      record { good = base-good m rules first log c kin laws; size = may.size; once = may.once; none = may.made; differ = differ } in
+      let over_none : AllUnpinched m (drop (length c.pending) (c.pending ++ new)) =
+      subst (λ (l : List (Named C)). AllUnpinched m (gone_over c.name l c.pending (c.pending ++ new))) none-passed may.unpinched in
+      let apart : AllUnpinched m new = subst (λ (l : List (Named C)). AllUnpinched m l) (drop-append_seam c.pending new) over_none in
       let old : List Token = names_after m names c.pending in
-      let leads = maps-lead m rules laws c.doc doc new old applies (well-after m rules laws c.base c.doc c.pending new names kin.doc_is well) in
+      let leads = maps-lead m rules laws c.doc doc new old applies (well-after m rules laws c.base c.doc c.pending new names kin.doc_is well) apart in
       let same : names_after m (names_after m names (passed log c.version c.version)) (c.pending ++ new) ≡ names_after m old new =
       ap (λ l. names_after m (names_after m names l) (c.pending ++ new)) none-passed ∙ names-append m names c.pending new in
       let there : Has (names_after m old new) t = (after.0, ap (λ l. slice_get l after.0) (sym same) ∙ after.1) in (
@@ -236,4 +263,4 @@ module _ {Rules Doc Reason C : Type 0} (m : Meaning Rules Doc Reason C) (rules :
       from None e = now-keeps
       from (Some a) e =
           one-taken m rules first log c kin (λ d. KeepsTokens m log c d (m.size c.base)) now-keeps (λ base some f. confirmed-keeps base)
-          (λ base front back r some split f is. brought-keeps base front back r split f is) a (answer-stands m rules first log c kin i a e)
+          (λ base front back r some split f is. brought-keeps base front back r some split f is) a (answer-stands m rules first log c kin i a e)

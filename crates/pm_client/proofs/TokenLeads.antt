@@ -71,7 +71,6 @@ module _ {Rules Doc Reason C : Type 0} (m : Meaning Rules Doc Reason C) (rules :
     pub once : Once names
     pub none : NoneBy ns names
     pub differ : AllDiffer ns
-    pub apart : AllUnpinched m ns
 
   pub next-named : (doc next : Doc) (n : Named C) (ns : List (Named C)) (names : List Token) → m.outcome rules n.change doc ≡ Ok next → Named_well doc (n ∷ ns) names
       → Named_well next ns (spliced (Put n.name) (m.step_map n.change) names)
@@ -81,37 +80,36 @@ module _ {Rules Doc Reason C : Type 0} (m : Meaning Rules Doc Reason C) (rules :
     once = once-spliced n.name (m.step_map n.change) 0 0 names h.once h.none.0;
     none = none-spliced n.name ns (m.step_map n.change) names h.differ.0 h.none.1;
     differ = h.differ.1;
-    apart = h.apart.1;
   }
 
   -- a token after steps was there before them, or one of them put it in
-  has-before : (doc end : Doc) (ns : List (Named C)) (names : List Token) (t : Token) → AllApply m rules doc ns end → Named_well doc ns names → Has (names_after m names ns) t
-      → NotIn ns t → Has names t
-  has-before doc end [] names t applies h has not = has
-  has-before doc end (n ∷ ns) names t applies h has not =
+  has-before : (doc end : Doc) (ns : List (Named C)) (names : List Token) (t : Token) → AllApply m rules doc ns end → Named_well doc ns names → AllUnpinched m ns
+      → Has (names_after m names ns) t → NotIn ns t → Has names t
+  has-before doc end [] names t applies h apart has not = has
+  has-before doc end (n ∷ ns) names t applies h apart has not =
       let f = fold-cons m rules doc end n.change (changes_of ns) applies in
-      let rest = has-before f.0 end ns (spliced (Put n.name) (m.step_map n.change) names) t f.2 (next-named doc f.0 n ns names f.1 h) has not.1 in
-      from (has-back n.name (m.step_map n.change) (m.size doc) (m.size f.0) names t (laws.fits rules n.change doc f.0 h.good f.1) h.apart.0 h.size rest h.none.0)
+      let rest = has-before f.0 end ns (spliced (Put n.name) (m.step_map n.change) names) t f.2 (next-named doc f.0 n ns names f.1 h) apart.1 has not.1 in
+      from (has-back n.name (m.step_map n.change) (m.size doc) (m.size f.0) names t (laws.fits rules n.change doc f.0 h.good f.1) apart.0 h.size rest h.none.0)
     where
       from : Has names t ⊎ ((j : ℕ) × (t ≡ Put n.name j)) → Has names t
       from (inl x) = x
       from (inr x) = absurd (not.0 x.0 x.1)
 
-  -- A cursor with side 1 stays before its token over the maps of steps one after another.
-  pub maps-lead : (doc end : Doc) (ns : List (Named C)) (names : List Token) → AllApply m rules doc ns end → Named_well doc ns names
+  -- A cursor with side 1 stays before its token over the maps of steps one after another, none of which is pinched.
+  pub maps-lead : (doc end : Doc) (ns : List (Named C)) (names : List Token) → AllApply m rules doc ns end → Named_well doc ns names → AllUnpinched m ns
       → Leads (maps_of m ns) names (names_after m names ns)
-  maps-lead doc end [] names applies h p t at has = at
-  maps-lead doc end (n ∷ ns) names applies h p t at has =
+  maps-lead doc end [] names applies h apart p t at has = at
+  maps-lead doc end (n ∷ ns) names applies h apart p t at has =
       let rs = m.step_map n.change in
       let f = fold-cons m rules doc end n.change (changes_of ns) applies in
       let fits = laws.fits rules n.change doc f.0 h.good f.1 in
       let next = next-named doc f.0 n ns names f.1 h in
-      let there = has-before f.0 end ns (spliced (Put n.name) rs names) t f.2 next has (not-in ns names p t h.none.1 at) in
-      let left = survives n.name rs (m.size doc) (m.size f.0) p names t fits h.apart.0 h.size h.once h.none.0 at there in
-      let one = stands-moved (Put n.name) rs (m.size doc) (m.size f.0) p names t fits h.apart.0 left h.size at in
+      let there = has-before f.0 end ns (spliced (Put n.name) rs names) t f.2 next apart.1 has (not-in ns names p t h.none.1 at) in
+      let left = survives n.name rs (m.size doc) (m.size f.0) p names t fits apart.0 h.size h.once h.none.0 at there in
+      let one = stands-moved (Put n.name) rs (m.size doc) (m.size f.0) p names t fits apart.0 left h.size at in
       let mv : Moved = moved_from rs 0 0 0 p false in
       rw (through-pos (maps_of m ns) 0 false (joined (kept_at p) mv) (kept_at mv.pos) refl)
-      (maps-lead f.0 end ns (spliced (Put n.name) rs names) f.2 next mv.pos t one.0 has)
+      (maps-lead f.0 end ns (spliced (Put n.name) rs names) f.2 next apart.1 mv.pos t one.0 has)
 
   kept-grows : (so : Rebasing C Rules Doc Reason) (ns : List (Named C)) → (more : List (Named C)) × ((rebased m rules so ns).kept ≡ so.kept ++ more)
   kept-grows so [] = ([], sym (append-nil so.kept))
@@ -132,6 +130,7 @@ module _ {Rules Doc Reason C : Type 0} (m : Meaning Rules Doc Reason C) (rules :
   pub record Following (old : Doc) (so : Rebasing C Rules Doc Reason) (ns : List (Named C)) (before from : List Token) : Type 0 where
     pub can : CanRebase m rules old so ns
     pub old_names : Named_well old ns before
+    pub old_apart : AllUnpinched m ns
     pub new_size : length (names_after m from so.kept) ≡ m.size so.doc
     pub new_once : Once (names_after m from so.kept)
     pub new_none : NoneBy ns (names_after m from so.kept)
@@ -161,14 +160,14 @@ module _ {Rules Doc Reason C : Type 0} (m : Meaning Rules Doc Reason C) (rules :
     one-follows : Following step.0 (rebased_one m rules so n) ns (spliced (Put n.name) (m.step_map n.change) before) from
     one-follows =
         let g = by-carry (m.carry n.change so.maps) refl unpinched in
-        record { can = next_can; old_names = next-named old step.0 n ns before step.1 h.old_names; new_size = g.size; new_once = g.once; new_none = g.none; leads = g.leads }
+        record { can = next_can; old_names = next-named old step.0 n ns before step.1 h.old_names; old_apart = h.old_apart.1; new_size = g.size; new_once = g.once; new_none = g.none; leads = g.leads }
       where
         lost : Gone (led m rules so n None)
         lost = record {
           size = h.new_size;
           once = h.new_once;
           none = h.new_none.1;
-          leads = lost-leads (Put n.name) (m.step_map n.change) (m.size old) (m.size step.0) so.maps before after fits h.old_names.apart.0 h.old_names.size h.leads
+          leads = lost-leads (Put n.name) (m.step_map n.change) (m.size old) (m.size step.0) so.maps before after fits h.old_apart.0 h.old_names.size h.leads
               (not-unseen n.name after h.new_none.0);
         }
 
@@ -185,7 +184,7 @@ module _ {Rules Doc Reason C : Type 0} (m : Meaning Rules Doc Reason C) (rules :
               size = rw is (spliced-size (Put n.name) rs (m.size so.doc) (m.size d) after fits2 h.new_size);
               once = rw is (once-spliced n.name rs 0 0 after h.new_once h.new_none.0);
               none = rw is (none-spliced n.name ns rs after h.old_names.differ.0 h.new_none.1);
-              leads = rw is (held-leads (Put n.name) (m.step_map n.change) (m.size old) (m.size step.0) so.maps before after fits h.old_names.apart.0 h.old_names.size h.leads
+              leads = rw is (held-leads (Put n.name) (m.step_map n.change) (m.size old) (m.size step.0) so.maps before after fits h.old_apart.0 h.old_names.size h.leads
                   rs (m.size so.doc) (m.size d) fits2 apart2 h.new_size (laws.carried n.change c so.maps o) h.can.paired (not-unseen n.name before h.old_names.none.0)
                   (once-distinct after h.new_once));
             }

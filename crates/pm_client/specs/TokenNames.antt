@@ -6,6 +6,7 @@ use Rattle.pm_change.specs.declared.name.Name.{Name}
 use Rattle.pm_change.specs.Changes.{Meaning}
 use Rattle.pm_authority.specs.declared.named.Named.{Named}
 use Rattle.pm_client.specs.declared.client.Client.{Client}
+use Rattle.pm_client.specs.Clients.{own_run}
 
 -- A token of the first document is named by its place, and a token that a step puts in by the step's name and its place
 -- among those that the step puts in.
@@ -74,9 +75,24 @@ AllUnpinched m ns = Each (λ n. Unpinched (m.step_map n.change)) ns
 abbrev pub passed : {C : Type 0} → List (Named C) → ℕ → ℕ → List (Named C)
 passed log old new = take (new - old) (drop old log)
 
+-- What cursors go over. Where no others' steps were passed, those are the steps made. Else they are the pending steps that
+-- were carried over the others', the others', and the steps pending afterwards.
+abbrev pub over_others : {C : Type 0} → List (Named C) → List (Named C) → List (Named C) → List (Named C) → List (Named C)
+over_others [] carried kept made = made
+over_others (n ∷ others) carried kept made = carried ++ ((n ∷ others) ++ kept)
+
+-- The steps over which this client's cursors go while it passes these entries of the log and its pending steps become other
+-- ones. Where no entry is another client's, those are the steps that it made: the ones pending after, behind as many as were
+-- pending before. So there are none where its own entries were confirmed, and none where nothing was done. Where others'
+-- entries stand behind its own ones, those are the pending steps behind as many as its own entries, the others' entries, and
+-- the steps pending after.
+abbrev pub gone_over : {C : Type 0} → ℕ → List (Named C) → List (Named C) → List (Named C) → List (Named C)
+gone_over client entries before after =
+    over_others (drop (own_run client entries) entries) (drop (own_run client entries) before) after (drop (length before) after)
+
 module _ {Rules Doc Reason C : Type 0} (m : Meaning Rules Doc Reason C) (log : List (Named C)) (c d : Client C Rules Doc Reason) where
   -- Names of the tokens of the base: they differ, and none is that of a token which a step of the log or a pending one puts
-  -- in. No two steps that the client passed have one name, and no step over which it went is pinched.
+  -- in. No two steps that the client passed have one name, and no step over which its cursors went is pinched.
   pub record MayName (base_size : ℕ) (names : List Token) : Type 0 where
     pub size : length names ≡ base_size
     pub once : Once names
@@ -84,9 +100,7 @@ module _ {Rules Doc Reason C : Type 0} (m : Meaning Rules Doc Reason C) (log : L
     pub pending : NoneBy c.pending names
     pub made : NoneBy d.pending names
     pub differ : AllDiffer (passed log c.version d.version)
-    pub past_unpinched : AllUnpinched m (passed log c.version d.version)
-    pub unpinched : AllUnpinched m c.pending
-    pub made_unpinched : AllUnpinched m d.pending
+    pub unpinched : AllUnpinched m (gone_over c.name (passed log c.version d.version) c.pending d.pending)
 
   -- A cursor with side 1 that stood before a token of the client's document stands before that token of its next document,
   -- where that is there. The documents' tokens have the names that the base's tokens come to have over the pending steps,

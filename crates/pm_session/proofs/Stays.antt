@@ -115,9 +115,7 @@ module _ {Rules Doc Reason C : Type 0} (m : Meaning Rules Doc Reason C) (rules :
           pending = fresh.none;
           made = none-after m kin.before d.pending start (apart-front kin.before gone d.pending made) (none-first d.pending 0 (m.size a.first));
           differ = differ-back kin.before gone gone_differ;
-          past_unpinched = unpinched.past;
-          unpinched = unpinched.pending;
-          made_unpinched = unpinched.made;
+          unpinched = unpinched;
         } in
         let old : tokens_of m a c ≡ names_after m base c.pending =
         ap (λ l. names_after m start (l ++ c.pending)) (ap (take c.version) (sym (append-nil a.log)) ∙ before-is a.first a.log [] c kin)
@@ -265,9 +263,7 @@ module _ {Rules Doc Reason C : Type 0} (m : Meaning Rules Doc Reason C) (rules :
                 pending = may.pending;
                 made = may.made;
                 differ = may.differ;
-                past_unpinched = may.past_unpinched;
                 unpinched = may.unpinched;
-                made_unpinched = may.made_unpinched;
               })
               i q t at before after;
           rises = taken-rises keeper p.0;

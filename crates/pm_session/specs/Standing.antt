@@ -3,7 +3,7 @@ use Rattle.std.specs.Prelude.{◌≡◌, ℕ, ◌++◌, List, length, slice_get,
 use Rattle.pm_change.specs.Changes.{Meaning}
 use Rattle.pm_authority.specs.declared.authority.Authority.{Authority}
 use Rattle.pm_client.specs.declared.client.Client.{Client}
-use Rattle.pm_client.specs.TokenNames.{Token, Has, Once, first_names, names_after, passed, AllUnpinched}
+use Rattle.pm_client.specs.TokenNames.{Token, Has, Once, first_names, names_after, passed, AllUnpinched, gone_over}
 use Rattle.pm_session.specs.Events.{State}
 
 module _ {Rules Doc Reason C : Type 0} (m : Meaning Rules Doc Reason C) where
@@ -21,16 +21,16 @@ module _ {Rules Doc Reason C : Type 0} (m : Meaning Rules Doc Reason C) where
   abbrev pub AllNamed : State C Rules Doc Reason → Type 0
   AllNamed s = (i : ℕ) (c : Client C Rules Doc Reason) → slice_get s.clients i ≡ Some c → AreNamed s.authority c
 
-  -- A client became another while the authority became the new one. None of the steps is pinched that it had pending, that
-  -- it passed in the log, or that it has pending now: no two ranges of such a step touch.
-  pub record NonePinched (new : Authority C Rules Doc Reason) (c d : Client C Rules Doc Reason) : Type 0 where
-    pub pending : AllUnpinched m c.pending
-    pub past : AllUnpinched m (passed new.log c.version d.version)
-    pub made : AllUnpinched m d.pending
+  -- A client became another while the authority became the new one. None of the steps is pinched that its cursors were
+  -- mapped over, that is, no two ranges of such a step touch. For an edit, an undo and a redo those are the steps made. Where
+  -- others' steps were taken, they are the pending steps that were carried over these, others' steps, and the carried steps
+  -- that are still pending. Otherwise there are none.
+  abbrev pub NonePinched : Authority C Rules Doc Reason → Client C Rules Doc Reason → Client C Rules Doc Reason → Type 0
+  NonePinched new c d = AllUnpinched m (gone_over c.name (passed new.log c.version d.version) c.pending d.pending)
 
   -- One room comes after another. Where a cursor with side 1 of a client stands before a token of the client's document in
-  -- the first, it stands before that token in the second too, if the client's document still has it and no step in between is
-  -- pinched. A cursor keeps its number.
+  -- the first, it stands before that token in the second too, if the client's document still has it and no step that the
+  -- client's cursors were mapped over is pinched. A cursor keeps its number.
   abbrev pub CursorsStay : State C Rules Doc Reason → State C Rules Doc Reason → Type 0
   CursorsStay s t =
       (i : ℕ) (c d : Client C Rules Doc Reason) → slice_get s.clients i ≡ Some c → slice_get t.clients i ≡ Some d → NonePinched t.authority c d
