@@ -1,9 +1,7 @@
-//! Three callers of the engine: one reads and applies, one works together with another, and one shares a desk.
+//! Callers of the engine: one reads and applies, and one works together with another.
 #![tactic(auto)]
 
 #[cfg(test)]
 mod applying;
-#[cfg(test)]
-mod desk;
 #[cfg(test)]
 mod together;
