@@ -38,25 +38,42 @@ for session in "$top"/tests/*/*.session "$top"/examples/*.session; do
 done
 
 # Inputs at a limit are made here, since they are large: one byte more than an input may have, one op line more than a
-# session, and an op line that is one byte too long and one that is not.
+# session, an op line that is one byte too long and one that is not, and documents of as many tokens as one may have.
 wanted=$(mktemp) || exit 2
 large=$(mktemp) || exit 2
-trap 'rm -f "$got" "$wanted" "$large"' EXIT
+whole=$(mktemp) || exit 2
+trap 'rm -f "$got" "$wanted" "$large" "$whole"' EXIT
 head=$top/examples/first.session
+
+# Counts a large input: its name, the word, the status and the first line of the output that are wanted.
 limit() {
-  echo "$2" >"$wanted"
-  "$program" check <"$large" >"$got" 2>/dev/null
-  judge "$1" $? 1 "$wanted"
+  echo "$4" >"$wanted"
+  "$program" "$2" <"$large" >"$whole" 2>/dev/null
+  status=$?
+  head -n 1 "$whole" >"$got"
+  judge "$1" "$status" "$3" "$wanted"
 }
-blanks() { head -c "$1" /dev/zero | tr '\0' ' '; }
-blanks 67108865 >"$large"
-limit "an input of one byte too many" "refused 0 1"
+filled() { head -c "$1" /dev/zero | tr '\0' "$2"; }
+# A paragraph of so many letters, and a step that puts one more in.
+letters() {
+  head -n 1 "$head"
+  printf '{"content":[{"content":[{"text":"%s","type":"text"}],"type":"paragraph"}],"type":"doc"}\n["a"]\n' "$(filled "$1" x)"
+  echo '{"c":"a","op":"step","step":{"from":1,"slice":{"content":[{"text":"y","type":"text"}]},"stepType":"replace","to":1}}'
+}
+filled 67108865 ' ' >"$large"
+limit "an input of one byte too many" check 1 "refused 0 1"
 { head -n 3 "$head" && yes '{"c":"ann","op":"push"}' | head -n 100001; } >"$large"
-limit "an op line too many" "refused 100004 4"
-{ head -n 3 "$head" && blanks 1048577; } >"$large"
-limit "an op line too long" "refused 4 3"
-{ head -n 3 "$head" && blanks 1048576; } >"$large"
-limit "an op line of blanks" "refused 4 5"
+limit "an op line too many" check 1 "refused 100004 4"
+{ head -n 3 "$head" && filled 1048577 ' '; } >"$large"
+limit "an op line too long" check 1 "refused 4 3"
+{ head -n 3 "$head" && filled 1048576 ' '; } >"$large"
+limit "an op line of blanks" check 1 "refused 4 5"
+letters 499997 >"$large"
+limit "a step that fills the document" replay 0 "4 made 1"
+letters 499998 >"$large"
+limit "a step that makes the document too large" replay 0 "4 refused 0 7"
+letters 499999 >"$large"
+limit "a first document that is too large" check 1 "refused 2 16"
 
 echo "$passed passed, $failed failed"
 [ "$failed" -eq 0 ]
