@@ -8,7 +8,7 @@ pub mod TableLaws
 pub mod LookLaws
 mod RowLaws
 mod WidthLaws
-mod ExprLaws
+pub mod ExprLaws
 pub mod TrimLaws
 mod PartLaws
 mod SetLaws

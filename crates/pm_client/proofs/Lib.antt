@@ -11,3 +11,4 @@ pub mod TokenLeads
 pub mod TokenKeeps
 pub mod Turns
 pub mod Makings
+mod Edits

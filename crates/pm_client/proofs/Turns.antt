@@ -1,5 +1,6 @@
 -- Undoing and redoing the last event.
 use Rattle.std.specs.Prelude.{Result, Ok, Err, IfOk, OnOk, OnErr, ◌≡◌, ℕ, ◌+◌, Bool, true, false, List, [], ◌∷◌, ◌++◌, length, Option, Some, None, refl, All}
+use Rattle.std.specs.List.{AllByRecursion as Each}
 use Rattle.std.proofs.Common.{sym, ap, subst, ◌∙◌, arith, length-append}
 use Rattle.std.proofs.lemmas.List.Elements.{All-from_recursion}
 use Rattle.pm_change.specs.Changes.{Meaning, Laws, fold}
@@ -13,16 +14,16 @@ use Rattle.pm_history.specs.Timelines.{Step, items_from}
 use Rattle.pm_history.specs.Made.{made_steps, IsMade}
 use Rattle.pm_history.specs.Undos.{undo_event}
 use Rattle.pm_history.specs.Shows.{ShowsTo}
-use Rattle.pm_history.specs.Tidy.{IsTidy}
+use Rattle.pm_history.specs.Tidy.{NoRangeUndoes, IsTidy}
 use Rattle.pm_history.specs.Unchanged.{NothingSince}
 use Rattle.pm_history.specs.Remembers.{live_names, Remembers}
 use Rattle.pm_history.specs.Standing.{IsHistoryOf}
 use Rattle.pm_history.specs.Grows.{undo-remembers, redo-remembers, history-shows}
 use Rattle.pm_history.specs.Turned.{IsLast, history-undone}
 use Rattle.pm_history.proofs.Mades.{made-event}
-use Rattle.pm_history.proofs.Agrees.{undo-restores}
+use Rattle.pm_history.proofs.Agrees.{undo-restores, undo-remembered}
 use Rattle.pm_client.specs.declared.client.Client.{Client}
-use Rattle.pm_client.specs.Clients.{named, event_turned, last_turned}
+use Rattle.pm_client.specs.Clients.{named, turned, event_turned, last_turned}
 use Rattle.pm_client.specs.Cursors.{HasRoomIn}
 use Rattle.pm_client.specs.Kins.{Kin}
 use Rattle.pm_client.specs.Keeps.{doc-good, timeline-applies, kin-gone_on}
@@ -31,7 +32,7 @@ use Rattle.pm_client.specs.Rebasables.{NamedHasMap}
 use Rattle.pm_client.specs.RebaseLaws.{maps-fit, plain-paired, cursors-room}
 use Rattle.pm_client.specs.TimelineLaws.{made-timeline, named-changes}
 use Rattle.pm_client.specs.TokenNames.{KeepsTokens}
-use Rattle.pm_client.specs.Undoings.{GivesBack}
+use Rattle.pm_client.specs.Undoings.{GivesBack, TurnsOver}
 use Rattle.pm_client.proofs.TokenKeeps.{gone_on-keeps}
 
 -- events whose last one is this
@@ -98,6 +99,7 @@ module _ {Rules Doc Reason C : Type 0} (m : Meaning Rules Doc Reason C) (rules :
         gone_on-keeps m rules laws first log c kin w.made w.doc (undone redo c.history (event_of e.number (names_in w.items)) w.items) (new-applies w made) kin-turned
 
   remembers : (redo : Bool) (e : Event) → last_of redo c.history ≡ Some e → Remembers m rules e.names first kin.timeline c.history.items × IsTidy (items_from m rules first kin.timeline) e.names
+      × Each (λ n. NoRangeUndoes (Some n) (items_from m rules first kin.timeline)) e.names
   remembers false e last = undo-remembers m rules c.name c.serials first kin.timeline c.history (without_last c.history.undo) e kin.history (last-split c.history.undo e last)
   remembers true e last = redo-remembers m rules c.name c.serials first kin.timeline c.history (without_last c.history.redo) e kin.history (last-split c.history.redo e last)
 
@@ -106,7 +108,12 @@ module _ {Rules Doc Reason C : Type 0} (m : Meaning Rules Doc Reason C) (rules :
       → (event_turned m rules c redo e).1.doc ≡ before
   turned-restores redo e last before since =
       let r = remembers redo e last in
-      undo-restores m rules c.name laws e.names first kin.timeline c.history.items before c.doc (c.serials + 1) kin.first_good r.0 r.1 since
+      undo-restores m rules c.name laws e.names first kin.timeline c.history.items before c.doc (c.serials + 1) kin.first_good r.0 r.1 r.2 since
+
+  -- undoing the event over the items kept is undoing it over the whole timeline
+  pub turned-whole : (redo : Bool) (e : Event) → last_of redo c.history ≡ Some e
+      → undo_event m rules c.name e.names c.history.items c.doc (c.serials + 1) ≡ undo_event m rules c.name e.names (items_from m rules first kin.timeline) c.doc (c.serials + 1)
+  turned-whole redo e last = undo-remembered m rules c.name e.names e.names first kin.timeline c.history.items c.doc (c.serials + 1) (λ P k. k) (remembers redo e last).0
 
 -- there is a last event exactly where there is one
 pub last-none : (es : List Event) → (last_event es ≡ None → es ≡ []) × (es ≡ [] → last_event es ≡ None)
@@ -141,6 +148,20 @@ module _ {Rules Doc Reason C E : Type 0} (m : Meaning Rules Doc Reason C) (rules
   pub turn-kin : OnErr r (next ≡ c) → (first : Doc) (log : List (Named C)) → Kin m rules first log c → Kin m rules first log next
   turn-kin err first log kin =
       turned-both m rules c redo next (λ d. Kin m rules first log d) r (last_of redo c.history) turns err kin (λ e last. kin-turned m rules laws first log c kin redo e last)
+
+  pub turn-whole : IfOk r (λ n. (first : Doc) (log : List (Named C)) (kin : Kin m rules first log c) → TurnsOver m rules redo c first kin.timeline n next)
+  turn-whole = from r turns
+    where
+      from : (s : Result ℕ E) → IfOk s (λ n. last_turned m rules c redo (last_of redo c.history) ≡ Some (n, next))
+          → IfOk s (λ n. (first : Doc) (log : List (Named C)) (kin : Kin m rules first log c) → TurnsOver m rules redo c first kin.timeline n next)
+      from (Err e) h = tt
+      from (Ok n) h = λ first log kin e last.
+          let some : Some (event_turned m rules c redo e) ≡ Some (n, next) = ap (last_turned m rules c redo) (sym last) ∙ h in
+          let is : event_turned m rules c redo e ≡ (n, next) = cc in
+          let same = turned-whole m rules laws first log c kin redo e last in (
+            ap (λ p. p.0) (sym is) ∙ ap (λ (v : Undone Doc C). length v.made) same,
+            ap (λ p. p.1) (sym is) ∙ ap (λ (v : Undone Doc C). turned m c redo e.number v) same,
+          )
 
   pub turn-restores : OnOk r ((first : Doc) (log : List (Named C)) (kin : Kin m rules first log c) → GivesBack m rules redo c first kin.timeline next.doc)
   turn-restores =

@@ -1,11 +1,13 @@
--- What undoing restores, and why nothing was undone.
-use Rattle.std.specs.Prelude.{◌≡◌, Bool, List, Some}
+-- What undoing makes of a timeline, and what it restores.
+use Rattle.std.specs.Prelude.{◌≡◌, ℕ, ◌+◌, Bool, List, length, Some}
 use Rattle.pm_change.specs.Changes.{Meaning}
 use Rattle.pm_history.specs.declared.branch.Event.{Event}
 use Rattle.pm_history.specs.Histories.{last_of}
-use Rattle.pm_history.specs.Timelines.{Step}
+use Rattle.pm_history.specs.Timelines.{Step, items_from}
+use Rattle.pm_history.specs.Undos.{undo_event}
 use Rattle.pm_history.specs.Unchanged.{NothingSince}
 use Rattle.pm_client.specs.declared.client.Client.{Client}
+use Rattle.pm_client.specs.Clients.{turned}
 
 module _ {Rules Doc Reason C : Type 0} (m : Meaning Rules Doc Reason C) (rules : Rules) where
   -- Where nothing has changed in the timeline since the last event to undo, or to redo where `redo` holds, this is the
@@ -14,3 +16,10 @@ module _ {Rules Doc Reason C : Type 0} (m : Meaning Rules Doc Reason C) (rules :
   abbrev pub GivesBack : Bool → Client C Rules Doc Reason → Doc → List (Step C) → Doc → Type 0
   GivesBack redo c first timeline doc =
       (e : Event) (before : Doc) → last_of redo c.history ≡ Some e → NothingSince m rules e.names first timeline before c.doc → doc ≡ before
+
+  -- The last event to undo, or to redo where `redo` holds, was undone over all steps of this timeline, by so many steps: each
+  -- stored inverse was carried over the maps of all later steps, whatever the history still remembers of them.
+  abbrev pub TurnsOver : Bool → Client C Rules Doc Reason → Doc → List (Step C) → ℕ → Client C Rules Doc Reason → Type 0
+  TurnsOver redo c first timeline n next =
+      (e : Event) → last_of redo c.history ≡ Some e
+      → (let w = undo_event m rules c.name e.names (items_from m rules first timeline) c.doc (c.serials + 1) in (n ≡ length w.made) × (next ≡ turned m c redo e.number w))

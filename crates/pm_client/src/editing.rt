@@ -9,7 +9,7 @@ ghost use Rattle.pm_client.specs.Kins.{Kin, Stands};
 ghost use Rattle.pm_client.specs.Rebases.{maps_of};
 ghost use Rattle.pm_client.specs.Rebasables.{NamedHasMap};
 ghost use Rattle.pm_client.specs.TokenNames.{KeepsTokens};
-ghost use Rattle.pm_client.specs.Undoings.{GivesBack};
+ghost use Rattle.pm_client.specs.Undoings.{GivesBack, TurnsOver};
 
 use crate::client::Client;
 use crate::cursors::move_all;
@@ -44,6 +44,9 @@ impl<C: Change> Client<C> {
         ensures made { IfOk result (λ n. edited C.means rules.now self.old steps.items event ≡ Ok self.new) }
         ensures refused { IfErr result (IsRefusal C.means rules.now (edited C.means rules.now self.old steps.items event)) }
         ensures err { OnErr result (self.new ≡ self.old) }
+        // What this asks of the client holds after it too.
+        ensures stays_good { C.means.is_good rules.now self.new.doc }
+        ensures stay_within { AreWithin (C.means.size self.new.doc) self.new.cursors }
         // To what log the client stood, it stands.
         ensures kin { (first : C.Doc) (log : List (Named C)) → Kin C.means rules.now first log self.old
             → Kin C.means rules.now first log self.new }
@@ -100,6 +103,9 @@ impl<C: Change> Client<C> {
         // Where nothing has changed since the event, its earlier document is given back.
         ensures restores { OnOk result ((first : C.Doc) (log : List (Named C)) (kin : Kin C.means rules.now first log self.old)
             → GivesBack C.means rules.now false self.old first kin.timeline self.new.doc) }
+        // It is the undo of the event over the client's whole timeline.
+        ensures whole { IfOk result (λ n. (first : C.Doc) (log : List (Named C)) (kin : Kin C.means rules.now first log self.old)
+            → TurnsOver C.means rules.now false self.old first kin.timeline n self.new) }
         // A cursor with side 1 that stood before a token stands before it, where that is still there.
         ensures tokens { OnOk result ((first : C.Doc) (log : List (Named C)) → Kin C.means rules.now first log self.old
             → KeepsTokens C.means log self.old self.new (C.means.size self.old.base)) }
@@ -120,6 +126,9 @@ impl<C: Change> Client<C> {
         // Where nothing has changed since the event, its earlier document is given back.
         ensures restores { OnOk result ((first : C.Doc) (log : List (Named C)) (kin : Kin C.means rules.now first log self.old)
             → GivesBack C.means rules.now true self.old first kin.timeline self.new.doc) }
+        // It is the undo of the event over the client's whole timeline.
+        ensures whole { IfOk result (λ n. (first : C.Doc) (log : List (Named C)) (kin : Kin C.means rules.now first log self.old)
+            → TurnsOver C.means rules.now true self.old first kin.timeline n self.new) }
         // A cursor with side 1 that stood before a token stands before it, where that is still there.
         ensures tokens { OnOk result ((first : C.Doc) (log : List (Named C)) → Kin C.means rules.now first log self.old
             → KeepsTokens C.means log self.old self.new (C.means.size self.old.base)) }

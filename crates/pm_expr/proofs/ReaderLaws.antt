@@ -1,8 +1,8 @@
 -- What the grammar derives, the reader reads.
-use Rattle.std.proofs.Common.{◌≡◌, ℕ, List, [], ◌∷◌, ◌++◌, Option, Some, None, refl, ap, sym, ◌∙◌, append_assoc}
+use Rattle.std.proofs.Common.{◌≡◌, List, [], ◌∷◌, ◌++◌, Option, Some, None, refl, ap, sym, ◌∙◌, append_assoc}
 use Rattle.pm_auto.specs.Tree as tree
 use Rattle.pm_auto.specs.Tree.{Tree}
-use Rattle.pm_expr.specs.Tokens.{Token, name, bracket, end_bracket, bar, plus, star, query, brace, end_brace, number, comma}
+use Rattle.pm_expr.specs.Tokens.{Token, bracket, end_bracket, bar, plus, star, query, brace, end_brace, number, comma}
 use Rattle.pm_expr.specs.Names.{Named, joined}
 use Rattle.pm_expr.specs.Grammar.{Item, named, bracketed, one_or_more, any_number, at_most_one, exactly, at_least, from_to, Items, no_item, and_item, Sequence, in_turn, Barred, no_bar, and_bar, Choice, one_of}
 use Rattle.pm_expr.specs.Reader.{Frame, State, state, frame, settled, sequence_of, choice_of, outside, after}

@@ -2,18 +2,18 @@
 use Rattle.std.proofs.Common.{◌≡◌, ℕ, List, [], ◌∷◌, ◌++◌, reverse, length, Option, Some, None, Result, Ok, Err, refl, ap, sym, ◌∙◌, subst, append_assoc, inl, inr, ◌⊎◌}
 use Rattle.std.specs.Result.{IsErrAnd}
 use Rattle.std.proofs.lemmas.List.{append-nil}
-use Rattle.pm_auto.specs.Tree as tree
 use Rattle.pm_auto.specs.Tree.{Tree}
 use Rattle.pm_expr.specs.declared.error.ExprError.{ExprError}
-use Rattle.pm_expr.specs.declared.error.ExprError.TheVariants.{Syntax, UnknownName, Range, NoMemory}
+use Rattle.pm_expr.specs.declared.error.ExprError.TheVariants.{Syntax, UnknownName, Range, Deep, NoMemory}
 use Rattle.pm_expr.specs.Tokens.{Token, place, tokens}
-use Rattle.pm_expr.specs.Names.{Named, joined}
+use Rattle.pm_expr.specs.Names.{Named}
 use Rattle.pm_expr.specs.Grammar.{Items, no_item, and_item, in_turn, Barred, no_bar, and_bar, Choice, one_of}
+use Rattle.pm_expr.specs.Levels.{Levels, no_levels, counted, counted_all, levels_of, depth_flaw}
 use Rattle.pm_expr.specs.Reading.{Stands, Whole, flaw, Unless, Reading, Reads, Is}
-use Rattle.pm_expr.specs.Reader.{Frame, State, state, sequence_of, choice_of, Point, outside, opened, low, parted, high, after, flaw_at, checked, stepped, step, start, said_at_end, finished, ◌>>=◌, outcome}
-use Rattle.pm_expr.specs.Views.{Steps}
+use Rattle.pm_expr.specs.Reader.{Frame, State, state, sequence_of, choice_of, Point, outside, opened, low, parted, high, after, flaw_at, checked, stepped, step, start, said_at_end, finished, ◌>>=◌, unless_fault, outcome}
+use Rattle.pm_expr.specs.Views.{Steps, Counts}
 use Rattle.pm_expr.proofs.ReaderLaws.{then, follow, follow-append, choice-read}
-use Rattle.pm_expr.proofs.SeenLaws.{Seen, before, behind, at_brace, at_low, at_comma, at_high, Opened, none, more, Then, grows, seen-stands, flaw-seen}
+use Rattle.pm_expr.proofs.SeenLaws.{Seen, before, behind, at_brace, at_low, at_comma, at_high, none, more, Then, grows, seen-stands, flaw-seen}
 
 module _ (types : List Named) where
   -- after tokens that can stand the reader has a state
@@ -95,23 +95,44 @@ module _ (types : List Named) where
   unless-is None s r go P p = p
   unless-is (Some f) s r go P p = refl
 
+  -- one token more is counted
+  counted-more : (l : Levels) (ts : List Token) (t : Token) → counted_all l (ts ++ t ∷ []) ≡ counted (counted_all l ts) t
+  counted-more l [] t = refl
+  counted-more l (x ∷ ts) t = counted-more (counted l x) ts t
+
+  deep-is : (f : Option ExprError) (x : Result Tree ExprError) (P : Result Tree ExprError → Type 0) → P x → Unless f (unless_fault f x) (P (unless_fault f x))
+  deep-is None x P p = p
+  deep-is (Some f) x P p = refl
+
+  -- what is said of the tokens behind these
+  abbrev onward : (size : ℕ) (left ts : List Token) (t : Token) → State → Result Tree ExprError
+  onward size left ts t z = unless_fault (depth_flaw (levels_of ts) t) (outcome types size left (counted (levels_of ts) t) z)
+
+  -- that it is the reading of the tokens behind these
+  abbrev Onward : (size : ℕ) (left ts : List Token) (t : Token) → Result Tree ExprError → Type 0
+  Onward size left ts t r = Unless (depth_flaw (levels_of ts) t) r (Reading types size (ts ++ t ∷ []) left r)
+
   -- the reader gives the reading
-  pub outcome-reads : (size : ℕ) (left : List Token) (s : State) (ts : List Token) → Seen types s ts → follow types ts start ≡ Some s → Reading types size ts left (outcome types size left s)
+  pub outcome-reads : (size : ℕ) (left : List Token) (s : State) (ts : List Token) → Seen types s ts → follow types ts start ≡ Some s → Reading types size ts left (outcome types size left (levels_of ts) s)
   outcome-reads size [] s ts d h = at-end size s ts d h (finished size s) refl
   outcome-reads size (t ∷ left) s ts d h =
       at (after types s t) (follow-more ts s t h) (grows types s ts d t) (flaw-seen types s ts d t) (outcome-reads size left)
     where
       at : (o : Option State) → follow types (ts ++ t ∷ []) start ≡ o → Then o (λ z. Seen types z (ts ++ t ∷ [])) → Then o (λ z. flaw_at types s.point t ≡ flaw types (reverse ts) t)
-          → ((z : State) (us : List Token) → Seen types z us → follow types us start ≡ Some z → Reading types size us left (outcome types size left z))
-          → ((¬ Stands types (ts ++ t ∷ [])) × (stepped (place t) (flaw_at types s.point t) o >>= outcome types size left ≡ Err (Syntax (place t))))
-          ⊎ (Stands types (ts ++ t ∷ []) × Unless (flaw types (reverse ts) t) (stepped (place t) (flaw_at types s.point t) o >>= outcome types size left)
-          (Reading types size (ts ++ t ∷ []) left (stepped (place t) (flaw_at types s.point t) o >>= outcome types size left)))
+          → ((z : State) (us : List Token) → Seen types z us → follow types us start ≡ Some z → Reading types size us left (outcome types size left (levels_of us) z))
+          → ((¬ Stands types (ts ++ t ∷ [])) × (stepped (place t) (flaw_at types s.point t) o >>= onward size left ts t ≡ Err (Syntax (place t))))
+          ⊎ (Stands types (ts ++ t ∷ []) × Unless (flaw types (reverse ts) t) (stepped (place t) (flaw_at types s.point t) o >>= onward size left ts t)
+          (Onward size left ts t (stepped (place t) (flaw_at types s.point t) o >>= onward size left ts t)))
       at None p g f i = inl (λ k. stands-follow (ts ++ t ∷ []) k p, refl)
-      at (Some z) p g f i = inr (
-        seen-stands types z (ts ++ t ∷ []) g,
-        subst (λ w. Unless w (checked (flaw_at types s.point t) z >>= outcome types size left) (Reading types size (ts ++ t ∷ []) left (checked (flaw_at types s.point t) z >>= outcome types size left))) f
-            (unless-is (flaw_at types s.point t) z (outcome types size left z) (outcome types size left) (Reading types size (ts ++ t ∷ []) left) (i z (ts ++ t ∷ []) g p)),
-      )
+      at (Some z) p g f i =
+          let read : Reading types size (ts ++ t ∷ []) left (outcome types size left (counted (levels_of ts) t) z) =
+          subst (λ l. Reading types size (ts ++ t ∷ []) left (outcome types size left l z)) (counted-more no_levels ts t) (i z (ts ++ t ∷ []) g p) in
+          inr (
+            seen-stands types z (ts ++ t ∷ []) g,
+            subst (λ w. Unless w (checked (flaw_at types s.point t) z >>= onward size left ts t) (Onward size left ts t (checked (flaw_at types s.point t) z >>= onward size left ts t))) f
+                (unless-is (flaw_at types s.point t) z (onward size left ts t z) (onward size left ts t) (Onward size left ts t)
+                (deep-is (depth_flaw (levels_of ts) t) (outcome types size left (counted (levels_of ts) t) z) (Reading types size (ts ++ t ∷ []) left) read)),
+          )
 
   end-only : (size : ℕ) (s : State) (ts : List Token) → Seen types s ts → follow types ts start ≡ Some s → (r : Result Tree ExprError) → Reading types size ts [] r → finished size s ≡ r
   end-only size s ts d h (Ok e) q = whole-finished size ts e s q h
@@ -125,32 +146,38 @@ module _ (types : List Named) where
   unless-only None s r go P k u = k u
   unless-only (Some f) s r go P k u = sym u
 
+  deep-only : (f : Option ExprError) (x r : Result Tree ExprError) (P : Type 0) → (P → x ≡ r) → Unless f r P → unless_fault f x ≡ r
+  deep-only None x r P k u = k u
+  deep-only (Some f) x r P k u = sym u
+
   -- and nothing else is the reading
-  pub reads-outcome : (size : ℕ) (left : List Token) (s : State) (ts : List Token) → Seen types s ts → follow types ts start ≡ Some s → (r : Result Tree ExprError) → Reading types size ts left r → outcome types size left s ≡ r
+  pub reads-outcome : (size : ℕ) (left : List Token) (s : State) (ts : List Token) → Seen types s ts → follow types ts start ≡ Some s → (r : Result Tree ExprError) → Reading types size ts left r → outcome types size left (levels_of ts) s ≡ r
   reads-outcome size [] s ts d h r q = end-only size s ts d h r q
   reads-outcome size (t ∷ left) s ts d h r q =
       at (after types s t) (follow-more ts s t h) (grows types s ts d t) (flaw-seen types s ts d t) (reads-outcome size left) q
     where
       at : (o : Option State) → follow types (ts ++ t ∷ []) start ≡ o → Then o (λ z. Seen types z (ts ++ t ∷ [])) → Then o (λ z. flaw_at types s.point t ≡ flaw types (reverse ts) t)
-          → ((z : State) (us : List Token) → Seen types z us → follow types us start ≡ Some z → (r : Result Tree ExprError) → Reading types size us left r → outcome types size left z ≡ r)
+          → ((z : State) (us : List Token) → Seen types z us → follow types us start ≡ Some z → (r : Result Tree ExprError) → Reading types size us left r → outcome types size left (levels_of us) z ≡ r)
           → ((¬ Stands types (ts ++ t ∷ [])) × (r ≡ Err (Syntax (place t))))
-          ⊎ (Stands types (ts ++ t ∷ []) × Unless (flaw types (reverse ts) t) r (Reading types size (ts ++ t ∷ []) left r))
-          → stepped (place t) (flaw_at types s.point t) o >>= outcome types size left ≡ r
+          ⊎ (Stands types (ts ++ t ∷ []) × Unless (flaw types (reverse ts) t) r (Onward size left ts t r))
+          → stepped (place t) (flaw_at types s.point t) o >>= onward size left ts t ≡ r
       at None p g f i (inl a) = sym a.1
       at None p g f i (inr a) = absurd (stands-follow (ts ++ t ∷ []) a.0 p)
       at (Some z) p g f i (inl a) = absurd (a.0 (seen-stands types z (ts ++ t ∷ []) g))
       at (Some z) p g f i (inr a) =
-          unless-only (flaw_at types s.point t) z r (outcome types size left) (Reading types size (ts ++ t ∷ []) left r) (i z (ts ++ t ∷ []) g p r)
-          (subst (λ w. Unless w r (Reading types size (ts ++ t ∷ []) left r)) (sym f) a.1)
+          unless-only (flaw_at types s.point t) z r (onward size left ts t) (Onward size left ts t r)
+          (deep-only (depth_flaw (levels_of ts) t) (outcome types size left (counted (levels_of ts) t) z) r (Reading types size (ts ++ t ∷ []) left r)
+          (λ q. ap (λ l. outcome types size left l z) (sym (counted-more no_levels ts t)) ∙ i z (ts ++ t ∷ []) g p r q))
+          (subst (λ w. Unless w r (Onward size left ts t r)) (sym f) a.1)
 
   pub start-seen : Seen types start []
   start-seen = before [] [] [] [] [] [] none no_bar no_item
 
 -- the outcome is the reading of the text
-pub outcome-is : (types : List Named) (text : List ℕ) (size : ℕ) → size ≡ length text → Reads types text (outcome types size (tokens text) start)
-outcome-is types text size h = subst (λ z. Reading types z [] (tokens text) (outcome types size (tokens text) start)) h (outcome-reads types size (tokens text) start [] (start-seen types) refl)
+pub outcome-is : (types : List Named) (text : List ℕ) (size : ℕ) → size ≡ length text → Reads types text (outcome types size (tokens text) no_levels start)
+outcome-is types text size h = subst (λ z. Reading types z [] (tokens text) (outcome types size (tokens text) no_levels start)) h (outcome-reads types size (tokens text) start [] (start-seen types) refl)
 
-pub outcome-only : (types : List Named) (text : List ℕ) (r : Result Tree ExprError) → Reads types text r → outcome types (length text) (tokens text) start ≡ r
+pub outcome-only : (types : List Named) (text : List ℕ) (r : Result Tree ExprError) → Reads types text r → outcome types (length text) (tokens text) no_levels start ≡ r
 outcome-only types text r q = reads-outcome types (length text) (tokens text) start [] (start-seen types) refl r q
 
 -- a fault of a step is the outcome's
@@ -158,7 +185,23 @@ pub steps-is : (X : Type 0) {Y : Type 0} (view : Y → Tree) (f : ExprError) (s 
 steps-is X view (Syntax at) s r go h = ap (λ z. z >>= go) h
 steps-is X view (UnknownName at) s r go h = ap (λ z. z >>= go) h
 steps-is X view (Range at) s r go h = ap (λ z. z >>= go) h
+steps-is X view (Deep at) s r go h = ap (λ z. z >>= go) h
 steps-is X view NoMemory s r go h = tt
+
+-- and so is a fault of counting
+pub counts-is : (X : Type 0) {Y : Type 0} (view : Y → Tree) (f : ExprError) (new old : Levels) (t : Token) (x : Result Tree ExprError) → Counts {X = X} (Err f) new old t → Is view (Err f) (unless_fault (depth_flaw old t) x)
+counts-is X view (Syntax at) new old t x h = ap (λ o. unless_fault o x) h
+counts-is X view (UnknownName at) new old t x h = ap (λ o. unless_fault o x) h
+counts-is X view (Range at) new old t x h = ap (λ o. unless_fault o x) h
+counts-is X view (Deep at) new old t x h = ap (λ o. unless_fault o x) h
+counts-is X view NoMemory new old t x h = tt
+
+-- where a token was read, and counting it is a fault, that is the outcome
+pub count-fault : (X : Type 0) {Y : Type 0} (view : Y → Tree) (types : List Named) (size : ℕ) (left : List Token) (t : Token) (l new : Levels) (s z : State) (f : ExprError) (r : Result Tree ExprError)
+    → step types s t ≡ Ok z → outcome types size (t ∷ left) l s ≡ r → Counts {X = X} (Err f) new l t → Is view (Err f) r
+count-fault X view types size left t l new s z f r a e h =
+    let go = λ (y : State). unless_fault (depth_flaw l t) (outcome types size left (counted l t) y) in
+    subst (λ q. Is view (Err f) q) (sym (ap (λ q. q >>= go) a) ∙ e) (counts-is X view f new l t (outcome types size left (counted l t) z) h)
 
 -- an error that is handed on is the fault
 pub handed-is : {Y : Type 0} (view : Y → Tree) (r : Result Y ExprError) (f : ExprError) (read : Result Tree ExprError) → IsErrAnd r (λ e. e ≡ f) → Is view (Err f) read → Is view r read

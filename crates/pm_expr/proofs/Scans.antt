@@ -1,11 +1,11 @@
 -- How the tokens of a text follow from its bytes.
-use Rattle.std.proofs.Common.{◌≡◌, ℕ, ◌+◌, ◌-◌, ◌<◌, ◌≤◌, List, [], ◌∷◌, ◌++◌, length, drop, take, get_or, Bool, true, false, ◌||◌, eqb, Option, Some, None, refl, ap, sym, ◌∙◌, subst, arith, inl, inr, ◌⊎◌, add-one, add-zero, drop-cons, length-drop, length-take}
+use Rattle.std.proofs.Common.{◌≡◌, ℕ, ◌+◌, ◌-◌, ◌<◌, ◌≤◌, List, [], ◌∷◌, ◌++◌, length, drop, take, get_or, Bool, true, false, ◌||◌, eqb, Some, refl, ap, sym, ◌∙◌, subst, arith, inl, inr, ◌⊎◌, add-one, add-zero, drop-cons, length-drop, length-take}
 use Rattle.std.specs.Prelude.{slice_range}
 use Rattle.std.proofs.lemmas.Bool.{eqb-true}
 use Rattle.std.proofs.lemmas.List.{take_more, get_or-drop}
 use Rattle.std.proofs.Math.Seq.{drop-length}
 use Rattle.pm_auto.proofs.Orders.{le_or_lt}
-use Rattle.pm_expr.specs.Tokens.{Token, is_blank, in_run, inside_after, sign, completed, run_token, onto, tokens_from}
+use Rattle.pm_expr.specs.Tokens.{Token, is_blank, in_run, inside_after, sign, completed, run_token, tokens_from}
 
 pub drop-one : (text : List ℕ) (i : ℕ) → i < length text → drop i text ≡ get_or text i 0 ∷ drop (i + 1) text
 drop-one text i h = drop-cons text i 0 h ∙ ap (λ z. get_or text i 0 ∷ drop z text) (sym (add-one i))

@@ -3,12 +3,11 @@ use Rattle.std.proofs.Common.{◌≡◌, ℕ, List, [], ◌∷◌, ◌++◌, rev
 use Rattle.std.proofs.lemmas.List.{reverse-append, append-nil}
 use Rattle.pm_auto.specs.Tree as tree
 use Rattle.pm_auto.specs.Tree.{Tree}
-use Rattle.pm_expr.specs.declared.error.ExprError.{ExprError}
-use Rattle.pm_expr.specs.Tokens.{Token, name, bracket, end_bracket, bar, plus, star, query, brace, end_brace, number, comma, stray, number_of}
-use Rattle.pm_expr.specs.Names.{Named, joined}
-use Rattle.pm_expr.specs.Grammar.{said, Item, named, bracketed, one_or_more, any_number, at_most_one, exactly, at_least, from_to, Items, no_item, and_item, Sequence, in_turn, Barred, no_bar, and_bar, Choice, one_of}
-use Rattle.pm_expr.specs.Reading.{Stands, Whole, flaw}
-use Rattle.pm_expr.specs.Reader.{Frame, State, state, frame, settled, sequence_of, choice_of, Point, outside, opened, low, parted, high, after, flaw_at}
+use Rattle.pm_expr.specs.Tokens.{Token, name, bracket, end_bracket, bar, plus, star, query, brace, end_brace, number, comma, number_of}
+use Rattle.pm_expr.specs.Names.{Named}
+use Rattle.pm_expr.specs.Grammar.{said, Item, named, bracketed, one_or_more, any_number, at_most_one, exactly, at_least, from_to, Items, no_item, and_item, in_turn, Barred, no_bar, and_bar, Choice, one_of}
+use Rattle.pm_expr.specs.Reading.{Stands, flaw}
+use Rattle.pm_expr.specs.Reader.{Frame, State, state, frame, sequence_of, choice_of, outside, opened, low, parted, high, after, flaw_at}
 
 -- the brackets that are open
 pub data Opened (types : List Named) : List Frame → List Token → Type 0 where

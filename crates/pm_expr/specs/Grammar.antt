@@ -1,5 +1,5 @@
 -- The grammar of content expressions: which tokens are an expression, and which one.
-use Rattle.std.specs.Prelude.{ℕ, List, [], ◌∷◌, ◌++◌, Option, Some, None, unwrap_or}
+use Rattle.std.specs.Prelude.{ℕ, List, [], ◌∷◌, ◌++◌, Some, None, unwrap_or}
 use Rattle.pm_auto.specs.Tree as tree
 use Rattle.pm_auto.specs.Tree.{Tree}
 use Rattle.pm_expr.specs.Tokens.{Token, name, bracket, end_bracket, bar, plus, star, query, brace, end_brace, number, comma, number_of}

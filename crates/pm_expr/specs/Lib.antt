@@ -1,6 +1,7 @@
 pub mod Tokens
 pub mod Names
 pub mod Grammar
+pub mod Levels
 pub mod Reading
 pub mod Reader
 pub mod Tables

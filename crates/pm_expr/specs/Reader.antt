@@ -7,6 +7,7 @@ use Rattle.pm_expr.specs.declared.error.ExprError.TheVariants.{Syntax}
 use Rattle.pm_expr.specs.Tokens.{Token, name, bracket, end_bracket, bar, plus, star, query, brace, end_brace, number, comma, place, number_of, tokens}
 use Rattle.pm_expr.specs.Names.{Named, joined, stands_for}
 use Rattle.pm_expr.specs.Grammar.{said}
+use Rattle.pm_expr.specs.Levels.{Levels, no_levels, counted, depth_flaw}
 use Rattle.pm_expr.specs.Reading.{unless_fit, unless_known}
 
 -- what was read of a choice when a bracket opened in it: its complete sequences, and the items of the one that goes on
@@ -135,11 +136,16 @@ abbrev pub ◌>>=◌ : {A B : Type 0} → Result A ExprError → (A → Result B
 (Ok x) >>= f = f x
 (Err e) >>= f = Err e
 
+-- the answer, unless there is a fault before it
+abbrev pub unless_fault : Option ExprError → Result Tree ExprError → Result Tree ExprError
+unless_fault None r = r
+unless_fault (Some f) r = Err f
+
 -- the expression of the tokens that are left, or the first fault among them
-abbrev pub outcome : List Named → (size : ℕ) → List Token → State → Result Tree ExprError
-outcome types size [] s = finished size s
-outcome types size (t ∷ ts) s = step types s t >>= outcome types size ts
+abbrev pub outcome : List Named → (size : ℕ) → List Token → Levels → State → Result Tree ExprError
+outcome types size [] l s = finished size s
+outcome types size (t ∷ ts) l s = step types s t >>= (λ z. unless_fault (depth_flaw l t) (outcome types size ts (counted l t) z))
 
 -- what a text says, read with the stack: it is the reading of the text by the grammar
 abbrev pub expr_of : List Named → (text : List ℕ) → Result Tree ExprError
-expr_of types text = outcome types (length text) (tokens text) start
+expr_of types text = outcome types (length text) (tokens text) no_levels start

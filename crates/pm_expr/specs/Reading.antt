@@ -1,12 +1,13 @@
 -- The expression of a text, or its first fault.
-use Rattle.std.specs.Prelude.{◌≡◌, ℕ, nat_le, List, [], ◌∷◌, ◌++◌, length, reverse, Bool, true, false, ◌&&◌, if◌then◌else◌, Option, Some, None, Result, Ok, Err, ◌⊎◌}
+use Rattle.std.specs.Prelude.{◌≡◌, ℕ, nat_le, List, [], ◌∷◌, ◌++◌, length, reverse, Bool, ◌&&◌, if◌then◌else◌, Option, Some, None, Result, Ok, Err, ◌⊎◌}
 use Rattle.pm_auto.specs.Tree as tree
 use Rattle.pm_auto.specs.Tree.{Tree}
 use Rattle.pm_expr.specs.declared.error.ExprError.{ExprError}
 use Rattle.pm_expr.specs.declared.error.ExprError.TheVariants.{Syntax, UnknownName, Range, NoMemory}
-use Rattle.pm_expr.specs.Tokens.{Token, name, bracket, end_bracket, bar, plus, star, query, brace, end_brace, number, comma, stray, place, tokens, number_of}
+use Rattle.pm_expr.specs.Tokens.{Token, name, brace, end_brace, number, comma, place, tokens, number_of}
 use Rattle.pm_expr.specs.Names.{Named, stands_for}
 use Rattle.pm_expr.specs.Grammar.{Choice}
+use Rattle.pm_expr.specs.Levels.{levels_of, depth_flaw}
 
 -- the tokens are this expression; no tokens are the empty one
 abbrev pub Whole : List Named → List Token → Tree → Type 0
@@ -51,7 +52,8 @@ Unless (Some f) r onward = r ≡ Err f
 Unless None r onward = onward
 
 -- The tokens are read from the left. The first one that can't stand after those before it is a fault of syntax; before
--- that, the first one with a flaw gives its fault. At the end the tokens are an expression, or that is the fault.
+-- that, the first one with a flaw gives its fault, or the first one by which an item gets too deep. At the end the tokens are
+-- an expression, or that is the fault.
 -- A fault of numbers is found at the closing brace and told at the opening one. Nothing between them can have a flaw, so
 -- the fault that is found first is also the one that stands first in the text.
 abbrev pub Reading : List Named → (size : ℕ) (seen left : List Token) → Result Tree ExprError → Type 0
@@ -59,7 +61,7 @@ Reading types size seen [] (Ok e) = Whole types seen e
 Reading types size seen [] (Err f) = ((e : Tree) → ¬ Whole types seen e) × (f ≡ Syntax size)
 Reading types size seen (t ∷ left) r =
     ((¬ Stands types (seen ++ t ∷ [])) × (r ≡ Err (Syntax (place t))))
-    ⊎ (Stands types (seen ++ t ∷ []) × Unless (flaw types (reverse seen) t) r (Reading types size (seen ++ t ∷ []) left r))
+    ⊎ (Stands types (seen ++ t ∷ []) × Unless (flaw types (reverse seen) t) r (Unless (depth_flaw (levels_of seen) t) r (Reading types size (seen ++ t ∷ []) left r)))
 
 -- what the text of a content expression says: an expression, or its first fault
 abbrev pub Reads : List Named → (text : List ℕ) → Result Tree ExprError → Type 0

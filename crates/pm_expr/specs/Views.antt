@@ -1,8 +1,8 @@
 -- The reader of the code, as the definitions see it.
-use Rattle.std.specs.Prelude.{◌≡◌, ℕ, List, [], map, reverse, drop, Option, option_map, Result, Ok, Err}
-use Rattle.pm_auto.specs.Tree.{Tree, tree}
+use Rattle.std.specs.Prelude.{◌≡◌, List, [], map, reverse, drop, Some, None, option_map, Result, Ok, Err}
+use Rattle.pm_auto.specs.Tree.{tree}
 use Rattle.pm_expr.specs.declared.error.ExprError.{ExprError}
-use Rattle.pm_expr.specs.declared.error.ExprError.TheVariants.{Syntax, UnknownName, Range, NoMemory}
+use Rattle.pm_expr.specs.declared.error.ExprError.TheVariants.{NoMemory}
 use Rattle.pm_expr.specs.declared.tokens.Token.{Token as Read}
 use Rattle.pm_expr.specs.declared.tokens.Token.TheVariants as code
 use Rattle.pm_expr.specs.declared.tokens.Tokens.{Tokens}
@@ -10,7 +10,9 @@ use Rattle.pm_expr.specs.declared.reader.Point.{Point as Where}
 use Rattle.pm_expr.specs.declared.reader.Point.TheVariants as at
 use Rattle.pm_expr.specs.declared.reader.Open.{Open}
 use Rattle.pm_expr.specs.declared.reader.Reader.{Reader}
+use Rattle.pm_expr.specs.declared.levels.Levels.{Levels as Counter}
 use Rattle.pm_expr.specs.Tokens.{Token, name, bracket, end_bracket, bar, plus, star, query, brace, end_brace, number, comma, stray, tokens_from}
+use Rattle.pm_expr.specs.Levels.{Levels, levels, counted, depth_flaw, IsShallow}
 use Rattle.pm_expr.specs.Reader.{State, state, Frame, frame, Point, outside, opened, low, parted, high}
 
 abbrev pub token_of : Read → Token
@@ -49,3 +51,13 @@ abbrev pub Steps : {X : Type 0} → Result X ExprError → State → Result Stat
 Steps (Ok x) s r = r ≡ Ok s
 Steps (Err NoMemory) s r = Unit {0}
 Steps (Err f) s r = r ≡ Err f
+
+-- the levels that were counted
+abbrev pub levels_in : Counter → Levels
+levels_in l = levels (reverse l.over.items) l.before l.last
+
+-- the answer of counting a token; want of memory may come with any
+abbrev pub Counts : {X : Type 0} → Result X ExprError → Levels → Levels → Token → Type 0
+Counts (Ok x) new old t = (new ≡ counted old t) × (depth_flaw old t ≡ None) × IsShallow new.last
+Counts (Err NoMemory) new old t = Unit {0}
+Counts (Err f) new old t = depth_flaw old t ≡ Some f

@@ -17,8 +17,11 @@ pub enum ExprError {
     /// The braces that open here have a number above 64, or a second number below the first.
     #[error("numbers out of range at byte {at}")]
     Range { at: usize },
-    /// There was no memory for the expression, or the text has more than 500 levels of brackets and suffixes, and there
-    /// may be no stack for walks over the expression.
+    /// By the token that begins here an item gets more than 500 levels of brackets and suffixes. Walks over an expression
+    /// take stack for each of its levels.
+    #[error("a content expression nests too deep at byte {at}")]
+    Deep { at: usize },
+    /// There was no memory for the expression.
     #[error("no memory")]
     NoMemory,
 }

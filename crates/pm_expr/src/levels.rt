@@ -1,12 +1,15 @@
 //! How deep a text nests.
-ghost use Rattle.std.specs.Prelude.{◌≡◌, IfErr};
-ghost use Rattle.pm_expr.specs.declared.error.ExprError.TheVariants.{NoMemory};
+ghost use Rattle.std.specs.Prelude.{◌≡◌, OnOk, IfErr, None, Some};
+ghost use Rattle.pm_expr.specs.Levels.{deeper as deeper_of, risen, levels, no_levels, in_brackets, unless_shallow, IsShallow};
+ghost use Rattle.pm_expr.specs.Tokens.{end_bracket};
+ghost use Rattle.pm_expr.specs.Views.{levels_in, token_of, Counts};
+ghost use Rattle.pm_expr.specs.declared.error.ExprError.TheVariants.{Deep};
 
 use crate::error::ExprError;
 use crate::tokens::Token;
 use std::alloc::Global;
 
-/// The most levels that a text may have. Each walk over an expression takes stack for each of its levels, and letting one go
+/// The most levels that an item may have. Each walk over an expression takes stack for each of its levels, and letting one go
 /// is such a walk, so a deeper expression could end the process.
 const MAX_LEVELS: usize = 500;
 
@@ -23,7 +26,9 @@ pub(crate) struct Levels {
 }
 
 impl Levels {
-    pub fn new(alloc: Global) -> Levels {
+    pub fn new(alloc: Global) -> Levels
+        ensures { levels_in result ≡ no_levels }
+    {
         Levels {
             over: Vec::new(alloc),
             before: None,
@@ -31,9 +36,10 @@ impl Levels {
         }
     }
 
-    /// Counts a token. Want of memory is told where the last item has more levels than a text may have.
+    /// Counts a token. `Deep` is told where an item gets more levels by it than it may have.
     pub fn count(&mut self, token: Token<'_>) -> Result<(), ExprError>
-        ensures { IfErr result (λ e. e ≡ NoMemory) }
+        requires { IsShallow self.old.last }
+        ensures { Counts result (levels_in self.new) (levels_in self.old) (token_of token.entry) }
     {
         match token {
             Token::Name { .. } => {
@@ -47,40 +53,54 @@ impl Levels {
                 self.last = None;
                 Ok(())
             }
-            Token::EndBracket { .. } => {
-                let inside = self.before;
-                self.before = self.over.pop().unwrap_or(None);
-                if let Some(_) = inside {
-                    self.last = deeper(inside, self.last);
-                    return self.rise();
-                }
-                Ok(())
-            }
-            Token::Plus { .. } => self.rise(),
-            Token::Star { .. } => self.rise(),
-            Token::Query { .. } => self.rise(),
-            Token::Brace { .. } => self.rise(),
+            Token::EndBracket { at } => self.end_bracket(at),
+            Token::Plus { at } => self.rise(at),
+            Token::Star { at } => self.rise(at),
+            Token::Query { at } => self.rise(at),
+            Token::Brace { at } => self.rise(at),
             _ => Ok(()),
         }
     }
 
-    /// The last item has one level more.
-    fn rise(&mut self) -> Result<(), ExprError>
-        ensures { IfErr result (λ e. e ≡ NoMemory) }
+    /// Ends the innermost pair of brackets, by the token at this byte.
+    fn end_bracket(&mut self, at: usize) -> Result<(), ExprError>
+        requires { IsShallow self.old.last }
+        ensures { Counts result (levels_in self.new) (levels_in self.old) (end_bracket at) }
+    {
+        let inside = self.before;
+        self.before = self.over.pop().unwrap_or(None);
+        match inside {
+            None => Ok(()),
+            Some(_) => {
+                self.last = deeper(inside, self.last);
+                self.rise(at)
+            }
+        }
+    }
+
+    /// The last item has one level more, by the token at this byte.
+    fn rise(&mut self, at: usize) -> Result<(), ExprError>
+        ensures ok { OnOk result (let l = levels_in self.old in (levels_in self.new ≡ levels l.over l.before (risen l.last)) × IsShallow (risen l.last)) }
+        ensures err { IfErr result (λ e. (e ≡ Deep at) × (unless_shallow at (risen self.old.last) ≡ Some e)) }
     {
         let levels = self.last.unwrap_or(0);
         if levels >= MAX_LEVELS {
-            return Err(ExprError::NoMemory);
+            return Err(ExprError::Deep { at });
         }
         self.last = Some(levels + 1);
         Ok(())
     }
 }
 
-/// The greater of both, where there are two.
-fn deeper(a: Option<usize>, b: Option<usize>) -> Option<usize> {
+/// The deeper of both, where there are two.
+fn deeper(a: Option<usize>, b: Option<usize>) -> Option<usize>
+    ensures { result ≡ deeper_of a b }
+{
     match a {
         None => b,
-        Some(a) => Some(a.max(b.unwrap_or(0))),
+        Some(a) => match b {
+            None => Some(a),
+            Some(b) => Some(a.max(b)),
+        },
     }
 }

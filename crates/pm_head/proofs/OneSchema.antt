@@ -15,6 +15,7 @@ use Rattle.pm_schemajson.specs.declared.error.SchemaReadError.TheVariants.{Shape
 use Rattle.pm_schemajson.specs.Contents.{schema_of}
 use Rattle.pm_schemajson.specs.Views.{types_of_spec, Refused, IsFault}
 use Rattle.pm_schemajson.proofs.SameTypes.{named-alike, automata-alike, no-first-fault}
+use Rattle.pm_schemajson.proofs.ReadFaults.{expr-read, attr-read}
 use Rattle.pm_schemajson.proofs.SameEnds.{no-dead-end}
 use Rattle.pm_head.specs.Codes.{build_code, schema_code}
 use Rattle.pm_head.specs.Schemas.{SchemaIs}
@@ -76,8 +77,8 @@ unbuilt d e code r c = record { spec = r.spec; written = r.written; cause = caus
 
 split : (d : Data) (f : SchemaReadError) (code : ℕ) → IsFault d f → schema_code f ≡ Some code → IsUnread d code ⊎ IsUnbuilt d code
 split d (Shape a) code i c = inl (record { fault = Shape a; read = i; is = c })
-split d (Expr k e) code i c = inl (record { fault = Expr k e; read = i; is = c })
-split d (Attr e) code i c = inl (record { fault = Attr e; read = i; is = c })
+split d (Expr k e) code i c = inl (record { fault = Expr k e; read = expr-read d k e i; is = c })
+split d (Attr e) code i c = inl (record { fault = Attr e; read = attr-read d e i; is = c })
 split d (Name a) code i c = inl (record { fault = Name a; read = i; is = c })
 split d NoMemory code i c = absurd (cc)
 split d (Unbuilt build.NoTop) code i c = inr (unbuilt d build.NoTop code i c)

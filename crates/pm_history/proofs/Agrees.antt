@@ -12,7 +12,7 @@ use Rattle.pm_history.specs.declared.item.Item.{Item}
 use Rattle.pm_history.specs.declared.undoing.Undone.{Undone}
 use Rattle.pm_history.specs.Items.{one_step}
 use Rattle.pm_history.specs.Pairs.{later_in, one_more, paired}
-use Rattle.pm_history.specs.Tidy.{IsTidy}
+use Rattle.pm_history.specs.Tidy.{NoRangeUndoes, IsTidy}
 use Rattle.pm_history.specs.Timelines.{Step, changes_of, items_from}
 use Rattle.pm_history.specs.Unchanged.{NothingSince}
 use Rattle.pm_history.specs.Undos.{find, then_made, own_item, tried, put, undo_steps, undo_found, undo_event}
@@ -147,10 +147,10 @@ module _ {Rules Doc Reason C : Type 0} (m : Meaning Rules Doc Reason C) (rules :
 
   -- where nothing has changed since the event, it restores the earlier document
   pub undo-restores : Laws m → (ns : List Name) (first : Doc) (steps : List (Step C)) (items : List (Item C)) (before doc : Doc) (serial : ℕ) → m.is_good rules first
-      → Remembers m rules ns first steps items → IsTidy (items_from m rules first steps) ns → NothingSince m rules ns first steps before doc
+      → Remembers m rules ns first steps items → IsTidy (items_from m rules first steps) ns → Each (λ n. NoRangeUndoes (Some n) (items_from m rules first steps)) ns → NothingSince m rules ns first steps before doc
       → (undo_event m rules client ns items doc serial).doc ≡ before
-  undo-restores laws ns first steps items before doc serial good h tidy since =
+  undo-restores laws ns first steps items before doc serial good h tidy free since =
       ap (λ (w : Undone Doc C). w.doc) (undo-remembered ns ns first steps items doc serial (λ P k. k) h)
       ∙ event-unchanged m rules client laws ns (items_from m rules first steps) before doc serial
-      (fold-good m rules laws first before (changes_of since.earlier) good since.reaches) tidy since.since since.ends since.reads
+      (fold-good m rules laws first before (changes_of since.earlier) good since.reaches) tidy free since.since since.ends since.reads
       (items_from m rules first since.earlier) (ap (λ ss. items_from m rules first ss) since.steps_are ∙ items-append m rules first before since.earlier since.since since.reaches)

@@ -9,25 +9,25 @@ use Rattle.pm_change.specs.Folds.{fold-append}
 use Rattle.pm_history.specs.declared.item.Item.{Item}
 use Rattle.pm_change.specs.declared.name.Name.{Name}
 use Rattle.pm_history.specs.Items.{one_step}
-use Rattle.pm_history.specs.Tidy.{NoneUndoes, Once}
+use Rattle.pm_history.specs.Tidy.{NoRangeUndoes, Once}
 use Rattle.pm_history.specs.Timelines.{Step, changes_of, Ties, item_at, next_items, items_from, Idle, nothing, both, undone}
 use Rattle.pm_history.proofs.Passes.{NoneOver, MoveBack, IsEmpty, Passes, passes-both, passes-empties, passes-undone}
 use Rattle.pm_history.specs.Folding.{changes-append, fold-first, fold-split, items-append, own-at, next-none, some-same}
 use Rattle.pm_history.proofs.Restores.{same-self, not-empty}
 
 module _ {C : Type 0} where
-  pub none-front : (n : Option Name) (xs ys : List (Item C)) → NoneUndoes n (xs ++ ys) → NoneUndoes n xs
+  pub none-front : (n : Option Name) (xs ys : List (Item C)) → NoRangeUndoes n (xs ++ ys) → NoRangeUndoes n xs
   none-front n [] ys h = tt
   none-front n (x ∷ xs) ys h = (h.0, none-front n xs ys h.1)
 
-  none-at : (n : Option Name) (xs : List (Item C)) (u : Item C) (rest : List (Item C)) → NoneUndoes n (xs ++ u ∷ rest) → one_step n u.undoes ≡ true → u.map ≡ []
+  none-at : (n : Option Name) (xs : List (Item C)) (u : Item C) (rest : List (Item C)) → NoRangeUndoes n (xs ++ u ∷ rest) → one_step n u.undoes ≡ true → u.map ≡ []
   none-at n [] u rest h = h.0
   none-at n (x ∷ xs) u rest h = none-at n xs u rest h.1
 
   pub once-front : (xs ys : List (Item C)) → Once (xs ++ ys) → Once xs
   once-front [] ys h = tt
   once-front (x ∷ xs) ys h = (
-    λ n e. ⊎_elim (λ (z : x.map ≡ []). inl z) (λ (z : NoneUndoes (Some n) (xs ++ ys)). inr (none-front (Some n) xs ys z)) (h.0 n e),
+    λ n e. ⊎_elim (λ (z : x.map ≡ []). inl z) (λ (z : NoRangeUndoes (Some n) (xs ++ ys)). inr (none-front (Some n) xs ys z)) (h.0 n e),
     once-front xs ys h.1,
   )
 
@@ -37,10 +37,10 @@ module _ {C : Type 0} where
 
   -- before the item that undoes a step, no other with a range does
   once-none : (n : Name) (xs : List (Item C)) (u : Item C) (rest : List (Item C)) → Once (xs ++ u ∷ rest) → one_step (Some n) u.undoes ≡ true → (u.map ≡ [] → ⊥)
-      → NoneUndoes (Some n) xs
+      → NoRangeUndoes (Some n) xs
   once-none n [] u rest h e f = tt
   once-none n (x ∷ xs) u rest h e f = (
-    λ t. ⊎_elim (λ (z : x.map ≡ []). z) (λ (z : NoneUndoes (Some n) (xs ++ u ∷ rest)). absurd (f (none-at (Some n) xs u rest z e))) (h.0 n t),
+    λ t. ⊎_elim (λ (z : x.map ≡ []). z) (λ (z : NoRangeUndoes (Some n) (xs ++ u ∷ rest)). absurd (f (none-at (Some n) xs u rest z e))) (h.0 n t),
     once-none n xs u rest h.1 e f,
   )
 

@@ -10,3 +10,4 @@ pub mod Agrees
 pub mod Showing
 pub mod Mades
 pub mod Steps
+mod EventProofs

@@ -16,13 +16,13 @@ use Rattle.pm_map.specs.Stills.{AreApart}
 use Rattle.pm_map.specs.Backs.{GoesBack, IsBack, goes-back}
 use Rattle.pm_history.specs.Items.{one_step}
 use Rattle.pm_history.specs.Pairs.{paired, later_in, one_more}
-use Rattle.pm_history.specs.Tidy.{NoneUndoes}
+use Rattle.pm_history.specs.Tidy.{NoRangeUndoes}
 
 module _ {C : Type 0} where
   -- no item with a range undoes this step, where the step has a range itself
   abbrev pub NoneOver : List Span → Option Name → List (Item C) → Type 0
   NoneOver [] n is = Unit {0}
-  NoneOver (r ∷ rs) n is = NoneUndoes n is
+  NoneOver (r ∷ rs) n is = NoRangeUndoes n is
 
   abbrev pub IsEmpty : Item C → Type 0
   IsEmpty i = i.map ≡ []
@@ -129,7 +129,7 @@ module _ {C : Type 0} where
       from true e = ap (λ map. if fit (r ∷ rs) map then Some 0 else one_more (later_in n (r ∷ rs) is)) (f e)
       from false e = refl
 
-  found : (n : Option Name) (rs : List Span) (xs : List (Item C)) (u : Item C) (rest : List (Item C)) → NoneUndoes n xs
+  found : (n : Option Name) (rs : List Span) (xs : List (Item C)) (u : Item C) (rest : List (Item C)) → NoRangeUndoes n xs
       → one_step n u.undoes ≡ true → fit rs u.map ≡ true → later_in n rs (xs ++ u ∷ rest) ≡ Some (length xs)
   found n rs [] u rest h e f = ap (λ t. if t then Some 0 else one_more (later_in n rs rest)) (and_from _ _ e f)
   found n rs (x ∷ xs) u rest h e f = later-none n rs x (xs ++ u ∷ rest) h.0 ∙ ap one_more (found n rs xs u rest h.1 e f)

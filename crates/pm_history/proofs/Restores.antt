@@ -15,7 +15,7 @@ use Rattle.pm_history.specs.declared.item.Item.{Item}
 use Rattle.pm_change.specs.declared.name.Name.{Name}
 use Rattle.pm_history.specs.Items.{same_name}
 use Rattle.pm_history.specs.Pairs.{paired}
-use Rattle.pm_history.specs.Tidy.{NoneUndoes}
+use Rattle.pm_history.specs.Tidy.{NoRangeUndoes}
 use Rattle.pm_history.proofs.Passes.{NoneOver, MoveBack, IsEmpty, Passes, passes-both, passes-empty, passes-empties, passes-undone}
 use Rattle.pm_history.specs.declared.undoing.Undone.{Undone}
 use Rattle.pm_history.specs.Folding.{some-same}
@@ -35,7 +35,7 @@ module _ {Rules Doc Reason C : Type 0} (m : Meaning Rules Doc Reason C) (rules :
     pub map_is : item.map ≡ m.step_map change
     pub inverse_is : item.inverse ≡ m.inverse rules change doc
     pub passes : Passes idle
-    pub none : NoneUndoes (Some n) (idle ++ rest)
+    pub none : NoRangeUndoes (Some n) (idle ++ rest)
     pub fresh : Each (λ k. same_name n k ≡ false) ns
     pub found : find n items ≡ Some (item, idle ++ rest)
     pub is_is : is ≡ item ∷ (idle ++ rest)
@@ -133,33 +133,33 @@ module _ {Rules Doc Reason C : Type 0} (m : Meaning Rules Doc Reason C) (rules :
       (laws.good rules c doc next good e) t in
       (x.0 ∙ laws.restores rules c doc next back good e t, x.1)
 
-  none-append : (n : Option Name) (xs ys : List (Item C)) → NoneUndoes n xs → NoneUndoes n ys → NoneUndoes n (xs ++ ys)
+  none-append : (n : Option Name) (xs ys : List (Item C)) → NoRangeUndoes n xs → NoRangeUndoes n ys → NoRangeUndoes n (xs ++ ys)
   none-append n [] ys h k = k
   none-append n (x ∷ xs) ys h k = (h.0, none-append n xs ys h.1 k)
 
   -- steps made to undo one step undo no other
   steps-other : (n k : Name) (bs : List C) (later : List (Item C)) (doc : Doc) (serial : ℕ) → same_name n k ≡ false
-      → NoneUndoes (Some n) (undo_steps m rules client k bs later doc serial).items
+      → NoRangeUndoes (Some n) (undo_steps m rules client k bs later doc serial).items
   steps-other n k [] later doc serial e = tt
   steps-other n k (b ∷ bs) later doc serial e = from (tried m rules client (m.carry b (paired later)) doc) (λ l d s. steps-other n k bs l d s e)
     where
-      from : (o : Option (C × Doc)) → ((l : List (Item C)) (d : Doc) (s : ℕ) → NoneUndoes (Some n) (undo_steps m rules client k bs l d s).items)
-          → NoneUndoes (Some n) (put m rules client o k later doc serial (λ l d s. undo_steps m rules client k bs l d s)).items
+      from : (o : Option (C × Doc)) → ((l : List (Item C)) (d : Doc) (s : ℕ) → NoRangeUndoes (Some n) (undo_steps m rules client k bs l d s).items)
+          → NoRangeUndoes (Some n) (put m rules client o k later doc serial (λ l d s. undo_steps m rules client k bs l d s)).items
       from None go = go later doc serial
       from (Some p) go = (λ t. absurd (true≢false (sym t ∙ e)), go _ _ _)
 
   event-other : (n : Name) (ns : List Name) (items : List (Item C)) (doc : Doc) (serial : ℕ) → Each (λ k. same_name n k ≡ false) ns
-      → NoneUndoes (Some n) (undo_event m rules client ns items doc serial).items
+      → NoRangeUndoes (Some n) (undo_event m rules client ns items doc serial).items
   event-other n [] items doc serial h = tt
   event-other n (k ∷ ns) items doc serial h =
       let w = undo_event m rules client ns items doc serial in
       none-append (Some n) w.items _ (event-other n ns items doc serial h.1) (from (find k items) w.items w.doc w.serial)
     where
-      from : (o : Option (Item C × List (Item C))) (more : List (Item C)) (d : Doc) (s : ℕ) → NoneUndoes (Some n) (undo_found m rules client k o more d s).items
+      from : (o : Option (Item C × List (Item C))) (more : List (Item C)) (d : Doc) (s : ℕ) → NoRangeUndoes (Some n) (undo_found m rules client k o more d s).items
       from None more d s = tt
       from (Some p) more d s = steps-other n k p.0.inverse (p.1 ++ more) d s h.0
 
-  none-over : (map : List Span) (n : Option Name) (is : List (Item C)) → NoneUndoes n is → NoneOver map n is
+  none-over : (map : List Span) (n : Option Name) (is : List (Item C)) → NoRangeUndoes n is → NoneOver map n is
   none-over [] n is h = tt
   none-over (r ∷ rs) n is h = h
 
@@ -185,7 +185,7 @@ module _ {Rules Doc Reason C : Type 0} (m : Meaning Rules Doc Reason C) (rules :
         ap (λ (z : Undone Doc C). z.doc) same ∙ y.0,
         λ e.
             let back : MoveBack t.item.name t.item.map v.items = subst (λ o. MoveBack o t.item.map v.items) (sym t.name_is) (subst (λ map. MoveBack (Some n) map v.items) (sym t.map_is) y.1) in
-            let none : NoneUndoes t.item.name later = subst (λ o. NoneUndoes o later) (sym t.name_is)
+            let none : NoRangeUndoes t.item.name later = subst (λ o. NoRangeUndoes o later) (sym t.name_is)
             (none-append (Some n) (t.idle ++ t.rest) w.items t.none (event-other n ns items end serial t.fresh)) in
             let whole : Passes (t.item ∷ (later ++ v.items)) = passes-undone t.item.name t.item.map later v.items (t.apart e) passes (none-over t.item.map t.item.name later none) back in
             subst Passes (ap (λ (z : Undone Doc C). (t.item ∷ (t.idle ++ t.rest)) ++ (w.items ++ z.items)) (sym same) ∙ ap (λ l. l ++ (undo_event m rules client (n ∷ ns) items end serial).items) (sym t.is_is))

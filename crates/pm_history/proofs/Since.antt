@@ -8,7 +8,7 @@ use Rattle.pm_change.specs.declared.name.Name.{Name}
 use Rattle.pm_change.specs.Changes.{Meaning, Laws, fold}
 use Rattle.pm_history.specs.declared.item.Item.{Item}
 use Rattle.pm_history.specs.Items.{same_name, one_step}
-use Rattle.pm_history.specs.Tidy.{NoneUndoes, NotNamed, NamesDiffer, Once, Differ, IsTidy}
+use Rattle.pm_history.specs.Tidy.{NoRangeUndoes, NotNamed, NamesDiffer, Once, Differ, IsTidy}
 use Rattle.pm_history.specs.Undos.{find, undo_event}
 use Rattle.pm_history.specs.Timelines.{Step, changes_of, item_at, items_from, next_items}
 use Rattle.pm_history.specs.Unchanged.{Reads, MayGoBack}
@@ -26,7 +26,7 @@ module _ {C : Type 0} where
   at-end P [] i rest h = h.0
   at-end P (x ∷ xs) i rest h = at-end P xs i rest h.1
 
-  pub none-back : (n : Option Name) (xs ys : List (Item C)) → NoneUndoes n (xs ++ ys) → NoneUndoes n ys
+  pub none-back : (n : Option Name) (xs ys : List (Item C)) → NoRangeUndoes n (xs ++ ys) → NoRangeUndoes n ys
   none-back n [] ys h = h
   none-back n (x ∷ xs) ys h = none-back n xs ys h.1
 
@@ -46,7 +46,7 @@ module _ {Rules Doc Reason C : Type 0} (m : Meaning Rules Doc Reason C) (rules :
   -- the items show that nothing has changed since
   since : (items front : List (Item C)) (first : Bool) (doc end : Doc) (ns : List Name) (ss : List (Step C)) → m.is_good rules doc
       → fold m rules doc (changes_of ss) ≡ Some end → Reads m rules first doc ns ss → items ≡ front ++ items_from m rules doc ss
-      → NamesDiffer items → Once (items_from m rules doc ss) → Differ ns → Each (λ n. NoneUndoes (Some n) (items_from m rules doc ss)) ns
+      → NamesDiffer items → Once (items_from m rules doc ss) → Differ ns → Each (λ n. NoRangeUndoes (Some n) (items_from m rules doc ss)) ns
       → Turns m rules items first doc ns (items_from m rules doc ss) end
   since items front first doc end [] ss good h u same d o differ none =
       (ap (λ xs. items_from m rules doc xs) u, some-same doc end (ap (λ xs. fold m rules doc (changes_of xs)) (sym u) ∙ h))
@@ -83,7 +83,7 @@ module _ {Rules Doc Reason C : Type 0} (m : Meaning Rules Doc Reason C) (rules :
           map_is = ap (λ (i : Item C). i.map) own;
           inverse_is = ap (λ (i : Item C). i.inverse) own;
           passes = idle-passes m rules laws t.next t.idle t.is_idle k.0 good_next k.1 (once-front idle rest once.1);
-          none = none-back (Some n) (item ∷ []) (idle ++ rest) (subst (NoneUndoes (Some n)) whole none.0);
+          none = none-back (Some n) (item ∷ []) (idle ++ rest) (subst (NoRangeUndoes (Some n)) whole none.0);
           fresh = differ.0;
           found = subst (λ is. find n is ≡ Some (item, idle ++ rest)) (sym at) (found-at n front item (idle ++ rest) named self (subst NamesDiffer at d));
           is_is = whole;
@@ -91,8 +91,8 @@ module _ {Rules Doc Reason C : Type 0} (m : Meaning Rules Doc Reason C) (rules :
         },
         since items (front ++ item ∷ idle) false t.next end ns t.rest good_next (subst (λ d. fold m rules d (changes_of t.rest) ≡ Some end) still k.2) u.1
             (at ∙ sym (append_assoc front (item ∷ idle) rest)) d (once-back idle rest once.1) differ.1
-            (each-map (λ k. NoneUndoes (Some k) (items_from m rules doc ss)) (λ k. NoneUndoes (Some k) rest)
-            (λ k x. none-back (Some k) (item ∷ idle) rest (subst (NoneUndoes (Some k)) whole x)) ns none.1),
+            (each-map (λ k. NoRangeUndoes (Some k) (items_from m rules doc ss)) (λ k. NoRangeUndoes (Some k) rest)
+            (λ k x. none-back (Some k) (item ∷ idle) rest (subst (NoRangeUndoes (Some k)) whole x)) ns none.1),
       )
     where
       goes : (c : C) (doc next : Doc) → m.is_good rules doc → m.outcome rules c doc ≡ Ok next → MayGoBack m rules c doc next
@@ -104,18 +104,18 @@ module _ {Rules Doc Reason C : Type 0} (m : Meaning Rules Doc Reason C) (rules :
       each-map P Q f [] h = tt
       each-map P Q f (k ∷ ks) h = (f k h.0, each-map P Q f ks h.1)
 
-  each-back : (front is : List (Item C)) (ns : List Name) → Each (λ n. NoneUndoes (Some n) (front ++ is)) ns → Each (λ n. NoneUndoes (Some n) is) ns
+  each-back : (front is : List (Item C)) (ns : List Name) → Each (λ n. NoRangeUndoes (Some n) (front ++ is)) ns → Each (λ n. NoRangeUndoes (Some n) is) ns
   each-back front is [] h = tt
   each-back front is (n ∷ ns) h = (none-back (Some n) front is h.0, each-back front is ns h.1)
 
   -- undoing an event gives the document before its first step, where nothing has changed since
-  pub event-unchanged : (ns : List Name) (items : List (Item C)) (before end : Doc) (serial : ℕ) → m.is_good rules before → IsTidy items ns
+  pub event-unchanged : (ns : List Name) (items : List (Item C)) (before end : Doc) (serial : ℕ) → m.is_good rules before → IsTidy items ns → Each (λ n. NoRangeUndoes (Some n) items) ns
       → (ss : List (Step C)) → fold m rules before (changes_of ss) ≡ Some end → Reads m rules true before ns ss
       → (front : List (Item C)) → items ≡ front ++ items_from m rules before ss → (undo_event m rules client ns items end serial).doc ≡ before
-  event-unchanged ns items before end serial good tidy ss folds reads front items_are =
+  event-unchanged ns items before end serial good tidy free ss folds reads front items_are =
       let is = items_from m rules before ss in
       let once : Once (front ++ is) = subst Once items_are tidy.once in
-      let live : Each (λ n. NoneUndoes (Some n) (front ++ is)) ns = subst (λ xs. Each (λ n. NoneUndoes (Some n) xs) ns) items_are tidy.live in
+      let live : Each (λ n. NoRangeUndoes (Some n) (front ++ is)) ns = subst (λ xs. Each (λ n. NoRangeUndoes (Some n) xs) ns) items_are free in
       (event-restored m rules client laws items true before end ns is serial good
       (since items front true before end ns ss good folds reads items_are tidy.names_differ
       (once-back front is once) tidy.differ (each-back front is ns live))).0

@@ -135,9 +135,9 @@ at-start m rules client names items doc serial i w z same =
 pub event-end : {Rules Doc Reason C : Type 0} (m : Meaning Rules Doc Reason C) (rules : Rules) (client : ℕ) → Laws m → (names : List Name) (items : List (Item C)) (doc : Doc) (serial : ℕ)
     → (i : ℕ) (w : Undone Doc C) → i ≤ 0 → w ≡ undo_event m rules client (drop i names) items doc serial → RestoresAll m rules names items doc w
 event-end {Doc = Doc} {C = C} m rules client laws names items doc serial i w z same =
-    λ first steps before good h tidy since.
+    λ first steps before good h tidy free since.
     ap (λ (x : Undone Doc C). x.doc) (at-start m rules client names items doc serial i w z same)
-    ∙ undo-restores m rules client laws names first steps items before doc serial good h tidy since
+    ∙ undo-restores m rules client laws names first steps items before doc serial good h tidy free since
 
 pub event-whole : {Rules Doc Reason C : Type 0} (m : Meaning Rules Doc Reason C) (rules : Rules) (client : ℕ) (names : List Name) (items : List (Item C)) (doc : Doc) (serial : ℕ)
     → (i : ℕ) (w : Undone Doc C) → i ≤ 0 → w ≡ undo_event m rules client (drop i names) items doc serial → IsOfWhole m rules client names items doc serial w

@@ -12,7 +12,7 @@ use Rattle.pm_history.specs.declared.branches.Side.TheVariants.{Edit}
 use Rattle.pm_history.specs.Items.{same_name, one_step, foreign_item}
 use Rattle.pm_history.specs.Histories.{event_of, extended, put_event, noted, noted_own, opens, holds}
 use Rattle.pm_history.specs.Timelines.{Step, changes_of, item_at, items_from}
-use Rattle.pm_history.specs.Tidy.{NotNamed, NamesDiffer, NoneUndoes, Once, Differ, IsTidy}
+use Rattle.pm_history.specs.Tidy.{NotNamed, NamesDiffer, NoneUndoes, NoRangeUndoes, Once, Differ, IsTidy}
 use Rattle.pm_history.specs.Remembers.{names_of, live_names, Lacks, StandsFor, StandFor, Remembers}
 use Rattle.pm_history.specs.Standing.{IsDrawn, HasDrawn, IsHistoryOf}
 use Rattle.pm_history.specs.Folding.{items-append, next-none, own-at}
@@ -49,20 +49,20 @@ module _ {C : Type 0} where
   names-more [] j h k = (not-in-none C j.name, tt)
   names-more (x ∷ xs) j h k = (not-more x.name xs j h.0 k.0, names-more xs j h.1 k.1)
 
-  none-more : (n : Option Name) (xs : List (Item C)) (j : Item C) → NoneUndoes n xs → j.undoes ≡ None → NoneUndoes n (xs ++ j ∷ [])
+  none-more : (n : Option Name) (xs : List (Item C)) (j : Item C) → NoRangeUndoes n xs → j.undoes ≡ None → NoRangeUndoes n (xs ++ j ∷ [])
   none-more n [] j h e = (λ t. absurd (true≢false (sym t ∙ ap (one_step n) e ∙ one-none n)), tt)
   none-more n (x ∷ xs) j h e = (h.0, none-more n xs j h.1 e)
 
   once-more : (xs : List (Item C)) (j : Item C) → Once xs → j.undoes ≡ None → Once (xs ++ j ∷ [])
   once-more [] j h e = (λ n t. inr tt, tt)
   once-more (x ∷ xs) j h e = (
-    λ n t. ⊎_elim (λ (z : x.map ≡ []). inl z) (λ (z : NoneUndoes (Some n) xs). inr (none-more (Some n) xs j z e)) (h.0 n t),
+    λ n t. ⊎_elim (λ (z : x.map ≡ []). inl z) (λ (z : NoRangeUndoes (Some n) xs). inr (none-more (Some n) xs j z e)) (h.0 n t),
     once-more xs j h.1 e,
   )
 
-  live-more : (xs : List (Item C)) (j : Item C) (ns : List Name) → Each (λ n. NoneUndoes (Some n) xs) ns → j.undoes ≡ None → Each (λ n. NoneUndoes (Some n) (xs ++ j ∷ [])) ns
+  live-more : (xs : List (Item C)) (j : Item C) (ns : List Name) → Each (λ n. NoneUndoes n xs) ns → j.undoes ≡ None → Each (λ n. NoneUndoes n (xs ++ j ∷ [])) ns
   live-more xs j [] h e = tt
-  live-more xs j (n ∷ ns) h e = (none-more (Some n) xs j h.0 e, live-more xs j ns h.1 e)
+  live-more xs j (n ∷ ns) h e = (each-append (λ (i : Item C). one_step (Some n) i.undoes ≡ false) xs (j ∷ []) h.0 (ap (one_step (Some n)) e, tt), live-more xs j ns h.1 e)
 
   pub holds-more : (n : Name) (xs ys : List (Item C)) → holds n xs ≡ true → holds n (xs ++ ys) ≡ true
   holds-more n [] ys h = absurd (true≢false (sym h))
@@ -129,8 +129,8 @@ module _ {Rules Doc Reason C : Type 0} (m : Meaning Rules Doc Reason C) (rules :
           names_differ = names-more all j k.tidy.names_differ (named-none all None refl);
           once = once-more all j k.tidy.once refl;
           differ = k.tidy.differ;
-          live = live-more all j (live_names h) k.tidy.live refl;
         });
+        live = subst (λ is. Each (λ n. NoneUndoes n is) (live_names h)) (sym more) (live-more all j (live_names h) k.live refl);
         stand = subst (λ is. Each (λ n. holds n is ≡ true) (live_names h)) (sym more) (stand-more all j (live_names h) k.stand);
         drawn_are = subst (λ is. Each (HasDrawn client drawn) is) (sym more) (each-append (HasDrawn client drawn) all (j ∷ []) k.drawn_are ((tt, tt), tt));
       }
@@ -180,13 +180,13 @@ module _ {C : Type 0} (client drawn : ℕ) where
       from false e h go = go h
 
   pub fresh-names : (n : Name) (xs : List (Item C)) → IsFresh client drawn n → Each (HasDrawn client drawn) xs
-      → Each (λ x. one_step x.name (Some n) ≡ false) xs × Lacks xs n × NoneUndoes (Some n) xs
+      → Each (λ x. one_step x.name (Some n) ≡ false) xs × Lacks xs n × NoneUndoes n xs
   fresh-names n [] f d = (tt, tt, tt)
   fresh-names n (x ∷ xs) f d =
       let rest = fresh-names n xs f d.1 in
       let name = fresh-none client drawn n x.name f d.0.0 in
       let undoes = fresh-none client drawn n x.undoes f d.0.1 in
-      ((name.1, rest.0), (name.0, rest.1), ((λ t. absurd (true≢false (sym t ∙ undoes.0))), rest.2))
+      ((name.1, rest.0), (name.0, rest.1), (undoes.0, rest.2))
 
   fresh-differ : (n : Name) (ns : List Name) (xs : List (Item C)) → IsFresh client drawn n → Each (HasDrawn client drawn) xs → Each (λ k. holds k xs ≡ true) ns → Differ ns
       → Differ (ns ++ n ∷ [])
@@ -271,7 +271,7 @@ module _ {Rules Doc Reason C : Type 0} (m : Meaning Rules Doc Reason C) (rules :
         inverse_is = inl (ap (λ (i : Item C). i.inverse) (sym at));
       } in
       let held : Each (λ x. holds x all ≡ true) old = each-front (λ x. holds x all ≡ true) old (names_of h.redo) k.stand in
-      let free : Each (λ x. NoneUndoes (Some x) all) old = each-front (λ x. NoneUndoes (Some x) all) old (names_of h.redo) k.tidy.live in
+      let free : Each (λ x. NoneUndoes x all) old = each-front (λ x. NoneUndoes x all) old (names_of h.redo) k.live in
       let same : same_name n n ≡ true = and-same (n.client == n.client) (n.serial == n.serial) (eq-eqb n.client n.client refl) (eq-eqb n.serial n.serial refl) in
       record {
         remembers = subst (λ ns. Remembers m rules ns first (steps ++ s ∷ []) (h.items ++ j ∷ [])) (sym names) (remembers-more m rules live first doc steps h.items s j before e stands);
@@ -279,8 +279,9 @@ module _ {Rules Doc Reason C : Type 0} (m : Meaning Rules Doc Reason C) (rules :
           names_differ = names-more all j k.tidy.names_differ f.0;
           once = once-more all j k.tidy.once refl;
           differ = fresh-differ client drawn n old all fresh k.drawn_are held (differ-front old (names_of h.redo) k.tidy.differ);
-          live = live-more all j live (each-append (λ x. NoneUndoes (Some x) all) old (n ∷ []) free (f.2, tt)) refl;
         }));
+        live = subst (λ ns. Each (λ x. NoneUndoes x (items_from m rules first (steps ++ s ∷ []))) ns) (sym names) (subst (λ is. Each (λ x. NoneUndoes x is) live) (sym more)
+            (live-more all j live (each-append (λ x. NoneUndoes x all) old (n ∷ []) free (f.2, tt)) refl));
         stand = subst (λ ns. Each (λ x. holds x (items_from m rules first (steps ++ s ∷ [])) ≡ true) ns) (sym names) (subst (λ is. Each (λ x. holds x is ≡ true) live) (sym more)
             (each-append (λ x. holds x (all ++ j ∷ []) ≡ true) old (n ∷ []) (stand-more all j old held) (holds-last n all j same, tt)));
         drawn_are = subst (λ is. Each (HasDrawn client s.name.serial) is) (sym more)

@@ -2,6 +2,7 @@
 use Rattle.std.specs.Prelude.{◌≡◌, ℕ, false, List, [], ◌∷◌, ◌++◌, Some, refl}
 use Rattle.std.specs.List.{AllByRecursion as Each}
 use Rattle.std.proofs.Common.{sym, ap, subst, ◌∙◌, ⊎_elim, inl, inr, append_assoc}
+use Rattle.std.proofs.lemmas.Bool.{true≢false}
 use Rattle.pm_change.specs.declared.name.Name.{Name}
 use Rattle.pm_change.specs.Changes.{Meaning, Laws, fold}
 use Rattle.pm_change.specs.Folds.{fold-append, fold-good}
@@ -11,7 +12,7 @@ use Rattle.pm_history.specs.declared.branches.Branches.{Branches}
 use Rattle.pm_history.specs.Items.{same_name, one_step}
 use Rattle.pm_history.specs.Histories.{new_history}
 use Rattle.pm_history.specs.Timelines.{Step, changes_of, items_from}
-use Rattle.pm_history.specs.Tidy.{Differ, IsTidy}
+use Rattle.pm_history.specs.Tidy.{NoneUndoes, NoRangeUndoes, Differ, IsTidy}
 use Rattle.pm_history.specs.Remembers.{names_of, live_names, Lacks, StandFor, Remembers}
 use Rattle.pm_history.specs.Shows.{ShowsTo}
 use Rattle.pm_history.specs.Standing.{IsHistoryOf}
@@ -66,6 +67,15 @@ stands-fewer live ns (i ∷ is) (j ∷ js) pick h = (
   stands-fewer live ns is js pick h.1,
 )
 
+-- Where no item undoes a step, none with a range does.
+pub none-tied : {C : Type 0} (n : Name) (xs : List (Item C)) → NoneUndoes n xs → NoRangeUndoes (Some n) xs
+none-tied n [] h = tt
+none-tied n (x ∷ xs) h = ((λ t. absurd (true≢false (sym t ∙ h.0))), none-tied n xs h.1)
+
+none-moves : {C : Type 0} (ns : List Name) (xs : List (Item C)) → Each (λ n. NoneUndoes n xs) ns → Each (λ n. NoRangeUndoes (Some n) xs) ns
+none-moves [] xs h = tt
+none-moves (n ∷ ns) xs h = (none-tied n xs h.0, none-moves ns xs h.1)
+
 module _ {Rules Doc Reason C : Type 0} (m : Meaning Rules Doc Reason C) (rules : Rules) where
   pub remembers-fewer : (live ns : List Name) (first : Doc) (steps : List (Step C)) (items : List (Item C)) → ((P : Name → Type 0) → Each P live → Each P ns)
       → Remembers m rules live first steps items → Remembers m rules ns first steps items
@@ -82,27 +92,29 @@ module _ {Rules Doc Reason C : Type 0} (m : Meaning Rules Doc Reason C) (rules :
   -- what an undo of the last event asks of the history
   pub undo-remembers : (client drawn : ℕ) (first : Doc) (steps : List (Step C)) (h : Branches C) (rest : List Event) (e : Event) → IsHistoryOf m rules client drawn first steps h
       → h.undo ≡ rest ++ e ∷ [] → Remembers m rules e.names first steps h.items × IsTidy (items_from m rules first steps) e.names
+      × Each (λ n. NoRangeUndoes (Some n) (items_from m rules first steps)) e.names
   undo-remembers client drawn first steps h rest e s u = (
     remembers-fewer (live_names h) e.names first steps h.items (λ P k. last-names P h.undo rest e u (each-front P (names_of h.undo) (names_of h.redo) k)) s.remembers,
     record {
       names_differ = s.tidy.names_differ;
       once = s.tidy.once;
       differ = last-differ h.undo rest e u (differ-front (names_of h.undo) (names_of h.redo) s.tidy.differ);
-      live = last-names _ h.undo rest e u (each-front _ (names_of h.undo) (names_of h.redo) s.tidy.live);
     },
+    none-moves e.names (items_from m rules first steps) (last-names (λ n. NoneUndoes n (items_from m rules first steps)) h.undo rest e u (each-front _ (names_of h.undo) (names_of h.redo) s.live)),
   )
 
   -- and what a redo asks
   pub redo-remembers : (client drawn : ℕ) (first : Doc) (steps : List (Step C)) (h : Branches C) (rest : List Event) (e : Event) → IsHistoryOf m rules client drawn first steps h
       → h.redo ≡ rest ++ e ∷ [] → Remembers m rules e.names first steps h.items × IsTidy (items_from m rules first steps) e.names
+      × Each (λ n. NoRangeUndoes (Some n) (items_from m rules first steps)) e.names
   redo-remembers client drawn first steps h rest e s u = (
     remembers-fewer (live_names h) e.names first steps h.items (λ P k. last-names P h.redo rest e u (each-back P (names_of h.undo) (names_of h.redo) k)) s.remembers,
     record {
       names_differ = s.tidy.names_differ;
       once = s.tidy.once;
       differ = last-differ h.redo rest e u (differ-back (names_of h.undo) (names_of h.redo) s.tidy.differ);
-      live = last-names _ h.redo rest e u (each-back _ (names_of h.undo) (names_of h.redo) s.tidy.live);
     },
+    none-moves e.names (items_from m rules first steps) (last-names (λ n. NoneUndoes n (items_from m rules first steps)) h.redo rest e u (each-back _ (names_of h.undo) (names_of h.redo) s.live)),
   )
 
   pub kept-fold : (live : List Name) (first end : Doc) (steps : List (Step C)) (items : List (Item C)) (h : Remembers m rules live first steps items)
@@ -124,7 +136,8 @@ module _ {Rules Doc Reason C : Type 0} (m : Meaning Rules Doc Reason C) (rules :
   pub history-new : (client : ℕ) (first : Doc) → IsHistoryOf m rules client 0 first [] new_history
   history-new client first = record {
     remembers = record { gone = []; kept = []; mid = first; steps_are = refl; reaches = refl; stand = tt; lacks = tt };
-    tidy = record { names_differ = tt; once = tt; differ = tt; live = tt };
+    tidy = record { names_differ = tt; once = tt; differ = tt };
+    live = tt;
     stand = tt;
     drawn_are = tt;
   }

@@ -27,3 +27,4 @@ pub mod Numbers
 pub mod Turned
 pub mod Tied
 pub mod TiedLaws
+pub mod EventLaws

@@ -14,12 +14,12 @@ use Rattle.pm_history.specs.declared.branches.Branches.{Branches}
 use Rattle.pm_history.specs.Items.{one_step, foreign_item}
 use Rattle.pm_history.specs.Histories.{holds, is_dropped, still_named, foreign_items, last_items, rebased}
 use Rattle.pm_history.specs.Timelines.{Step, changes_of, item_at, next_items, items_from}
-use Rattle.pm_history.specs.Tidy.{IsTidy}
+use Rattle.pm_history.specs.Tidy.{NoneUndoes, IsTidy}
 use Rattle.pm_history.specs.Remembers.{live_names, Lacks, StandFor, Remembers}
 use Rattle.pm_history.specs.Standing.{HasDrawn, IsHistoryOf}
 use Rattle.pm_history.specs.Folding.{changes-append, items-append, own-at}
 use Rattle.pm_history.specs.Grows.{stands-fewer, kept-fold}
-use Rattle.pm_history.specs.Thins.{ComesFrom, nothing, lost, foreign, held, comes-same, tidy-from, drawn-from, still-each, rebased-names}
+use Rattle.pm_history.specs.Thins.{ComesFrom, nothing, lost, foreign, held, comes-same, tidy-from, live-from, drawn-from, still-each, rebased-names}
 
 module _ {C : Type 0} where
   still-map : (P Q : Name → Type 0) (gone kept : List (Item C)) (ns : List Name) → ((n : Name) → is_dropped gone kept n ≡ false → P n → Q n) → Each P ns → Each Q (still_named gone kept ns)
@@ -233,6 +233,8 @@ module _ {Rules Doc Reason C : Type 0} (m : Meaning Rules Doc Reason C) (rules :
         });
         tidy = subst (λ ns. IsTidy (items_from m rules first (A ++ (F ++ K))) ns) (sym names) (subst (λ is. IsTidy is left) (sym new)
             (tidy-from (IA ++ IG) (IA ++ (IF ++ IK)) gone IK live from (subst (λ is. IsTidy is live) old k.tidy)));
+        live = subst (λ ns. Each (λ n. NoneUndoes n (items_from m rules first (A ++ (F ++ K)))) ns) (sym names) (subst (λ is. Each (λ n. NoneUndoes n is) left) (sym new)
+            (live-from (IA ++ IG) (IA ++ (IF ++ IK)) gone IK live from (subst (λ is. Each (λ n. NoneUndoes n is) live) old k.live)));
         stand = subst (λ ns. Each (λ x. holds x (items_from m rules first (A ++ (F ++ K))) ≡ true) ns) (sym names) (subst (λ is. Each (λ x. holds x is ≡ true) left) (sym new)
             (still-map (λ x. holds x (IA ++ IG) ≡ true) (λ x. holds x (IA ++ (IF ++ IK)) ≡ true) gone IK live
             (λ x d p. (holds-both x IA (IF ++ IK) ∙ ap (λ t. holds x IA || t) (holds-both x IF IK))

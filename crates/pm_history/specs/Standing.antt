@@ -7,7 +7,7 @@ use Rattle.pm_history.specs.declared.item.Item.{Item}
 use Rattle.pm_history.specs.declared.branches.Branches.{Branches}
 use Rattle.pm_history.specs.Histories.{holds}
 use Rattle.pm_history.specs.Timelines.{Step, items_from}
-use Rattle.pm_history.specs.Tidy.{IsTidy}
+use Rattle.pm_history.specs.Tidy.{NoneUndoes, IsTidy}
 use Rattle.pm_history.specs.Remembers.{live_names, Remembers}
 
 -- the name of a step of this client, with one of the serials that it has drawn
@@ -24,9 +24,10 @@ module _ {Rules Doc Reason C : Type 0} (m : Meaning Rules Doc Reason C) (rules :
   pub record IsHistoryOf (client drawn : ℕ) (first : Doc) (steps : List (Step C)) (h : Branches C) : Type 0 where
     -- the items are those of the last steps, and the steps of all events are among these
     pub remembers : Remembers m rules (live_names h) first steps h.items
-    -- Own steps have names that differ, and so have the steps of events. No two steps with a range undo one step, and none
-    -- undoes a step of an event.
+    -- Own steps have names that differ, and so have the steps of events. No two steps with a range undo one step.
     pub tidy : IsTidy (items_from m rules first steps) (live_names h)
+    -- no own step, with or without a range, was made to undo a step whose name stands in an event
+    pub live : Each (λ n. NoneUndoes n (items_from m rules first steps)) (live_names h)
     -- each name in an event is that of an own step of the timeline
     pub stand : Each (λ n. holds n (items_from m rules first steps) ≡ true) (live_names h)
     -- own steps, and those that they undo, have names that the client has drawn

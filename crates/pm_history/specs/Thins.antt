@@ -10,7 +10,7 @@ use Rattle.pm_history.specs.declared.branch.Event.{Event}
 use Rattle.pm_history.specs.declared.branches.Branches.{Branches}
 use Rattle.pm_history.specs.Items.{same_name, one_step}
 use Rattle.pm_history.specs.Histories.{is_dropped, still_named, without_dropped, last_items, rebased}
-use Rattle.pm_history.specs.Tidy.{NotNamed, NamesDiffer, NoneUndoes, Once, Differ, IsTidy}
+use Rattle.pm_history.specs.Tidy.{NotNamed, NamesDiffer, NoneUndoes, NoRangeUndoes, Once, Differ, IsTidy}
 use Rattle.pm_history.specs.Remembers.{names_of, live_names}
 use Rattle.pm_history.specs.Standing.{IsDrawn, HasDrawn}
 
@@ -51,18 +51,24 @@ module _ {C : Type 0} where
   differ-from xs ys (foreign y xs' ys' e f c) h = (subst (λ o. NotNamed o ys') (sym e) tt, differ-from xs' ys' c h)
   differ-from xs ys (held x y xs' ys' e f r c) h = (subst (λ o. NotNamed o ys') (sym e) (not-named-from x.name xs' ys' c h.0), differ-from xs' ys' c h.1)
 
-  pub undoes-from : (n : Option Name) (xs ys : List (Item C)) → ComesFrom xs ys → NoneUndoes n xs → NoneUndoes n ys
+  pub undoes-from : (n : Option Name) (xs ys : List (Item C)) → ComesFrom xs ys → NoRangeUndoes n xs → NoRangeUndoes n ys
   undoes-from n xs ys nothing h = tt
   undoes-from n xs ys (lost x xs' ys' c) h = undoes-from n xs' ys' c h.1
   undoes-from n xs ys (foreign y xs' ys' e f c) h = ((λ t. absurd (true≢false (sym t ∙ none-tied n y f))), undoes-from n xs' ys' c h)
   undoes-from n xs ys (held x y xs' ys' e f r c) h = ((λ t. r (h.0 (ap (one_step n) (sym f) ∙ t))), undoes-from n xs' ys' c h.1)
+
+  pub free-from : (n : Name) (xs ys : List (Item C)) → ComesFrom xs ys → NoneUndoes n xs → NoneUndoes n ys
+  free-from n xs ys nothing h = tt
+  free-from n xs ys (lost x xs' ys' c) h = free-from n xs' ys' c h.1
+  free-from n xs ys (foreign y xs' ys' e f c) h = (none-tied (Some n) y f, free-from n xs' ys' c h)
+  free-from n xs ys (held x y xs' ys' e f r c) h = (ap (one_step (Some n)) f ∙ h.0, free-from n xs' ys' c h.1)
 
   pub once-from : (xs ys : List (Item C)) → ComesFrom xs ys → Once xs → Once ys
   once-from xs ys nothing h = tt
   once-from xs ys (lost x xs' ys' c) h = once-from xs' ys' c h.1
   once-from xs ys (foreign y xs' ys' e f c) h = ((λ n t. absurd (true≢false (sym t ∙ none-tied (Some n) y f))), once-from xs' ys' c h)
   once-from xs ys (held x y xs' ys' e f r c) h = (
-    λ n t. ⊎_elim (λ (z : x.map ≡ []). inl (r z)) (λ (z : NoneUndoes (Some n) xs'). inr (undoes-from (Some n) xs' ys' c z)) (h.0 n (ap (one_step (Some n)) (sym f) ∙ t)),
+    λ n t. ⊎_elim (λ (z : x.map ≡ []). inl (r z)) (λ (z : NoRangeUndoes (Some n) xs'). inr (undoes-from (Some n) xs' ys' c z)) (h.0 n (ap (one_step (Some n)) (sym f) ∙ t)),
     once-from xs' ys' c h.1,
   )
 
@@ -74,9 +80,9 @@ module _ {C : Type 0} where
   drawn-from client drawn xs ys (held x y xs' ys' e f r c) h =
       ((subst (IsDrawn client drawn) (sym e) h.0.0, subst (IsDrawn client drawn) (sym f) h.0.1), drawn-from client drawn xs' ys' c h.1)
 
-  live-from : (xs ys : List (Item C)) (ns : List Name) → ComesFrom xs ys → Each (λ n. NoneUndoes (Some n) xs) ns → Each (λ n. NoneUndoes (Some n) ys) ns
-  live-from xs ys [] c h = tt
-  live-from xs ys (n ∷ ns) c h = (undoes-from (Some n) xs ys c h.0, live-from xs ys ns c h.1)
+  live-each : (xs ys : List (Item C)) (ns : List Name) → ComesFrom xs ys → Each (λ n. NoneUndoes n xs) ns → Each (λ n. NoneUndoes n ys) ns
+  live-each xs ys [] c h = tt
+  live-each xs ys (n ∷ ns) c h = (free-from n xs ys c h.0, live-each xs ys ns c h.1)
 
   -- a list of names without the dropped ones
   pub still-each : (P : Name → Type 0) (gone kept : List (Item C)) (ns : List Name) → Each P ns → Each P (still_named gone kept ns)
@@ -124,5 +130,8 @@ module _ {C : Type 0} where
     names_differ = differ-from xs ys c t.names_differ;
     once = once-from xs ys c t.once;
     differ = still-differ gone kept ns t.differ;
-    live = still-each (λ n. NoneUndoes (Some n) ys) gone kept ns (live-from xs ys ns c t.live);
   }
+
+  -- and no step undoes one of them
+  pub live-from : (xs ys gone kept : List (Item C)) (ns : List Name) → ComesFrom xs ys → Each (λ n. NoneUndoes n xs) ns → Each (λ n. NoneUndoes n ys) (still_named gone kept ns)
+  live-from xs ys gone kept ns c h = still-each (λ n. NoneUndoes n ys) gone kept ns (live-each xs ys ns c h)

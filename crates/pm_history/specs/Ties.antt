@@ -2,7 +2,7 @@
 use Rattle.std.specs.Prelude.{◌≡◌, ℕ, ◌≤◌, ◌⊎◌, Bool, true, false, if◌then◌else◌, List, [], ◌∷◌, ◌++◌, length, Option, Some, None, Result, Ok, Err, refl}
 use Rattle.std.specs.List.{AllByRecursion as Each}
 use Rattle.std.proofs.Common.{sym, ap, subst, ◌∙◌, ⊎_elim, inl, inr, arith}
-use Rattle.std.proofs.lemmas.Bool.{true≢false, and_parts, eqb-true}
+use Rattle.std.proofs.lemmas.Bool.{and_parts, eqb-true}
 use Rattle.std.proofs.lemmas.List.Elements.{recursion_from_All}
 use Rattle.pm_map.specs.declared.step_map.Span.{Span}
 use Rattle.pm_change.specs.declared.name.Name.{Name}
@@ -11,9 +11,9 @@ use Rattle.pm_history.specs.declared.item.Item.{Item}
 use Rattle.pm_history.specs.Items.{same_name, one_step}
 use Rattle.pm_history.specs.Pairs.{paired}
 use Rattle.pm_history.specs.Shows.{Shows, ShowsTo}
-use Rattle.pm_history.specs.Tidy.{NoneUndoes, Once, Differ}
+use Rattle.pm_history.specs.Tidy.{NoRangeUndoes, Once, Differ}
 use Rattle.pm_history.specs.Undos.{find, where_applies, tried, put, undo_steps, undo_found, undo_event}
-use Rattle.pm_history.specs.Grows.{each-append}
+use Rattle.pm_history.specs.Grows.{each-append, none-tied}
 use Rattle.pm_history.specs.Rebased.{no-range}
 
 pub each-map : {A : Type 0} (P Q : A → Type 0) (xs : List A) → ((x : A) → P x → Q x) → Each P xs → Each Q xs
@@ -26,22 +26,17 @@ same-is a b h =
     ap (λ c. record { client = c; serial = a.serial }) (eqb-true a.client b.client p.0) ∙ ap (λ s. record { client = b.client; serial = s }) (eqb-true a.serial b.serial p.1)
 
 module _ {C : Type 0} where
-  pub none-both : (n : Option Name) (xs ys : List (Item C)) → NoneUndoes n xs → NoneUndoes n ys → NoneUndoes n (xs ++ ys)
+  pub none-both : (n : Option Name) (xs ys : List (Item C)) → NoRangeUndoes n xs → NoRangeUndoes n ys → NoRangeUndoes n (xs ++ ys)
   none-both n [] ys h k = k
   none-both n (x ∷ xs) ys h k = (h.0, none-both n xs ys h.1 k)
 
-  -- items that undo other steps
-  pub none-tied : (n : Name) (xs : List (Item C)) → Each (λ x. one_step (Some n) x.undoes ≡ false) xs → NoneUndoes (Some n) xs
-  none-tied n [] h = tt
-  none-tied n (x ∷ xs) h = ((λ t. absurd (true≢false (sym t ∙ h.0))), none-tied n xs h.1)
-
   -- where no step is undone by both
-  pub once-both : (xs ys : List (Item C)) → Once xs → Once ys → ((n : Name) → NoneUndoes (Some n) xs ⊎ NoneUndoes (Some n) ys) → Once (xs ++ ys)
+  pub once-both : (xs ys : List (Item C)) → Once xs → Once ys → ((n : Name) → NoRangeUndoes (Some n) xs ⊎ NoRangeUndoes (Some n) ys) → Once (xs ++ ys)
   once-both [] ys h k f = k
   once-both (x ∷ xs) ys h k f = (
-    λ n t. ⊎_elim (λ (z : NoneUndoes (Some n) (x ∷ xs)). inl (z.0 t))
-        (λ (z : NoneUndoes (Some n) ys). ⊎_elim (λ (r : x.map ≡ []). inl r) (λ (r : NoneUndoes (Some n) xs). inr (none-both (Some n) xs ys r z)) (h.0 n t)) (f n),
-    once-both xs ys h.1 k (λ n. ⊎_elim (λ (z : NoneUndoes (Some n) (x ∷ xs)). inl z.1) (λ (z : NoneUndoes (Some n) ys). inr z) (f n)),
+    λ n t. ⊎_elim (λ (z : NoRangeUndoes (Some n) (x ∷ xs)). inl (z.0 t))
+        (λ (z : NoRangeUndoes (Some n) ys). ⊎_elim (λ (r : x.map ≡ []). inl r) (λ (r : NoRangeUndoes (Some n) xs). inr (none-both (Some n) xs ys r z)) (h.0 n t)) (f n),
+    once-both xs ys h.1 k (λ n. ⊎_elim (λ (z : NoRangeUndoes (Some n) (x ∷ xs)). inl z.1) (λ (z : NoRangeUndoes (Some n) ys). inr z) (f n)),
   )
 
   once-empties : (xs : List (Item C)) → Each (λ x. x.map ≡ []) xs → Once xs
@@ -151,8 +146,8 @@ module _ {Rules Doc Reason C : Type 0} (m : Meaning Rules Doc Reason C) (rules :
       (λ z. none-tied k w.items (event-ties (λ o. one_step (Some k) o ≡ false) ns items doc serial z))
       (λ z. none-tied k v.items (found-ties (λ o. one_step (Some k) o ≡ false) n (find n items) w.items w.doc w.serial z)))
     where
-      from : (k : Name) (xs ys : List (Item C)) (t : Bool) → same_name k n ≡ t → (Each (λ j. same_name k j ≡ false) ns → NoneUndoes (Some k) xs) → (same_name k n ≡ false → NoneUndoes (Some k) ys)
-          → NoneUndoes (Some k) xs ⊎ NoneUndoes (Some k) ys
+      from : (k : Name) (xs ys : List (Item C)) (t : Bool) → same_name k n ≡ t → (Each (λ j. same_name k j ≡ false) ns → NoRangeUndoes (Some k) xs) → (same_name k n ≡ false → NoRangeUndoes (Some k) ys)
+          → NoRangeUndoes (Some k) xs ⊎ NoRangeUndoes (Some k) ys
       from k xs ys true e f g = inl (f (subst (λ x. Each (λ j. same_name x j ≡ false) ns) (sym (same-is k n e)) d.0))
       from k xs ys false e f g = inr (g e)
 

@@ -18,10 +18,10 @@ use Rattle.pm_history.specs.Standing.{IsDrawn, HasDrawn, IsHistoryOf}
 use Rattle.pm_history.specs.Made.{made_steps, IsMade}
 use Rattle.pm_history.specs.Undos.{undo_event}
 use Rattle.pm_history.specs.Folding.{items-append}
-use Rattle.pm_history.specs.Grows.{each-front, each-back, each-append, names-append, kept-fold, history-shows}
+use Rattle.pm_history.specs.Grows.{each-front, each-back, each-append, none-tied, names-append, kept-fold, history-shows}
 use Rattle.pm_history.specs.Edited.{IsFresh, fresh-other, fresh-none, held-drawn, fresh-names, all-later, holds-more}
 use Rattle.pm_history.specs.Rebased.{stand-both, stand-same}
-use Rattle.pm_history.specs.Ties.{each-map, same-is, none-both, none-tied, once-both, event-ties, event-once}
+use Rattle.pm_history.specs.Ties.{each-map, same-is, once-both, event-ties, event-once}
 use Rattle.pm_history.specs.Numbers.{Numbered, names-both, holds-behind, holds-own, numbered-fresh, numbered-differ, numbered-not, numbered-names, numbered-drawn, made-numbered}
 
 -- no name of one list is in the other
@@ -128,13 +128,13 @@ split-differ client drawn live left right last news s f d hl hr =
 
 module _ {C : Type 0} where
   -- a name is not one of these, or is one that no item undoes
-  other-or-free : (all : List (Item C)) (last : List Name) (n : Name) → Each (λ k. NoneUndoes (Some k) all) last → NoneUndoes (Some n) all ⊎ Each (λ k. same_name n k ≡ false) last
+  other-or-free : (all : List (Item C)) (last : List Name) (n : Name) → Each (λ k. NoneUndoes k all) last → NoneUndoes n all ⊎ Each (λ k. same_name n k ≡ false) last
   other-or-free all [] n h = inr tt
   other-or-free all (k ∷ ks) n h = from (same_name n k) refl (other-or-free all ks n h.1)
     where
-      from : (t : Bool) → same_name n k ≡ t → NoneUndoes (Some n) all ⊎ Each (λ j. same_name n j ≡ false) ks → NoneUndoes (Some n) all ⊎ Each (λ j. same_name n j ≡ false) (k ∷ ks)
-      from true e go = inl (subst (λ x. NoneUndoes (Some x) all) (sym (same-is n k e)) h.0)
-      from false e go = ⊎_elim (λ (z : NoneUndoes (Some n) all). inl z) (λ (z : Each (λ j. same_name n j ≡ false) ks). inr (e, z)) go
+      from : (t : Bool) → same_name n k ≡ t → NoneUndoes n all ⊎ Each (λ j. same_name n j ≡ false) ks → NoneUndoes n all ⊎ Each (λ j. same_name n j ≡ false) (k ∷ ks)
+      from true e go = inl (subst (λ x. NoneUndoes x all) (sym (same-is n k e)) h.0)
+      from false e go = ⊎_elim (λ (z : NoneUndoes n all). inl z) (λ (z : Each (λ j. same_name n j ≡ false) ks). inr (e, z)) go
 
   stands-with : (live more : List Name) (is js : List (Item C))
       → Each (λ (j : Item C). Each (λ n. one_step (Some n) j.name ≡ false) live → Each (λ n. one_step (Some n) j.name ≡ false) more) js → StandFor live is js → StandFor more is js
@@ -179,12 +179,12 @@ module _ {Rules Doc Reason C : Type 0} (m : Meaning Rules Doc Reason C) (rules :
       let drawn_gone : Each (HasDrawn client drawn) gone = each-front (HasDrawn client drawn) gone kept drawn_parts in
       let drawn_kept : Each (HasDrawn client drawn) kept = each-back (HasDrawn client drawn) gone kept drawn_parts in
       let held = s.each (λ n. holds n all ≡ true) k.stand in
-      let free = s.each (λ n. NoneUndoes (Some n) all) k.tidy.live in
+      let free = s.each (λ n. NoneUndoes n all) k.live in
       let drawn_live : Each (λ n. IsDrawn client drawn (Some n)) live = each-map (λ n. holds n all ≡ true) (λ n. IsDrawn client drawn (Some n)) live (λ n x. held-drawn client drawn n all drawn_all x) k.stand in
       let low_sides = s.each (λ n. IsDrawn client drawn (Some n)) drawn_live in
       let put : (P : Name → Type 0) → Each P left → Each P news → Each P right → Each P later = λ P x y z. each-append P (left ++ news) right (each-append P left news x y) z in
-      let other : (n : Name) → Each (λ j. same_name n j ≡ false) last → NoneUndoes (Some n) js = λ n x. none-tied n js (ties (λ o. one_step (Some n) o ≡ false) x) in
-      let new_other : (n : Name) → IsFresh client drawn n → NoneUndoes (Some n) js =
+      let other : (n : Name) → Each (λ j. same_name n j ≡ false) last → NoneUndoes n js = λ n x. ties (λ o. one_step (Some n) o ≡ false) x in
+      let new_other : (n : Name) → IsFresh client drawn n → NoneUndoes n js =
       λ n f. other n (each-map (λ j. IsDrawn client drawn (Some j)) (λ j. same_name n j ≡ false) last (λ j d. (fresh-other client drawn n j f d).0) low_sides.2) in
       let clear : (j : Item C) → HasDrawn client drawn j → Each (λ n. one_step (Some n) j.name ≡ false) live → Each (λ n. one_step (Some n) j.name ≡ false) later =
       λ j d x.
@@ -194,6 +194,10 @@ module _ {Rules Doc Reason C : Type 0} (m : Meaning Rules Doc Reason C) (rules :
       stands-with live later h.items kept
       (each-map (HasDrawn client drawn) (λ (j : Item C). Each (λ n. one_step (Some n) j.name ≡ false) live → Each (λ n. one_step (Some n) j.name ≡ false) later) kept clear drawn_kept) R.stand in
       let lacking = s.each (Lacks gone) R.lacks in
+      let both-free : (n : Name) → NoneUndoes n all → NoneUndoes n js → NoneUndoes n (all ++ js) = λ n x y. each-append (λ (i : Item C). one_step (Some n) i.undoes ≡ false) all js x y in
+      let still-free : (side : List Name) → Each (λ n. NoneUndoes n all) side → Each (λ n. Each (λ j. same_name n j ≡ false) last) side → Each (λ n. NoneUndoes n (all ++ js)) side =
+      λ side f a. each-map (λ n. NoneUndoes n all × Each (λ j. same_name n j ≡ false) last) (λ n. NoneUndoes n (all ++ js)) side (λ n x. both-free n x.0 (other n x.1))
+      (each-both (λ n. NoneUndoes n all) (λ n. Each (λ j. same_name n j ≡ false) last) side f a) in
       let up : drawn ≤ more = omega (arith, low, count) in
       record {
         remembers = subst (λ ns. Remembers m rules ns first (steps ++ made) g.items) (sym live_are) (subst (λ is. Remembers m rules later first (steps ++ made) is) (sym items_are) (record {
@@ -209,15 +213,13 @@ module _ {Rules Doc Reason C : Type 0} (m : Meaning Rules Doc Reason C) (rules :
           names_differ = names-both all js k.tidy.names_differ (numbered-names client serial js numbered)
               (each-map (HasDrawn client drawn) (λ (x : Item C). NotNamed x.name js) all (λ x d. numbered-not client x.name drawn serial js d.0 low numbered) drawn_all);
           once = once-both all js k.tidy.once once
-              (λ n. ⊎_elim (λ (z : NoneUndoes (Some n) all). inl z) (λ (z : Each (λ j. same_name n j ≡ false) last). inr (other n z)) (other-or-free all last n free.2));
+              (λ n. ⊎_elim (λ (z : NoneUndoes n all). inl (none-tied n all z)) (λ (z : Each (λ j. same_name n j ≡ false) last). inr (none-tied n js (other n z))) (other-or-free all last n free.2));
           differ = split-differ client drawn live left right last news s fresh (numbered-differ client serial js numbered) low_sides.0 low_sides.1;
-          live = put (λ n. NoneUndoes (Some n) (all ++ js))
-              (each-map (λ n. NoneUndoes (Some n) all × Each (λ j. same_name n j ≡ false) last) (λ n. NoneUndoes (Some n) (all ++ js)) left (λ n x. none-both (Some n) all js x.0 (other n x.1))
-              (each-both (λ n. NoneUndoes (Some n) all) (λ n. Each (λ j. same_name n j ≡ false) last) left free.0 s.left_apart))
-              (each-map (IsFresh client drawn) (λ n. NoneUndoes (Some n) (all ++ js)) news (λ n f. none-both (Some n) all js (fresh-names client drawn n all f drawn_all).2 (new_other n f)) fresh)
-              (each-map (λ n. NoneUndoes (Some n) all × Each (λ j. same_name n j ≡ false) last) (λ n. NoneUndoes (Some n) (all ++ js)) right (λ n x. none-both (Some n) all js x.0 (other n x.1))
-              (each-both (λ n. NoneUndoes (Some n) all) (λ n. Each (λ j. same_name n j ≡ false) last) right free.1 s.right_apart));
         }));
+        live = subst (λ ns. Each (λ n. NoneUndoes n (items_from m rules first (steps ++ made))) ns) (sym live_are) (subst (λ is. Each (λ n. NoneUndoes n is) later) (sym whole)
+            (put (λ n. NoneUndoes n (all ++ js)) (still-free left free.0 s.left_apart)
+            (each-map (IsFresh client drawn) (λ n. NoneUndoes n (all ++ js)) news (λ n f. both-free n (fresh-names client drawn n all f drawn_all).2 (new_other n f)) fresh)
+            (still-free right free.1 s.right_apart)));
         stand = subst (λ ns. Each (λ n. holds n (items_from m rules first (steps ++ made)) ≡ true) ns) (sym live_are) (subst (λ is. Each (λ n. holds n is ≡ true) later) (sym whole)
             (put (λ n. holds n (all ++ js) ≡ true) (each-map (λ n. holds n all ≡ true) (λ n. holds n (all ++ js) ≡ true) left (λ n x. holds-more n all js x) held.0)
             (each-map (λ n. holds n js ≡ true) (λ n. holds n (all ++ js) ≡ true) news (λ n x. holds-behind n all js x) (holds-own js))

@@ -10,6 +10,7 @@ mod branches;
 mod dropped;
 mod item;
 mod lane;
+pub mod laws;
 mod tied;
 mod undoers;
 mod undoing;

@@ -6,3 +6,4 @@ mod Chains
 mod Walked
 mod Leasts
 mod Reached
+mod GoesOn

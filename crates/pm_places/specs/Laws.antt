@@ -1,7 +1,8 @@
 -- The states and edges of an automaton by place words.
-use Rattle.std.specs.Prelude.{◌≡◌, ℕ, ◌<◌, List, length, Some, IsSome, ◌↔◌}
+use Rattle.std.specs.Prelude.{◌≡◌, ℕ, ◌<◌, List, ◌∷◌, ◌++◌, length, Some, IsSome, Contains, ◌↔◌}
 use Rattle.pm_auto.specs.declared.expr.Expr.{Expr}
 use Rattle.pm_auto.specs.declared.auto.Auto.{Auto}
+use Rattle.pm_auto.specs.Lang.{In}
 use Rattle.pm_auto.specs.Trim.{trimmed}
 use Rattle.pm_auto.specs.Table.{rows}
 use Rattle.pm_auto.specs.States.{start_of, set_at, edge_kinds}
@@ -33,3 +34,9 @@ ReachesEachState e a = IsAutomatonOf e a → (s : ℕ) → s < length a.sets →
 abbrev pub LeadsAlikeTogether : Expr → Auto → Type 0
 LeadsAlikeTogether e a = IsAutomatonOf e a → (v w : List ℕ) (s t : ℕ) → led_to a.edges 0 v ≡ Some s → led_to a.edges 0 w ≡ Some t
     → AreAlike e v w → s ≡ t
+
+-- The types of the edges of that state are exactly those with which the list goes on to some list in the language. The edges
+-- of the start are thus the types with which a list in the language begins.
+abbrev pub EdgesGoOn : Expr → Auto → Type 0
+EdgesGoOn e a = IsAutomatonOf e a → (w : List ℕ) (s : ℕ) → led_to a.edges 0 w ≡ Some s
+    → (k : ℕ) → Contains (edge_kinds (edges_at a.edges s)) k ↔ ((rest : List ℕ) × In e (w ++ k ∷ rest))

@@ -1,5 +1,5 @@
 //! Laws of automata. Each call does nothing; its contract is the law.
-ghost use Rattle.pm_places.specs.Laws.{LeadsWhereBegun, LeadsToState, HasEdgesNext, ReachesEachState, LeadsAlikeTogether};
+ghost use Rattle.pm_places.specs.Laws.{LeadsWhereBegun, LeadsToState, HasEdgesNext, ReachesEachState, LeadsAlikeTogether, EdgesGoOn};
 
 use pm_auto::{Auto, Expr};
 
@@ -40,6 +40,15 @@ pub fn reaches_each_state(expr: &Expr, auto: &Auto)
 /// Two lists lead to one state where the same places may come next after both, and both are in the language or both not.
 pub fn leads_alike_together(expr: &Expr, auto: &Auto)
     ensures { LeadsAlikeTogether expr.now auto.now }
+{
+    let _ = expr;
+    let _ = auto;
+}
+
+/// A type has an edge from that state exactly where some list in the language begins with the list and then the type. So the
+/// edges from the start are the types with which a list in the language begins.
+pub fn edges_go_on(expr: &Expr, auto: &Auto)
+    ensures { EdgesGoOn expr.now auto.now }
 {
     let _ = expr;
     let _ = auto;

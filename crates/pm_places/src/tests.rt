@@ -30,6 +30,7 @@ fn laws_are_called(rt: HostRuntime) -> Result<(), Fail> {
     laws::has_edges_next(&expr, &auto);
     laws::reaches_each_state(&expr, &auto);
     laws::leads_alike_together(&expr, &auto);
+    laws::edges_go_on(&expr, &auto);
     let edges = auto.edges(auto.start());
     assert!(rt; edges.len() == 2);
     assert!(rt; edges[0].kind == 3 && edges[1].kind == 2);

@@ -17,7 +17,8 @@ use Rattle.pm_meaning.specs.Steps.{Replace}
 use Rattle.pm_meaning.specs.Outcomes.{checked, outcome}
 use Rattle.pm_meaning.proofs.OutcomeLaws.{valid-checks}
 use Rattle.pm_meaning.proofs.ReplaceLaws.{of-depths, replaced, next-is, replace-valid, replace-restored}
-use Rattle.pm_replace.specs.Laws.{KeepsTheRest, StaysValid, CutGivesBack, NothingGivesBack, PutsBack}
+use Rattle.pm_meaning.proofs.AroundLaws.{moved, around-restored}
+use Rattle.pm_replace.specs.Laws.{KeepsTheRest, StaysValid, CutGivesBack, NothingGivesBack, PutsBack, AroundPutsBack}
 use Rattle.pm_replace.proofs.OutcomeAnswers.{then-checked}
 
 pub keeps-the-rest : (s : Schema) → KeepsTheRest s
@@ -28,6 +29,10 @@ stays-valid s = λ d next from to sl structure v h. replace-valid s from to sl d
 
 pub puts-back : (s : Schema) → PutsBack s
 puts-back s = λ d next from to sl structure v h. replace-restored s from to sl d next v (replaced s from to sl structure d next h)
+
+pub around-puts-back : (s : Schema) → AroundPutsBack s
+around-puts-back s = λ d next from to gf gt sl insert structure v h.
+    (refl, around-restored s from to gf gt sl insert structure d next v (moved s from to gf gt sl insert structure d next h))
 
 -- where the spliced list is the document's own, the document comes back
 module _ (s : Schema) (d : Doc) (v : Valid s d) (from to : ℕ) (sl : Slice) (h : from ≤ to) (i : to ≤ length d.tokens) (p : parts_pair d.tokens from ≡ false) (q : parts_pair d.tokens to ≡ false) where

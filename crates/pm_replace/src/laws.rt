@@ -1,6 +1,6 @@
-//! Laws of replacing. Each call does nothing; its contract is the law.
+//! Laws of replacing, of a range and around a gap. Each call does nothing; its contract is the law.
 ghost use Rattle.pm_schema.specs.Documents.{documents_of};
-ghost use Rattle.pm_replace.specs.Laws.{KeepsTheRest, StaysValid, CutGivesBack, NothingGivesBack, PutsBack};
+ghost use Rattle.pm_replace.specs.Laws.{KeepsTheRest, StaysValid, CutGivesBack, NothingGivesBack, PutsBack, AroundPutsBack};
 
 use pm_schema::Schema;
 
@@ -36,6 +36,14 @@ pub fn nothing_gives_back(schema: &Schema)
 /// After a replace of from..to, a replace of the slice's own tokens by the cut of from..to gives the document back.
 pub fn puts_back(schema: &Schema)
     ensures { PutsBack (documents_of schema.now.spec) }
+{
+    let _ = schema;
+}
+
+/// After a replaceAround its inverse applies, and gives the document back: what stood around the gap is put back there in place
+/// of the slice.
+pub fn around_puts_back(schema: &Schema)
+    ensures { AroundPutsBack (documents_of schema.now.spec) }
 {
     let _ = schema;
 }

@@ -1,14 +1,9 @@
 -- Automata of all types, and dead ends.
-use Rattle.std.proofs.Common.{◌≡◌, ◌⊎◌, ℕ, suc, ◌+◌, ◌<◌, ◌≤◌, ◌++◌, ◌∷◌, List, [], Bool, true, length, get_or, ap, ◌∙◌, sym, subst, inl, inr, arith, length-append}
+use Rattle.std.proofs.Common.{◌≡◌, ℕ, ◌<◌, List, Bool, true, length, get_or, sym, subst, arith}
 use Rattle.std.specs.Prelude.{Option, Some, None, is_some, MatchOption}
 use Rattle.pm_auto.specs.declared.auto.Auto.{Auto}
 use Rattle.pm_auto.specs.declared.error.AutoError.{AutoError}
 use Rattle.pm_auto.specs.declared.error.AutoError.TheVariants.{Mixed, TooWide, NoMemory}
-use Rattle.pm_auto.specs.Expand.{expand}
-use Rattle.pm_auto.specs.Trim.{trimmed}
-use Rattle.pm_auto.specs.Table.{width, rows}
-use Rattle.pm_auto.specs.States.{start_of, Too_many}
-use Rattle.pm_auto.specs.Types.{Is_mixed}
 use Rattle.pm_auto.specs.Built.{Is_fault}
 use Rattle.pm_auto.specs.Finish.{Finishes}
 use Rattle.pm_schema.specs.declared.spec.NodeSpec.{NodeSpec}
@@ -17,8 +12,7 @@ use Rattle.pm_schema.specs.Carried.{carried}
 use Rattle.pm_schema.specs.Types.{node_at}
 use Rattle.pm_schema.specs.Generated.{nth, IsAutoOf, AutosOf, Finishing, DeadState, IsGeneratable, FirstDeadEnd}
 use Rattle.pm_schema.specs.Refusals.{inline_table, HasAutomaton, IsNamed, IsRefused}
-use Rattle.pm_schema.proofs.Orders.{le_or_lt}
-use Rattle.pm_schema.proofs.Tables.{nth-is, autos-more}
+use Rattle.pm_schema.proofs.Tables.{nth-is}
 
 -- the fault of the first type without automaton
 pub fault-refused : (s : SchemaSpec) (i : ℕ) (n : NodeSpec) (inline : List Bool) (e : AutoError) → IsNamed s → i < length s.nodes → n ≡ get_or s.nodes i n → inline ≡ inline_table s → ((j : ℕ) → j < i → HasAutomaton s j)

@@ -6,12 +6,12 @@ use Rattle.pm_auto.specs.declared.auto.Auto.{Auto}
 use Rattle.pm_schema.specs.declared.spec.NodeSpec.{NodeSpec}
 use Rattle.pm_schema.specs.Contents.{Runs}
 use Rattle.pm_schema.specs.Made.{can_be_made}
-use Rattle.pm_schema.specs.Generated.{nth, Has, IsMade, IsLeast, falses}
+use Rattle.pm_schema.specs.Generated.{nth, Has, IsMade, IsClosed, CanBeFilled, filled, AreFilled, no_type, and_type, HasFilled, IsGeneratable, falses}
 
 -- the table after the first k types of a round
 pub record Round (nodes : List NodeSpec) (old table : List Bool) (more : Bool) (k : ℕ) : Type 0 where
   pub full : length table ≡ length nodes
-  pub least : IsLeast nodes old → IsLeast nodes table
+  pub filling : HasFilled nodes old → HasFilled nodes table
   pub fewer : more ≡ true → falses table < falses old
   pub same : more ≡ false → table ≡ old
   pub closed : more ≡ false → (j : ℕ) → j < k → IsMade (nth nodes j) table → Has table j
@@ -55,16 +55,38 @@ all_can-more table other f (k ∷ w) h =
     let b : (get_or table k false ≡ true) × (all_can table w ≡ true) = both (get_or table k false) (all_can table w) h in
     rw (f k b.0, all_can-more table other f w b.1) refl
 
-made-more : (n : NodeSpec) (table other : List Bool) → ((k : ℕ) → Has table k → Has other k) → IsMade n table → IsMade n other
-made-more n table other f m = record { can = m.can; list = m.list; of_table = all_can-more table other f m.list m.of_table; fit = m.fit }
+-- each type of a list of types of the table can be filled
+all-filled : (nodes : List NodeSpec) (table : List Bool) → HasFilled nodes table → (w : List ℕ) → all_can table w ≡ true → AreFilled nodes w
+all-filled nodes table f [] h = no_type
+all-filled nodes table f (k ∷ w) h =
+    let b : (get_or table k false ≡ true) × (all_can table w ≡ true) = both (get_or table k false) (all_can table w) h in
+    and_type k w (f k b.0) (all-filled nodes table f w b.1)
 
--- adding a type that is made keeps the table within each closed one
-least-more : (nodes : List NodeSpec) (table : List Bool) (i : ℕ) → i < length nodes → IsMade (nth nodes i) table → IsLeast nodes table → IsLeast nodes (set table i true)
-least-more nodes table i l m least other closed j h = at (has-set table i j h)
+-- a type that is made of types that can be filled can be filled
+filled-more : (nodes : List NodeSpec) (table : List Bool) (i : ℕ) → i < length nodes → IsMade (nth nodes i) table → HasFilled nodes table → HasFilled nodes (set table i true)
+filled-more nodes table i l m f j h = at (has-set table i j h)
   where
-    at : (i ≡ j) ⊎ Has table j → Has other j
-    at (inl e) = subst (Has other) e (closed i l (made-more (nth nodes i) table other (λ k x. least other closed k x) m))
-    at (inr x) = least other closed j x
+    at : (i ≡ j) ⊎ Has table j → CanBeFilled nodes j
+    at (inl e) = subst (CanBeFilled nodes) e (filled i m.list l m.can m.fit (all-filled nodes table f m.list m.of_table))
+    at (inr x) = f j x
+
+-- a type that can be filled is in each closed table
+mutual
+  pub filled-has : (nodes : List NodeSpec) (table : List Bool) → IsClosed nodes table → (k : ℕ) → CanBeFilled nodes k → Has table k
+  filled-has nodes table closed _ (filled k kinds l c f a) = closed k l (record { can = c; list = kinds; of_table = filled-all nodes table closed kinds a; fit = f })
+
+  filled-all : (nodes : List NodeSpec) (table : List Bool) → IsClosed nodes table → (ks : List ℕ) → AreFilled nodes ks → all_can table ks ≡ true
+  filled-all nodes table closed _ no_type = refl
+  filled-all nodes table closed _ (and_type k ks c a) = rw (filled-has nodes table closed k c, filled-all nodes table closed ks a) refl
+
+-- the generatable types
+pub generated : (nodes : List NodeSpec) (table : List Bool) → length table ≡ length nodes → IsClosed nodes table → HasFilled nodes table → IsGeneratable nodes table
+generated nodes table full closed f = record {
+  full = full;
+  closed = closed;
+  least = λ other c k h. filled-has nodes other c k (f k h);
+  filled = f;
+}
 
 length-set : (bs : List Bool) (i : ℕ) → length (set bs i true) ≡ length bs
 length-set [] i = refl
@@ -73,7 +95,7 @@ length-set (b ∷ bs) (suc i) = ap suc (length-set bs i)
 
 pub round-begins : (nodes : List NodeSpec) (table : List Bool) → length table ≡ length nodes → Round nodes table table false 0
 round-begins nodes table l =
-    record { full = l; least = λ x. x; fewer = λ e. absurd (cc); same = λ e. refl; closed = λ e j k m. absurd (omega arith) }
+    record { full = l; filling = λ x. x; fewer = λ e. absurd (cc); same = λ e. refl; closed = λ e j k m. absurd (omega arith) }
 
 -- a type that is made goes into the table
 pub round-adds : (nodes : List NodeSpec) (old table : List Bool) (more : Bool) (k : ℕ) → k < length nodes → get_or table k false ≡ false → IsMade (nth nodes k) table → Round nodes old table more k
@@ -82,7 +104,7 @@ round-adds nodes old table more k l e m r =
     let f : falses (set table k true) < falses table = falses-set table k (omega (arith, r.full)) e in
     record {
       full = length-set table k ∙ r.full;
-      least = λ x. least-more nodes table k l m (r.least x);
+      filling = λ x. filled-more nodes table k l m (r.filling x);
       fewer = λ t. at more refl f;
       same = λ t. absurd (cc);
       closed = λ t j i n. absurd (cc);
@@ -97,7 +119,7 @@ pub round-passes : (nodes : List NodeSpec) (old table : List Bool) (more : Bool)
 round-passes nodes old table more k p r =
     record {
       full = r.full;
-      least = r.least;
+      filling = r.filling;
       fewer = r.fewer;
       same = r.same;
       closed = λ t j i m. at t j (le_or_lt k j) i m;
@@ -112,5 +134,5 @@ none-has zero k h = absurd (cc)
 none-has (suc n) zero h = absurd (cc)
 none-has (suc n) (suc k) h = none-has n k h
 
-pub least-begins : (nodes : List NodeSpec) (n : ℕ) → IsLeast nodes (replicate n false)
-least-begins nodes n other closed k h = absurd (none-has n k h)
+pub filled-begins : (nodes : List NodeSpec) (n : ℕ) → HasFilled nodes (replicate n false)
+filled-begins nodes n k h = absurd (none-has n k h)

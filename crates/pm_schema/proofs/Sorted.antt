@@ -1,5 +1,5 @@
 -- Short lists of attributes stand in order.
-use Rattle.std.proofs.Common.{◌≡◌, List, [], ◌∷◌}
+use Rattle.std.proofs.Common.{[], ◌∷◌}
 use Rattle.std.specs.List.Sorted.{IsStrictlySortedBy}
 use Rattle.pm_schema.specs.declared.spec.AttrSpec.{AttrSpec}
 use Rattle.pm_schema.specs.AttrNames.{AreInOrder}

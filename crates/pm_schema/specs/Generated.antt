@@ -20,6 +20,22 @@ nth nodes k = slice_index_or nodes k no_node
 abbrev pub Has : List Bool → ℕ → Type 0
 Has table k = slice_index_or table k false ≡ true
 
+mutual
+  -- A node of the type can be made by filling alone: the type isn't that of texts, has no attribute without default, and a
+  -- list of such types fits its content.
+  pub data CanBeFilled (nodes : List NodeSpec) : ℕ → Type 0 where
+    filled : (k : ℕ) (kinds : List ℕ) → k < length nodes → can_be_made (nth nodes k) ≡ true → fits (nth nodes k).content kinds ≡ true
+        → AreFilled nodes kinds → CanBeFilled nodes k
+
+  -- the same of each type of a list
+  pub data AreFilled (nodes : List NodeSpec) : List ℕ → Type 0 where
+    no_type : AreFilled nodes []
+    and_type : (k : ℕ) (ks : List ℕ) → CanBeFilled nodes k → AreFilled nodes ks → AreFilled nodes (k ∷ ks)
+
+-- each type of the table can be filled
+abbrev pub HasFilled : List NodeSpec → List Bool → Type 0
+HasFilled nodes table = (k : ℕ) → Has table k → CanBeFilled nodes k
+
 -- A type is made from the types of a table where it isn't the type of texts, has no attribute without default, and a list of
 -- types of the table fits its content.
 pub record IsMade (n : NodeSpec) (table : List Bool) : Type 0 where
@@ -36,11 +52,13 @@ IsClosed nodes table = (k : ℕ) → k < length nodes → IsMade (nth nodes k) t
 abbrev pub IsLeast : List NodeSpec → List Bool → Type 0
 IsLeast nodes table = (other : List Bool) → IsClosed nodes other → (k : ℕ) → Has table k → Has other k
 
--- the generatable types: the least table that has each type which is made from its types
+-- The generatable types: the least table that has each type which is made from its types. Of each of them a node can be made
+-- by filling alone.
 pub record IsGeneratable (nodes : List NodeSpec) (table : List Bool) : Type 0 where
   pub full : length table ≡ length nodes
   pub closed : IsClosed nodes table
   pub least : IsLeast nodes table
+  pub filled : HasFilled nodes table
 
 -- an automaton of the expression: its states are those that can be reached, each once
 abbrev pub IsAutoOf : Expr → Auto → Type 0

@@ -1,7 +1,7 @@
 //! The types that can be made with all that stands in them.
 ghost use Rattle.std.specs.Prelude.{◌≡◌, ◌<◌, ◌↔◌, true, false, length, IfOk};
 ghost use Rattle.pm_schema.specs.Contents.{Runs, All_run};
-ghost use Rattle.pm_schema.specs.Generated.{IsMade, IsClosed, IsLeast, IsGeneratable, falses};
+ghost use Rattle.pm_schema.specs.Generated.{IsMade, IsClosed, HasFilled, IsGeneratable, falses};
 
 use crate::spec::NodeSpec;
 use pm_auto::Auto;
@@ -30,7 +30,7 @@ fn widen(
     requires runs { All_run nodes.now autos.now }
     requires autos { length autos.now ≡ length nodes.now }
     requires table { length table.old ≡ length nodes.now }
-    ensures least { IsLeast nodes.now table.old → IsLeast nodes.now table.new }
+    ensures filled { HasFilled nodes.now table.old → HasFilled nodes.now table.new }
     ensures more { IfOk result (λ more. more ≡ true → falses table.new < falses table.old) }
     ensures closed { IfOk result (λ more. more ≡ false → IsClosed nodes.now table.new) }
 {

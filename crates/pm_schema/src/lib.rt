@@ -6,6 +6,7 @@ mod build;
 mod declared;
 mod ends;
 mod error;
+mod filling;
 mod generated;
 mod kinds;
 pub mod laws;

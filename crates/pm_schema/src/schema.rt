@@ -166,15 +166,6 @@ impl Schema {
         node.is_leaf() || node.atom
     }
 
-    /// Whether nodes of the type can be made by themselves: it isn't the type of texts, and each of its attributes has a
-    /// default. Then its content can be filled with such types.
-    pub fn is_generatable(&self, kind: TypeId) -> bool
-        requires { kind < length self.now.spec.nodes }
-        ensures { result ≡ can_be_made (node_at self.now.spec kind) }
-    {
-        self.generatable.as_slice()[kind]
-    }
-
     /// For each type whether it is generatable.
     pub fn generatable(&self) -> &[bool]
         ensures table { result.now ≡ self.now.generatable }

@@ -2,5 +2,6 @@ mod Ascii
 mod Fronts
 mod Unbuilt
 mod Refusing
+pub mod ReadFaults
 pub mod SameTypes
 pub mod SameEnds

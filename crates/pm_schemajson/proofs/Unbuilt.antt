@@ -1,4 +1,4 @@
--- Reading alone never tells a fault of building.
+-- Reading alone never tells a fault of building, and no fault that it tells carries want of memory.
 use Rattle.std.proofs.Common.{◌≡◌, ℕ, ◌+◌, List, [], ◌∷◌, Bool, true, false, Option, Some, None, Result, Ok, Err, map, sym, subst}
 use Rattle.std.specs.Prelude.{codes, option_and_then, IfErr, if◌then◌else◌}
 use Rattle.std.specs.Result.{IsErrAnd}
@@ -29,14 +29,23 @@ use Rattle.pm_schemajson.specs.Views.{IsFault}
 abbrev Unbuilt : {A : Type 0} → Result A SchemaReadError → Type 0
 Unbuilt (Ok x) = Unit {0}
 Unbuilt (Err (Schema e)) = ⊥
+Unbuilt (Err (Expr k expr.NoMemory)) = ⊥
+Unbuilt (Err (Attr value.NoMemory)) = ⊥
 Unbuilt (Err _) = Unit {0}
 
 onward : {A B : Type 0} (r : Result A SchemaReadError) (f : A → Result B SchemaReadError) → Unbuilt r → ((x : A) → Unbuilt (f x)) → Unbuilt (r >>= f)
 onward (Ok x) f h g = g x
 onward (Err (Schema e)) f h g = absurd h
 onward (Err (Shape a)) f h g = tt
-onward (Err (Expr k e)) f h g = tt
-onward (Err (Attr e)) f h g = tt
+onward (Err (Expr k expr.NoMemory)) f h g = absurd h
+onward (Err (Expr k (expr.Syntax at))) f h g = tt
+onward (Err (Expr k (expr.UnknownName at))) f h g = tt
+onward (Err (Expr k (expr.Range at))) f h g = tt
+onward (Err (Expr k (expr.Deep at))) f h g = tt
+onward (Err (Attr value.NoMemory)) f h g = absurd h
+onward (Err (Attr value.Float)) f h g = tt
+onward (Err (Attr value.Wide)) f h g = tt
+onward (Err (Attr value.Deep)) f h g = tt
 onward (Err NoMemory) f h g = tt
 onward (Err (Name a)) f h g = tt
 
@@ -148,6 +157,7 @@ content k (Ok e) = tt
 content k (Err (expr.Syntax a)) = tt
 content k (Err (expr.UnknownName a)) = tt
 content k (Err (expr.Range a)) = tt
+content k (Err (expr.Deep a)) = tt
 content k (Err expr.NoMemory) = tt
 
 contents : (ns : List Named) (k : ℕ) (xs : List (NodeType (List ℕ))) → Unbuilt (contents_of ns k xs)
@@ -167,8 +177,15 @@ schema d =
 fault-is : (d : Data) (f : SchemaReadError) → Fails f (schema_of d) → IsFault d f
 fault-is d (Schema e) h = absurd (subst Unbuilt h (schema d))
 fault-is d (Shape a) h = h
-fault-is d (Expr k e) h = h
-fault-is d (Attr e) h = h
+fault-is d (Expr k expr.NoMemory) h = absurd (subst Unbuilt h (schema d))
+fault-is d (Expr k (expr.Syntax at)) h = h
+fault-is d (Expr k (expr.UnknownName at)) h = h
+fault-is d (Expr k (expr.Range at)) h = h
+fault-is d (Expr k (expr.Deep at)) h = h
+fault-is d (Attr value.NoMemory) h = absurd (subst Unbuilt h (schema d))
+fault-is d (Attr value.Float) h = h
+fault-is d (Attr value.Wide) h = h
+fault-is d (Attr value.Deep) h = h
 fault-is d NoMemory h = tt
 fault-is d (Name a) h = h
 

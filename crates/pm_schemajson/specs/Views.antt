@@ -2,7 +2,9 @@
 use Rattle.std.specs.Prelude.{◌≡◌, ℕ, List, map, option_map, Ok, Err}
 use Rattle.serde_json.specs.Data.{Data}
 use Rattle.pm_value.specs.Views.{plain}
+use Rattle.pm_value.specs.declared.fault.ValueError.TheVariants as value
 use Rattle.pm_auto.specs.Tree.{Tree, tree}
+use Rattle.pm_expr.specs.declared.error.ExprError.TheVariants as expr
 use Rattle.pm_schema.specs.declared.spec.AttrSpec.{AttrSpec}
 use Rattle.pm_schema.specs.declared.spec.NodeSpec.{NodeSpec}
 use Rattle.pm_schema.specs.declared.spec.MarkSpec.{MarkSpec}
@@ -14,7 +16,7 @@ use Rattle.pm_schema.specs.Built.{IsBuilt}
 use Rattle.pm_schema.specs.Refusals.{IsRefused}
 use Rattle.pm_schemajson.specs.declared.kinds.NodeText.{NodeText}
 use Rattle.pm_schemajson.specs.declared.error.SchemaReadError.{SchemaReadError}
-use Rattle.pm_schemajson.specs.declared.error.SchemaReadError.TheVariants.{Schema, NoMemory}
+use Rattle.pm_schemajson.specs.declared.error.SchemaReadError.TheVariants.{Schema, Expr, Attr, NoMemory}
 use Rattle.pm_schemajson.specs.Types.{Attribute, NodeType, MarkType, Types}
 use Rattle.pm_schemajson.specs.Contents.{schema_of}
 
@@ -57,10 +59,12 @@ pub record Refused (d : Data) (e : SchemaError) : Type 0 where
   pub written : schema_of d ≡ Ok (types_of_spec spec)
   pub refused : IsRefused spec e
 
--- Why a JSON value is no schema: a fault of its reading, or what it writes is refused; or memory ran out,
--- which no fault carries.
+-- Why a JSON value is no schema: a fault of its reading, or what it writes is refused; or memory ran out. No fault of a
+-- content, of a default or of building carries want of memory.
 abbrev pub IsFault : Data → SchemaReadError → Type 0
 IsFault d (Schema build.NoMemory) = ⊥
+IsFault d (Expr k expr.NoMemory) = ⊥
+IsFault d (Attr value.NoMemory) = ⊥
 IsFault d (Schema e) = Refused d e
 IsFault d NoMemory = Unit {0}
 IsFault d f = schema_of d ≡ Err f

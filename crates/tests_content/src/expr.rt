@@ -121,7 +121,7 @@ fn bounds_the_levels(rt: HostRuntime) -> Result<(), Fail> {
     let names = names(alloc)?;
     for count in [501, 1_000_000] {
         let told = parse(alloc, with_pluses(alloc, count)?.as_str(), &names).err();
-        assert!(rt; told == Some(ExprError::NoMemory));
+        assert!(rt; told == Some(ExprError::Deep { at: 502 }));
     }
     let expr = parse(alloc, with_pluses(alloc, 500)?.as_str(), &names)?;
     let auto = Auto::build(alloc, &expr, &[])?;

@@ -1,4 +1,4 @@
-use Rattle.std.proofs.Common.{◌≡◌, ℕ, map, rules, arith}
+use Rattle.std.proofs.Common.{◌≡◌, map, rules, arith}
 use Rattle.std.proofs.lemmas.List.{length-map}
 use Rattle.pm_auto.specs.declared.expr.Expr.TheViews.{the_lemmas}
 use Rattle.pm_auto.specs.Tree.{tree, seq, gathered}

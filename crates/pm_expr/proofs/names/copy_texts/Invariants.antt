@@ -1,4 +1,4 @@
-use Rattle.std.proofs.Common.{◌≡◌, map, take}
+use Rattle.std.proofs.Common.{◌≡◌, take}
 use Rattle.pm_expr.specs.Tables.{texts}
 use Rattle.pm_expr.proofs.names.copy_texts.Given as goal
 

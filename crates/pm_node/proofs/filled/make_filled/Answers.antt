@@ -21,7 +21,7 @@ returns-in-None-clause-refused c =
     let s = c.args.schema.now in
     let fills = c.as_slice-fills.result.now in
     let at = c.size_at.ensures ∙ (ap (λ zs. get_or zs c.args.kind None) c.as_slice.ensures ∙ c.in_ok-sizes.ensures c.args.kind c.requires) in (
-      sym c.is_generatable.ensures ∙ c.if-not-is_generatable.false,
+      sym c.is_generatable.ensures.makeable ∙ c.if-not-is_generatable.false,
       record { fills = fills; of_types = subst (AreFills s) (sym c.as_slice-fills.ensures) c.in_ok-fills.ensures; tokens = none-size (filled_tokens s.spec fills 49 c.args.kind) (sym c.in-None.is ∙ at) },
     )
 
@@ -31,7 +31,7 @@ returns-then-size-gt-MAX_SIZE-clause-refused c =
     let fills = c.as_slice-fills.result.now in
     let at = c.size_at.ensures ∙ (ap (λ zs. get_or zs c.args.kind None) c.as_slice.ensures ∙ c.in_ok-sizes.ensures c.args.kind c.requires) in
     let r = large-size (filled_tokens s.spec fills 49 c.args.kind) c.in-Some.size (sym c.in-Some.is ∙ at) (omega (arith, c.if-size-gt-MAX_SIZE.true)) in (
-      sym c.is_generatable.ensures ∙ c.if-not-is_generatable.false,
+      sym c.is_generatable.ensures.makeable ∙ c.if-not-is_generatable.false,
       record {
         tokens = r.0;
         filling = record { fills = fills; of_types = subst (AreFills s) (sym c.as_slice-fills.ensures) c.in_ok-fills.ensures; tokens = r.1 };

@@ -4,6 +4,7 @@ use Rattle.pm_client.specs.Clients.{edited}
 use Rattle.pm_client.specs.Keeps.{kin-edited}
 use Rattle.pm_client.specs.Makes.{made_all}
 use Rattle.pm_client.proofs.Advances.{run-maps, run-room}
+use Rattle.pm_client.proofs.Edits.{edited-ready}
 use Rattle.pm_client.proofs.Makings.{has-made}
 use Rattle.pm_client.proofs.TokenKeeps.{edited-keeps}
 use Rattle.pm_client.proofs.client.Client.edit.Goals as goal
@@ -44,3 +45,19 @@ returns-in-Ok-clause-tokens g c first log kin =
     let next = record client { doc = c.in-Ok.made.doc; pending = c.append.new.self; serials = c.in_ok-serials.serials; cursors = c.in_ok-cursors-in-Ok.cursors; history = c.note_all.new.self } in
     let made : edited m c.args.rules.now client c.args.steps.items c.args.event ≡ Ok next = returns-in-Ok-clause-made g c in
     edited-keeps m c.args.rules.now g.met.C.Change.laws first log client kin c.args.steps.items c.args.event next made
+
+pub returns-in-Ok-clause-stays_good : goal.returns-in-Ok-clause-stays_good
+returns-in-Ok-clause-stays_good g c =
+    let m = g.C.Change.means in
+    let client = c.args.self.now in
+    let next = record client { doc = c.in-Ok.made.doc; pending = c.append.new.self; serials = c.in_ok-serials.serials; cursors = c.in_ok-cursors-in-Ok.cursors; history = c.note_all.new.self } in
+    let made : edited m c.args.rules.now client c.args.steps.items c.args.event ≡ Ok next = returns-in-Ok-clause-made g c in
+    (edited-ready m c.args.rules.now g.met.C.Change.laws client next c.args.steps.items c.args.event c.requires.good c.requires.cursors made).0
+
+pub returns-in-Ok-clause-stay_within : goal.returns-in-Ok-clause-stay_within
+returns-in-Ok-clause-stay_within g c =
+    let m = g.C.Change.means in
+    let client = c.args.self.now in
+    let next = record client { doc = c.in-Ok.made.doc; pending = c.append.new.self; serials = c.in_ok-serials.serials; cursors = c.in_ok-cursors-in-Ok.cursors; history = c.note_all.new.self } in
+    let made : edited m c.args.rules.now client c.args.steps.items c.args.event ≡ Ok next = returns-in-Ok-clause-made g c in
+    (edited-ready m c.args.rules.now g.met.C.Change.laws client next c.args.steps.items c.args.event c.requires.good c.requires.cursors made).1

@@ -1,5 +1,5 @@
 use Rattle.std.proofs.Common.{true}
-use Rattle.pm_client.proofs.Turns.{last-none, turn-kin, turn-restores, turn-tokens}
+use Rattle.pm_client.proofs.Turns.{last-none, turn-kin, turn-whole, turn-restores, turn-tokens}
 use Rattle.pm_client.proofs.client.Client.redo.Goals as goal
 
 pub returns-clause-nothing : goal.returns-clause-nothing
@@ -9,6 +9,9 @@ returns-clause-nothing g c =
 
 pub returns-clause-kin : goal.returns-clause-kin
 returns-clause-kin g c = turn-kin g.C.Change.means c.args.rules.now g.met.C.Change.laws c.args.self.now c.turn.new.self true c.turn.result c.turn.ensures.turned c.turn.ensures.err
+
+pub returns-clause-whole : goal.returns-clause-whole
+returns-clause-whole g c = turn-whole g.C.Change.means c.args.rules.now g.met.C.Change.laws c.args.self.now c.turn.new.self true c.turn.result c.turn.ensures.turned
 
 pub returns-clause-restores : goal.returns-clause-restores
 returns-clause-restores g c = turn-restores g.C.Change.means c.args.rules.now g.met.C.Change.laws c.args.self.now c.turn.new.self true c.turn.result c.turn.ensures.turned

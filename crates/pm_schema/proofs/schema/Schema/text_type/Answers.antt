@@ -1,4 +1,4 @@
-use Rattle.std.proofs.Common.{◌≡◌, ◌∙◌, ap, sym, List, ℕ}
+use Rattle.std.proofs.Common.{◌∙◌, ap, sym, List, ℕ}
 use Rattle.std.specs.Prelude.{codes}
 use Rattle.pm_schema.specs.Names.{place_of}
 use Rattle.pm_schema.proofs.Plain.{plain-attrs}

@@ -1,0 +1,47 @@
+-- What an edit and an undo do to the events, in words of lists of events.
+use Rattle.std.specs.Prelude.{◌≡◌, ℕ, true, false, List, [], ◌∷◌, ◌++◌, Option, Some}
+use Rattle.pm_change.specs.declared.name.Name.{Name}
+use Rattle.pm_history.specs.declared.item.Item.{Item}
+use Rattle.pm_history.specs.declared.branch.Event.{Event}
+use Rattle.pm_history.specs.declared.branches.Branches.{Branches}
+use Rattle.pm_history.specs.declared.branches.Side.TheVariants.{Edit}
+use Rattle.pm_history.specs.Histories.{event_of, names_in, recorded, undone}
+
+-- the edit has a number, and the event has the same
+abbrev pub HasNumber : Option ℕ → Event → Type 0
+HasNumber event e = (k : ℕ) × (event ≡ Some k) × (e.number ≡ Some k)
+
+module _ {C : Type 0} (h : Branches C) where
+  -- the last event to undo is this one, it is open, and it has the edit's number
+  pub record IsOpenFor (event : Option ℕ) (rest : List Event) (e : Event) : Type 0 where
+    pub last : h.undo ≡ rest ++ e ∷ []
+    pub open_is : h.is_open ≡ true
+    pub number_is : HasNumber event e
+
+  -- what the steps of one edit do to the events
+  pub record EditsEvents : Type 0 where
+    -- where the last event is open and has the edit's number, its names are followed by those of the steps
+    pub joined : (event : Option ℕ) (rest : List Event) (e : Event) (n : Name) (ns : List Name) → IsOpenFor event rest e
+        → (recorded h (n ∷ ns) (Edit event true)).undo ≡ rest ++ event_of e.number (e.names ++ n ∷ ns) ∷ []
+    -- else there is one event more, of these steps and this number
+    pub opened : (event : Option ℕ) (n : Name) (ns : List Name) → ((rest : List Event) (e : Event) → IsOpenFor event rest e → ⊥)
+        → (recorded h (n ∷ ns) (Edit event true)).undo ≡ h.undo ++ event_of event (n ∷ ns) ∷ []
+    -- in any case the last event is open then, and nothing can be redone
+    pub emptied : (event : Option ℕ) (n : Name) (ns : List Name)
+        → ((recorded h (n ∷ ns) (Edit event true)).redo ≡ []) × ((recorded h (n ∷ ns) (Edit event true)).is_open ≡ true)
+
+  -- what an undo by these items does to the events, and a redo
+  pub record MovesEvents (items : List (Item C)) : Type 0 where
+    -- the last event to undo is gone, and no event is open
+    pub left : (rest : List Event) (e : Event) → h.undo ≡ rest ++ e ∷ []
+        → ((undone false h (event_of e.number (names_in items)) items).undo ≡ rest) × ((undone false h (event_of e.number (names_in items)) items).is_open ≡ false)
+    -- where steps were made, an event of these steps with its number is the last one to redo; where none was, there is none more
+    pub moved : (e : Event) (n : Name) (ns : List Name) → names_in items ≡ n ∷ ns
+        → (undone false h (event_of e.number (names_in items)) items).redo ≡ h.redo ++ event_of e.number (n ∷ ns) ∷ []
+    pub lost : (e : Event) → names_in items ≡ [] → (undone false h (event_of e.number (names_in items)) items).redo ≡ h.redo
+    -- the same of a redo, with the events to undo and to redo exchanged
+    pub left_redo : (rest : List Event) (e : Event) → h.redo ≡ rest ++ e ∷ []
+        → ((undone true h (event_of e.number (names_in items)) items).redo ≡ rest) × ((undone true h (event_of e.number (names_in items)) items).is_open ≡ false)
+    pub moved_back : (e : Event) (n : Name) (ns : List Name) → names_in items ≡ n ∷ ns
+        → (undone true h (event_of e.number (names_in items)) items).undo ≡ h.undo ++ event_of e.number (n ∷ ns) ∷ []
+    pub lost_redo : (e : Event) → names_in items ≡ [] → (undone true h (event_of e.number (names_in items)) items).undo ≡ h.undo
