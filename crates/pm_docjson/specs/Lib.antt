@@ -7,3 +7,4 @@ pub mod Writing
 pub mod Writable
 pub mod Members
 pub mod KeyOrder
+pub mod Laws

@@ -6,6 +6,7 @@ use Rattle.pm_tokens.specs.Tokens.{Doc}
 use Rattle.pm_docjson.proofs.KeyOrder.{node-ordered}
 use Rattle.pm_docjson.proofs.NoFloat.{node-whole}
 use Rattle.pm_docjson.proofs.WholeTexts.{text-is, text-reads}
+use Rattle.pm_docjson.proofs.Levels.{valid-low}
 use Rattle.pm_docjson.proofs.texts.document_text.Goals as goal
 
 -- the top node whose content are these tokens, which is written as the document is
@@ -35,3 +36,9 @@ returns-in_err-json-clause-ordered c = node-ordered c.args.schema.now.spec (top 
 
 pub returns-in_err-json-clause-whole : goal.returns-in_err-json-clause-whole
 returns-in_err-json-clause-whole c = node-whole c.args.schema.now.spec (top c.args.document.now)
+
+pub returns-clause-shallow : goal.returns-clause-shallow
+returns-clause-shallow c = valid-low c.args.schema.now.spec c.args.document.now
+
+pub returns-in_err-json-clause-shallow : goal.returns-in_err-json-clause-shallow
+returns-in_err-json-clause-shallow c = valid-low c.args.schema.now.spec c.args.document.now
