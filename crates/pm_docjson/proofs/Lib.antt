@@ -26,3 +26,5 @@ pub mod ViewTexts
 pub mod ReadPairs
 pub mod ReadNodes
 pub mod ReadLaws
+pub mod DocsAgain
+pub mod DocsBack

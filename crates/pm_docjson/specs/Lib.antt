@@ -8,3 +8,4 @@ pub mod Writable
 pub mod Members
 pub mod KeyOrder
 pub mod Laws
+pub mod Documents
