@@ -98,7 +98,7 @@ with-attrs (k ∷ ks) vs ms n low h five = let m = members-deep (k ∷ ks) (plai
 module _ (s : SchemaSpec) where
   -- ---- marks
 
-  mark-low : (m : Mark Attrs) → mark_fits s m ≡ true → depth (mark_written s m) ≤ 6
+  pub mark-low : (m : Mark Attrs) → mark_fits s m ≡ true → depth (mark_written s m) ≤ 6
   mark-low m h =
       let p = and-both (nat_lt m.kind (length s.marks)) (fit_attrs (mark_at s m.kind).attrs m.attrs) h in
       let w = with-attrs (keys (mark_at s m.kind).attrs) m.attrs (typed (mark_at s m.kind).name) 5 (attrs-low (mark_at s m.kind).attrs m.attrs p.1) (omega arith) (omega arith) in

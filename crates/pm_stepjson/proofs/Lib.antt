@@ -3,3 +3,5 @@ pub mod ObjectLaws
 pub mod Again
 pub mod NoFloat
 pub mod ReadSteps
+pub mod StepLevels
+pub mod StepOrder
