@@ -9,7 +9,7 @@ use Rattle.pm_text.specs.Units.{utf8}
 use Rattle.pm_value.specs.Plain.{Plain, null, truth, int, text as words, items, fields, Plains, none as no_plains, one, plains_of}
 use Rattle.pm_value.specs.Writing.{written, items_written, members_written}
 use Rattle.pm_marks.specs.declared.mark.Mark.{Mark}
-use Rattle.pm_tokens.specs.Tokens.{Marks}
+use Rattle.pm_tokens.specs.Tokens.{Marks, Token}
 use Rattle.pm_schema.specs.declared.spec.SchemaSpec.{SchemaSpec}
 use Rattle.pm_schema.specs.Types.{node_at, mark_at}
 use Rattle.pm_schema.specs.Documents.{documents_of}
@@ -95,7 +95,7 @@ with_attrs-ordered : (ns : List (List ℕ)) (vs : List Plain) (ms : Members) →
 with_attrs-ordered [] vs ms a h = h
 with_attrs-ordered (n ∷ ns) vs ms a h = (written-ordered (fields (n ∷ ns) (plains_of vs)), a, h)
 
-mark-ordered : (s : SchemaSpec) (m : Mark (List Plain)) → HasOrderedKeys (mark_written s m)
+pub mark-ordered : (s : SchemaSpec) (m : Mark (List Plain)) → HasOrderedKeys (mark_written s m)
 mark-ordered s m = with_attrs-ordered (keys (mark_at s m.kind).attrs) m.attrs (typed (mark_at s m.kind).name) (refl, tt) (typed-ordered (mark_at s m.kind).name)
 
 marks-ordered : (s : SchemaSpec) (ms : Marks) → EachHasOrderedKeys (marks_written s ms)
@@ -128,6 +128,9 @@ mutual
   trees-ordered : (s : SchemaSpec) (ts : Trees) → EachHasOrderedKeys (trees_written s ts)
   trees-ordered s none = tt
   trees-ordered s (tree t ts) = (tree-ordered s t, trees-ordered s ts)
+
+pub nodes-ordered : (s : SchemaSpec) (ts : List Token) → EachHasOrderedKeys (nodes_written s ts)
+nodes-ordered s ts = trees-ordered s (trees_of ts)
 
 body-ordered : (s : SchemaSpec) (kind : ℕ) (attrs : List Plain) (marks : Marks) (b : Body) → HasOrderedKeys (body_written s kind attrs marks b)
 body-ordered s kind attrs marks (Text us) = text-ordered s us marks

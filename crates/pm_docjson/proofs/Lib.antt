@@ -20,3 +20,11 @@ pub mod KeyOrder
 pub mod NoFloat
 pub mod WholeTexts
 pub mod Writables
+pub mod Levels
+pub mod ReadAttrs
+pub mod ViewTexts
+pub mod ReadPairs
+pub mod ReadNodes
+pub mod ReadLaws
+pub mod DocsAgain
+pub mod DocsBack

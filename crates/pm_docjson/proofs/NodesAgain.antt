@@ -72,7 +72,7 @@ text-again s l us ms named plain units some marks set =
 small : (n : ℕ) → n < 2 ^ 32 → nat_lt 4294967295 n ≡ false
 small n h = grind (arith, nat_tests)
 
-content-again : (s : SchemaSpec) (l : LeafContent) (ds : Items) (ts : List Token) → node_list s l ds ≡ Ok ts → length ts < 2 ^ 32 → content_at s l (list_field ds) ≡ Ok ts
+pub content-again : (s : SchemaSpec) (l : LeafContent) (ds : Items) (ts : List Token) → node_list s l ds ≡ Ok ts → length ts < 2 ^ 32 → content_at s l (list_field ds) ≡ Ok ts
 unfolding node_list
 content-again s l no_items ts h bound = h
 content-again s l (item d ds) ts h bound = rw (h, small (length ts) bound) refl

@@ -24,7 +24,7 @@ first_whole at high t ts h = (peel (pair_fits high t ts) (first_broken (at + 1) 
 pub later : (at : ℕ) (high : Option Marks) (t : Token) (ts : List Token) → first_broken at high (t ∷ ts) ≡ None → first_broken (at + 1) (high_of t) ts ≡ None
 later at high t ts h = (peel (pair_fits high t ts) (first_broken (at + 1) (high_of t) ts) at h).1
 
-joined : (at : ℕ) (high : Option Marks) (t : Token) (ts : List Token) → pair_fits high t ts ≡ true → first_broken (at + 1) (high_of t) ts ≡ None → first_broken at high (t ∷ ts) ≡ None
+pub joined : (at : ℕ) (high : Option Marks) (t : Token) (ts : List Token) → pair_fits high t ts ≡ true → first_broken (at + 1) (high_of t) ts ≡ None → first_broken at high (t ∷ ts) ≡ None
 joined at high t ts fits h = rw fits h
 
 -- where the counting begins tells nothing

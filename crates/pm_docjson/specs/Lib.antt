@@ -7,3 +7,5 @@ pub mod Writing
 pub mod Writable
 pub mod Members
 pub mod KeyOrder
+pub mod Laws
+pub mod Documents

@@ -3,6 +3,7 @@
 
 mod fault;
 mod fields;
+pub mod laws;
 mod leaves;
 mod reading_attrs;
 mod reading_marks;

@@ -11,3 +11,4 @@ pub mod Generated
 pub mod Shared
 pub mod Refusals
 pub mod Built
+pub mod Defaults

@@ -5,3 +5,4 @@ mod Refusing
 pub mod ReadFaults
 pub mod SameTypes
 pub mod SameEnds
+pub mod ShallowTypes

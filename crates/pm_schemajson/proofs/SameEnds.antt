@@ -1,17 +1,15 @@
 -- A schema that was built has no dead end, whichever spec of its types tells of one.
-use Rattle.std.proofs.Common.{◌≡◌, ◌<◌, ℕ, Bool, true, false, ◌||◌, ◌&&◌, List, [], ◌∷◌, length, refl, ap, ◌∙◌, sym, arith}
-use Rattle.std.specs.Prelude.{not, Option, Some, None, option_map, is_none, slice_index_or}
+use Rattle.std.proofs.Common.{◌≡◌, ◌<◌, ℕ, Bool, ◌||◌, ◌&&◌, List, [], ◌∷◌, length, refl, ap, ◌∙◌, sym, arith}
+use Rattle.std.specs.Prelude.{not, Some, None, option_map, is_none, slice_index_or}
 use Rattle.std.specs.List.{list_any}
 use Rattle.std.specs.Str.{bytes_eq}
 use Rattle.std.specs.Prelude.{codes}
 use Rattle.pm_auto.specs.declared.auto.Auto.{Auto}
-use Rattle.pm_auto.specs.declared.expr.Expr.{Expr}
 use Rattle.pm_auto.specs.Tree.{tree}
 use Rattle.pm_auto.specs.Trim.{trim, trimmed}
 use Rattle.pm_auto.specs.Table.{rows}
-use Rattle.pm_auto.specs.Runs.{fits, accepts_rows}
+use Rattle.pm_auto.specs.Runs.{accepts_rows}
 use Rattle.pm_auto.specs.States.{start_of}
-use Rattle.pm_auto.specs.Finish.{all_can, Finishes}
 use Rattle.pm_auto.proofs.TwinLaws.{twin-finishes}
 use Rattle.pm_value.specs.Views.{plain}
 use Rattle.pm_schema.specs.declared.spec.AttrSpec.{AttrSpec}
@@ -20,11 +18,11 @@ use Rattle.pm_schema.specs.declared.spec.SchemaSpec.{SchemaSpec}
 use Rattle.pm_schema.specs.declared.schema.Schema.{Schema}
 use Rattle.pm_schema.specs.Types.{node_at, is_required, is_text}
 use Rattle.pm_schema.specs.Made.{needs_attrs, can_be_made}
-use Rattle.pm_schema.specs.Generated.{nth, Has, IsMade, IsClosed, IsAutoOf, Finishing, FirstDeadEnd}
+use Rattle.pm_schema.specs.Generated.{Has, IsMade, IsClosed, IsAutoOf, FirstDeadEnd}
 use Rattle.pm_schema.specs.Built.{IsBuilt}
 use Rattle.pm_schema.proofs.Rounds.{all_can-more}
 use Rattle.pm_schema.proofs.SameLaws.{same-expand, same-auto}
-use Rattle.pm_schemajson.specs.Views.{attribute, attributes, node_type, node_types, types_of_spec}
+use Rattle.pm_schemajson.specs.Views.{attribute, node_type, types_of_spec}
 use Rattle.pm_schemajson.proofs.SameTypes.{any-alike, long-alike, node-alike}
 
 required-is : (a : AttrSpec) → is_required a ≡ is_none (attribute a).default

@@ -7,20 +7,17 @@ use Rattle.std.proofs.lemmas.List.Folds.{list_all-map}
 use Rattle.pm_auto.specs.declared.expr.Expr.{Expr, Empty, One, Choice', Seq', Plus', Star', Opt', Range'}
 use Rattle.pm_auto.specs.Tree.{Tree, tree}
 use Rattle.pm_auto.specs.Tree as trees
-use Rattle.pm_auto.specs.declared.error.AutoError.{AutoError}
-use Rattle.pm_auto.specs.declared.error.AutoError.TheVariants.{Mixed, TooWide, NoMemory}
-use Rattle.pm_schema.specs.declared.spec.AttrSpec.{AttrSpec}
+use Rattle.pm_auto.specs.declared.error.AutoError.TheVariants.{Mixed, TooWide}
 use Rattle.pm_schema.specs.declared.spec.NodeSpec.{NodeSpec}
 use Rattle.pm_schema.specs.declared.spec.MarkSpec.{MarkSpec}
 use Rattle.pm_schema.specs.declared.spec.SchemaSpec.{SchemaSpec}
 use Rattle.pm_schema.specs.Names.{place_of}
-use Rattle.pm_schema.specs.Types.{no_node, node_at, names_of_nodes, names_of_marks, is_leaf, is_empty, is_inline}
-use Rattle.pm_schema.specs.MarkTexts.{is_type, in_group, is_all, is_known, all_known, known_where_given, words}
+use Rattle.pm_schema.specs.Types.{no_node, node_at, names_of_nodes, names_of_marks, is_leaf, is_empty}
+use Rattle.pm_schema.specs.MarkTexts.{is_type, in_group, is_all, is_known, known_where_given, words}
 use Rattle.pm_schema.specs.Shared.{HasNoFault}
-use Rattle.pm_schema.specs.Refusals.{has_top, has_text, text_of, is_plain_text, has_types, has_double_name, repeats, knows_marks, inline_table, HasAutomaton, HasAutomata, IsNamed, FirstFault}
+use Rattle.pm_schema.specs.Refusals.{has_top, has_text, is_plain_text, has_types, has_double_name, repeats, knows_marks, inline_table, HasAutomaton, HasAutomata, IsNamed, FirstFault}
 use Rattle.pm_schema.proofs.SameLaws.{same-none}
-use Rattle.pm_schemajson.specs.Types.{NodeType, MarkType, Types}
-use Rattle.pm_schemajson.specs.Views.{attributes, node_type, node_types, mark_type, mark_types, types_of_spec}
+use Rattle.pm_schemajson.specs.Views.{node_type, node_types, mark_type, mark_types, types_of_spec}
 
 -- ---- lists
 

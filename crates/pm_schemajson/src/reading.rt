@@ -1,6 +1,7 @@
 //! Reading a schema.
 ghost use Rattle.std.specs.Prelude.{◌≡◌, Ok, IfOk, IfErr};
 ghost use Rattle.serde_json.specs.View.{view};
+ghost use Rattle.pm_schema.specs.Defaults.{HasShallowDefaults};
 ghost use Rattle.pm_schemajson.specs.Answers.{Gives};
 ghost use Rattle.pm_schemajson.specs.Contents.{schema_of};
 ghost use Rattle.pm_schemajson.specs.Views.{types_of_spec, IsFault, IsSchemaOf};
@@ -24,8 +25,10 @@ use std::alloc::Global;
 /// The first fault: first fields in this order, lists from the front, attributes in byte order of their names: `Shape` where
 /// a field is absent or of another kind, `Name` at an ill-formed name in `name` or `group`, `Attr` at a default that is no
 /// value. Then `Expr` at the first node type whose content is no expression. Then `Schema`, where the types make no schema.
+/// Each default nests at most four levels deep (`shallow`).
 pub fn read_schema(alloc: Global, json: &Value) -> Result<Schema, SchemaReadError>
     ensures built { IfOk result (IsSchemaOf (view json.now)) }
+    ensures shallow { IfOk result (λ s. HasShallowDefaults s.spec) }
     ensures fault { IfErr result (IsFault (view json.now)) }
 {
     let spec = read_spec(alloc, json)?;

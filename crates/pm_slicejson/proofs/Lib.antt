@@ -1,3 +1,4 @@
 pub mod Again
 pub mod NoFloat
 pub mod Puts
+pub mod ReadSlices

@@ -1,6 +1,7 @@
 //! Slices as JSON values.
 #![tactic(auto)]
 
+pub mod laws;
 mod numbers;
 mod reading;
 mod writing;

@@ -2,3 +2,6 @@ pub mod FaultLaws
 pub mod ObjectLaws
 pub mod Again
 pub mod NoFloat
+pub mod ReadSteps
+pub mod StepLevels
+pub mod StepOrder

@@ -5,3 +5,4 @@ pub mod Reading
 pub mod Writing
 pub mod Writable
 pub mod Members
+pub mod Laws

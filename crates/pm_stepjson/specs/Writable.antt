@@ -1,5 +1,7 @@
 -- What can be written and is read again.
-use Rattle.std.specs.Prelude.{◌≡◌, ℕ, ◌<◌, ◌^◌, true}
+use Rattle.std.specs.Prelude.{◌≡◌, ℕ, ◌<◌, ◌≤◌, ◌^◌, true}
+use Rattle.pm_tokens.specs.Scan.{is_whole, deepest}
+use Rattle.pm_tokens.specs.Slices.{Slice}
 use Rattle.pm_schema.specs.declared.spec.SchemaSpec.{SchemaSpec}
 use Rattle.pm_docjson.specs.Writable.{mark_fits, AreWritable}
 use Rattle.pm_meaning.specs.Steps.{Step, Replace, ReplaceAround, AddMark, RemoveMark, AddNodeMark, RemoveNodeMark}
@@ -25,3 +27,17 @@ HasCounts (AddMark from to mark) = IsCount from × IsCount to
 HasCounts (RemoveMark from to mark) = IsCount from × IsCount to
 HasCounts (AddNodeMark pos mark) = IsCount pos
 HasCounts (RemoveNodeMark pos mark) = IsCount pos
+
+-- The slice's content is a whole number of nodes, as that of every slice is, and each position in it stands in at most n nodes.
+pub record IsNested (n : ℕ) (sl : Slice) : Type 0 where
+  pub whole : is_whole sl.content ≡ true
+  pub deep : deepest 0 sl.content ≤ n
+
+-- the step's slice is so
+abbrev pub NestsWithin : ℕ → Step → Type 0
+NestsWithin n (Replace from to sl structure) = IsNested n sl
+NestsWithin n (ReplaceAround from to gap_from gap_to sl insert structure) = IsNested n sl
+NestsWithin n (AddMark from to mark) = Unit {0}
+NestsWithin n (RemoveMark from to mark) = Unit {0}
+NestsWithin n (AddNodeMark pos mark) = Unit {0}
+NestsWithin n (RemoveNodeMark pos mark) = Unit {0}

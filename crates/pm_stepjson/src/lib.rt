@@ -4,6 +4,7 @@
 mod fault;
 mod fields;
 mod kind;
+pub mod laws;
 mod reading;
 mod texts;
 mod writing;

@@ -29,7 +29,7 @@ values_listed (n ∷ ns) (one v vs) h = ap (one v) (values_listed ns vs h)
 fields_listed : (ns : List (List ℕ)) (vs : Plains) → HasEach ns vs → fields_of (paired ns (list_of vs)) ≡ fields ns vs
 fields_listed ns vs h = ap₂ (λ x y. fields x y) (names_listed ns vs h) (values_listed ns vs h)
 
-put_first : (k : List ℕ) (d : Data) (ns : List (List ℕ)) (vs : Plains) → HasEach ns vs → InOrder (k ∷ ns) → put k d (members_written ns vs) ≡ member k d (members_written ns vs)
+pub put_first : (k : List ℕ) (d : Data) (ns : List (List ℕ)) (vs : Plains) → HasEach ns vs → InOrder (k ∷ ns) → put k d (members_written ns vs) ≡ member k d (members_written ns vs)
 unfolding members_written IsStrictlySortedBy
 put_first k d [] none each h = refl
 put_first k d [] (one v vs) each h = absurd each

@@ -5,3 +5,5 @@ pub mod Names
 pub mod Keeping
 pub mod Equality
 pub mod Again
+pub mod SameJson
+pub mod Shallow

@@ -1,12 +1,14 @@
 //! JSON values as values.
-ghost use Rattle.std.specs.Prelude.{◌≡◌, OnOk, IfOk, map, ◌++◌, ◌∷◌, []};
+ghost use Rattle.std.specs.Prelude.{◌≡◌, ◌≤◌, OnOk, IfOk, map, ◌++◌, ◌∷◌, []};
 ghost use Rattle.serde_json.specs.View.{view, items_view, members_view, number_view};
+ghost use Rattle.serde_json.specs.Data.{number as json_number};
 ghost use Rattle.serde_json.specs.Find.{as_integer};
-ghost use Rattle.pm_value.specs.Plain.{plains_of};
+ghost use Rattle.pm_value.specs.Plain.{plains_of, depth};
 ghost use Rattle.pm_value.specs.Views.{plain, plains, field_pairs};
 ghost use Rattle.pm_value.specs.Answers.{Gives};
 ghost use Rattle.pm_value.specs.Reading.{int_of, value_at, list_at, pairs_at, value_of};
 ghost use Rattle.pm_value.specs.Kept.{AreSorted, IsKept, AreKept};
+ghost use Rattle.pm_value.specs.Writing.{written, items_written, pairs_written};
 
 use crate::fault::ValueError;
 use crate::text::Text;
@@ -23,20 +25,24 @@ impl Value {
     /// of lists and objects is entered. `NoMemory` may come at any point.
     ///
     /// `kept` says that in each object of the value the names stand in strict byte order, and that no whole number is
-    /// above 2^63 - 1. Of a key that a JSON text repeats, `serde_json` keeps the last value.
+    /// above 2^63 - 1. Of a key that a JSON text repeats, `serde_json` keeps the last value. The value nests at most four
+    /// levels deep (`shallow`), and `to_json` writes it as the same JSON value (`same`).
     pub fn from_json(alloc: Global, json: &Json) -> Result<Value, ValueError>
         ensures read { Gives plain result (value_of (view json.now)) }
         ensures kept { IfOk result (λ v. IsKept (plain v)) }
+        ensures shallow { IfOk result (λ v. depth (plain v) ≤ 4) }
+        ensures same { IfOk result (λ v. written (plain v) ≡ view json.now) }
     {
         value_at(alloc, json, MAX_DEPTH)
     }
 }
 
 #[cycle(read)]
-#[tactic(auto, using(crate::proofs::Keeping::kept), unfolding(crate::specs::Reading::value_at))]
+#[tactic(auto, using(crate::proofs::Seen::seen, crate::proofs::Keeping::kept), unfolding(crate::specs::Reading::value_at, crate::specs::Writing::written))]
 fn value_at(alloc: Global, json: &Json, levels: usize) -> Result<Value, ValueError>
     ensures read { Gives plain result (value_at (view json.now) levels) }
     ensures kept { IfOk result (λ v. IsKept (plain v)) }
+    ensures same { IfOk result (λ v. written (plain v) ≡ view json.now) }
 {
     match json {
         Json::Null => Ok(Value::Null),
@@ -60,9 +66,11 @@ fn value_at(alloc: Global, json: &Json, levels: usize) -> Result<Value, ValueErr
     }
 }
 
+#[tactic(auto, using(crate::proofs::SameJson::same), unfolding(crate::specs::Writing::written))]
 fn int_of(number: &Number) -> Result<Value, ValueError>
     ensures read { Gives plain result (int_of (as_integer (number_view number.now))) }
     ensures kept { IfOk result (λ v. IsKept (plain v)) }
+    ensures same { IfOk result (λ v. written (plain v) ≡ json_number (number_view number.now)) }
 {
     match number.as_i64() {
         Some(n) => Ok(Value::Int(n)),
@@ -79,6 +87,7 @@ fn int_of(number: &Number) -> Result<Value, ValueError>
 fn list_at(alloc: Global, items: &[Json], levels: usize) -> Result<Vec<Value>, ValueError>
     ensures read { Gives (λ v. plains v.items) result (list_at (items_view items.now) levels) }
     ensures kept { IfOk result (λ v. AreKept (plains_of (plains v.items))) }
+    ensures same { IfOk result (λ v. items_written (plains_of (plains v.items)) ≡ items_view items.now) }
 {
     let mut values = Vec::new(alloc);
     for item in items {
@@ -97,6 +106,7 @@ fn pairs_at(
     ensures read { Gives (λ v. field_pairs v.items) result (pairs_at (members_view members.now.entries) levels) }
     ensures sorted { IfOk result (λ v. AreSorted (field_pairs v.items)) }
     ensures kept { IfOk result (λ v. AreKept (plains_of (map (λ f. f.1) (field_pairs v.items)))) }
+    ensures same { IfOk result (λ v. pairs_written (field_pairs v.items) ≡ members_view members.now.entries) }
 {
     let mut fields = Vec::new(alloc);
     for (name, json) in members.iter() {

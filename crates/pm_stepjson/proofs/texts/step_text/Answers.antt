@@ -3,6 +3,8 @@ use Rattle.pm_docjson.proofs.WholeTexts.{text-is, text-reads}
 use Rattle.pm_step.specs.Steps.{step_of}
 use Rattle.pm_stepjson.specs.Writing.{step_written}
 use Rattle.pm_stepjson.proofs.NoFloat.{step-whole}
+use Rattle.pm_stepjson.proofs.StepLevels.{step-deep}
+use Rattle.pm_stepjson.proofs.StepOrder.{step-ordered}
 use Rattle.pm_stepjson.proofs.texts.step_text.Goals as goal
 
 pub returns-clause-text : goal.returns-clause-text
@@ -22,3 +24,15 @@ returns-clause-whole c = step-whole c.args.schema.now.spec (step_of c.args.step.
 
 pub returns-in_err-value-clause-whole : goal.returns-in_err-value-clause-whole
 returns-in_err-value-clause-whole c = step-whole c.args.schema.now.spec (step_of c.args.step.now)
+
+pub returns-clause-shallow : goal.returns-clause-shallow
+returns-clause-shallow c = step-deep c.args.schema.now.spec (step_of c.args.step.now)
+
+pub returns-in_err-value-clause-shallow : goal.returns-in_err-value-clause-shallow
+returns-in_err-value-clause-shallow c = step-deep c.args.schema.now.spec (step_of c.args.step.now)
+
+pub returns-clause-ordered : goal.returns-clause-ordered
+returns-clause-ordered c = step-ordered c.args.schema.now.spec (step_of c.args.step.now)
+
+pub returns-in_err-value-clause-ordered : goal.returns-in_err-value-clause-ordered
+returns-in_err-value-clause-ordered c = step-ordered c.args.schema.now.spec (step_of c.args.step.now)
