@@ -4,3 +4,4 @@ mod Unbuilt
 mod Refusing
 pub mod SameTypes
 pub mod SameEnds
+pub mod SameDocuments

@@ -1,17 +1,15 @@
 -- A schema that was built has no dead end, whichever spec of its types tells of one.
-use Rattle.std.proofs.Common.{◌≡◌, ◌<◌, ℕ, Bool, true, false, ◌||◌, ◌&&◌, List, [], ◌∷◌, length, refl, ap, ◌∙◌, sym, arith}
-use Rattle.std.specs.Prelude.{not, Option, Some, None, option_map, is_none, slice_index_or}
+use Rattle.std.proofs.Common.{◌≡◌, ◌<◌, ℕ, Bool, ◌||◌, ◌&&◌, List, [], ◌∷◌, length, refl, ap, ◌∙◌, sym, arith}
+use Rattle.std.specs.Prelude.{not, Some, None, option_map, is_none, slice_index_or}
 use Rattle.std.specs.List.{list_any}
 use Rattle.std.specs.Str.{bytes_eq}
 use Rattle.std.specs.Prelude.{codes}
 use Rattle.pm_auto.specs.declared.auto.Auto.{Auto}
-use Rattle.pm_auto.specs.declared.expr.Expr.{Expr}
 use Rattle.pm_auto.specs.Tree.{tree}
 use Rattle.pm_auto.specs.Trim.{trim, trimmed}
 use Rattle.pm_auto.specs.Table.{rows}
-use Rattle.pm_auto.specs.Runs.{fits, accepts_rows}
+use Rattle.pm_auto.specs.Runs.{accepts_rows}
 use Rattle.pm_auto.specs.States.{start_of}
-use Rattle.pm_auto.specs.Finish.{all_can, Finishes}
 use Rattle.pm_auto.proofs.TwinLaws.{twin-finishes}
 use Rattle.pm_value.specs.Views.{plain}
 use Rattle.pm_schema.specs.declared.spec.AttrSpec.{AttrSpec}
@@ -20,11 +18,11 @@ use Rattle.pm_schema.specs.declared.spec.SchemaSpec.{SchemaSpec}
 use Rattle.pm_schema.specs.declared.schema.Schema.{Schema}
 use Rattle.pm_schema.specs.Types.{node_at, is_required, is_text}
 use Rattle.pm_schema.specs.Made.{needs_attrs, can_be_made}
-use Rattle.pm_schema.specs.Generated.{nth, Has, IsMade, IsClosed, IsAutoOf, Finishing, FirstDeadEnd}
+use Rattle.pm_schema.specs.Generated.{Has, IsMade, IsClosed, IsAutoOf, FirstDeadEnd}
 use Rattle.pm_schema.specs.Built.{IsBuilt}
 use Rattle.pm_schema.proofs.Rounds.{all_can-more}
 use Rattle.pm_schema.proofs.SameLaws.{same-expand, same-auto}
-use Rattle.pm_schemajson.specs.Views.{attribute, attributes, node_type, node_types, types_of_spec}
+use Rattle.pm_schemajson.specs.Views.{attribute, node_type, types_of_spec}
 use Rattle.pm_schemajson.proofs.SameTypes.{any-alike, long-alike, node-alike}
 
 required-is : (a : AttrSpec) → is_required a ≡ is_none (attribute a).default
@@ -41,7 +39,7 @@ any-required (a ∷ xs) = ap (λ b. b || list_any is_required xs) (required-is a
 needs-alike : (n m : NodeSpec) → node_type n ≡ node_type m → needs_attrs n ≡ needs_attrs m
 needs-alike n m h = any-required n.attrs ∙ any-alike attribute (λ x. is_none x.default) n.attrs m.attrs (ap (λ x. x.attrs) h) ∙ sym (any-required m.attrs)
 
-can-alike : (n m : NodeSpec) → node_type n ≡ node_type m → can_be_made n ≡ can_be_made m
+pub can-alike : (n m : NodeSpec) → node_type n ≡ node_type m → can_be_made n ≡ can_be_made m
 can-alike n m h = ap (λ name. not (bytes_eq (codes "text") name) && not (needs_attrs n)) (ap (λ x. x.name) h) ∙ ap (λ b. not (is_text m) && not b) (needs-alike n m h)
 
 made-alike : (n m : NodeSpec) (table : List Bool) → node_type n ≡ node_type m → IsMade n table → IsMade m table
