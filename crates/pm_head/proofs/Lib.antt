@@ -3,3 +3,8 @@ pub mod Counts
 pub mod NameLists
 pub mod Missing
 mod OneSchema
+mod TwinFills
+pub mod SameNodes
+mod SameFills
+mod OneDocument
+pub mod OneHead

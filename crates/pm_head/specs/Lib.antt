@@ -8,3 +8,4 @@ pub mod Schemas
 pub mod Documents
 pub mod Heads
 pub mod Laws
+pub mod OneMeaning

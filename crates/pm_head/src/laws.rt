@@ -1,6 +1,8 @@
-//! Laws of what line 1 writes. The call does nothing; its contract is the law.
+//! Laws of what the first three lines write. The calls do nothing; their contracts are the laws.
 ghost use Rattle.serde_json.specs.View.{view};
 ghost use Rattle.pm_head.specs.Laws.{SchemaExcludesFault, HasOneCode};
+ghost use Rattle.pm_head.specs.Lines.{lines_of};
+ghost use Rattle.pm_head.specs.OneMeaning.{HeadExcludesFault, HasOneFault, HasOneHead};
 
 use serde_json::Value;
 
@@ -10,4 +12,14 @@ pub fn schema_means_one(json: &Value)
     ensures one { HasOneCode (view json.now) }
 {
     let _ = json;
+}
+
+/// The first three lines of an input are a head or have a fault, and either is one: the fault with its line and code, and the
+/// head with its types, its document and its clients.
+pub fn head_means_one(input: &[u8])
+    ensures apart { HeadExcludesFault (lines_of input.now) }
+    ensures one_fault { HasOneFault (lines_of input.now) }
+    ensures one_head { HasOneHead (lines_of input.now) }
+{
+    let _ = input;
 }

@@ -14,7 +14,7 @@ mod schema;
 pub use clients::{ClientEntry, editor_names};
 pub use codes::node_code;
 pub use fault::{HeadError, LineError};
-pub use laws::schema_means_one;
+pub use laws::{head_means_one, schema_means_one};
 pub use lines::{after_head, first_line, json_line, json_of};
 pub use names::is_name;
 pub use reading::{Head, read_head};

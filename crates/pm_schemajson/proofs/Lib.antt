@@ -6,3 +6,4 @@ pub mod ReadFaults
 pub mod SameTypes
 pub mod SameEnds
 pub mod ShallowTypes
+pub mod SameDocuments

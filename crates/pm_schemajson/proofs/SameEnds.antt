@@ -39,7 +39,7 @@ any-required (a ∷ xs) = ap (λ b. b || list_any is_required xs) (required-is a
 needs-alike : (n m : NodeSpec) → node_type n ≡ node_type m → needs_attrs n ≡ needs_attrs m
 needs-alike n m h = any-required n.attrs ∙ any-alike attribute (λ x. is_none x.default) n.attrs m.attrs (ap (λ x. x.attrs) h) ∙ sym (any-required m.attrs)
 
-can-alike : (n m : NodeSpec) → node_type n ≡ node_type m → can_be_made n ≡ can_be_made m
+pub can-alike : (n m : NodeSpec) → node_type n ≡ node_type m → can_be_made n ≡ can_be_made m
 can-alike n m h = ap (λ name. not (bytes_eq (codes "text") name) && not (needs_attrs n)) (ap (λ x. x.name) h) ∙ ap (λ b. not (is_text m) && not b) (needs-alike n m h)
 
 made-alike : (n m : NodeSpec) (table : List Bool) → node_type n ≡ node_type m → IsMade n table → IsMade m table

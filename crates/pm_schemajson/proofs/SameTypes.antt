@@ -25,7 +25,7 @@ through : {A B C : Type 0} (view : A → B) (g : B → C) (xs : List A) → map 
 through view g [] = refl
 through view g (x ∷ xs) = ap (λ l. g (view x) ∷ l) (through view g xs)
 
-map-alike : {A B C : Type 0} (view : A → B) (g : B → C) (xs ys : List A) → map view xs ≡ map view ys → map (λ x. g (view x)) xs ≡ map (λ x. g (view x)) ys
+pub map-alike : {A B C : Type 0} (view : A → B) (g : B → C) (xs ys : List A) → map view xs ≡ map view ys → map (λ x. g (view x)) xs ≡ map (λ x. g (view x)) ys
 map-alike view g xs ys h = sym (through view g xs) ∙ ap (map g) h ∙ through view g ys
 
 long : {A B : Type 0} (view : A → B) (xs : List A) → length (map view xs) ≡ length xs
@@ -51,10 +51,10 @@ all-same p q (x ∷ xs) e = ap (λ b. b && list_all p xs) (e x) ∙ ap (λ b. q 
 
 -- ---- names and types
 
-names-alike : (s t : SchemaSpec) → types_of_spec s ≡ types_of_spec t → names_of_nodes s ≡ names_of_nodes t
+pub names-alike : (s t : SchemaSpec) → types_of_spec s ≡ types_of_spec t → names_of_nodes s ≡ names_of_nodes t
 names-alike s t h = map-alike node_type (λ n. n.name) s.nodes t.nodes (ap (λ ts. ts.nodes) h)
 
-mark-names-alike : (s t : SchemaSpec) → types_of_spec s ≡ types_of_spec t → names_of_marks s ≡ names_of_marks t
+pub mark-names-alike : (s t : SchemaSpec) → types_of_spec s ≡ types_of_spec t → names_of_marks s ≡ names_of_marks t
 mark-names-alike s t h = map-alike mark_type (λ m. m.name) s.marks t.marks (ap (λ ts. ts.marks) h)
 
 at-alike : (ns ms : List NodeSpec) (k : ℕ) → node_types ns ≡ node_types ms → node_type (slice_index_or ns k no_node) ≡ node_type (slice_index_or ms k no_node)
@@ -67,11 +67,11 @@ at-alike (n ∷ ns) (m ∷ ms) (suc k) h = let e : node_types ns ≡ node_types 
 pub node-alike : (s t : SchemaSpec) (k : ℕ) → types_of_spec s ≡ types_of_spec t → node_type (node_at s k) ≡ node_type (node_at t k)
 node-alike s t k h = at-alike s.nodes t.nodes k (ap (λ ts. ts.nodes) h)
 
-no_tree : Tree → Bool
+pub no_tree : Tree → Bool
 no_tree trees.empty = true
 no_tree _ = false
 
-empty-is : (e : Expr) → is_empty e ≡ no_tree (tree e)
+pub empty-is : (e : Expr) → is_empty e ≡ no_tree (tree e)
 unfolding no_tree
 empty-is Empty = refl
 empty-is (One t) = refl

@@ -9,3 +9,6 @@ pub mod OpLists
 pub mod Suited
 pub mod HeadLaws
 pub mod SessionLaws
+pub mod SameSteps
+pub mod SameLines
+pub mod OneSession

@@ -9,3 +9,4 @@ pub mod Lines
 pub mod Sessions
 pub mod Held
 pub mod Answers
+pub mod OneMeaning

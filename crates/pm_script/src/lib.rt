@@ -7,6 +7,7 @@ mod earlier;
 mod fault;
 mod fields;
 mod kinds;
+mod laws;
 mod lines;
 mod ops;
 mod parts;
@@ -14,4 +15,5 @@ mod session;
 mod word;
 
 pub use fault::SessionError;
+pub use laws::input_means_one;
 pub use session::{Session, read_session};

@@ -5,3 +5,4 @@ pub mod NoFloat
 pub mod ReadSteps
 pub mod StepLevels
 pub mod StepOrder
+pub mod SameSpecs

@@ -1,0 +1,28 @@
+-- What follows for two meanings of the first three lines.
+use Rattle.std.specs.Prelude.{◌≡◌, ℕ, List, Ok, Err}
+use Rattle.pm_schema.specs.declared.spec.SchemaSpec.{SchemaSpec}
+use Rattle.pm_schemajson.specs.Views.{types_of_spec}
+use Rattle.pm_head.specs.declared.reading.Head.{Head}
+use Rattle.pm_head.specs.Heads.{HeadIs}
+
+-- the specs list the same types, wherever they lie in memory
+abbrev pub HaveSameTypes : SchemaSpec → SchemaSpec → Type 0
+HaveSameTypes s t = types_of_spec s ≡ types_of_spec t
+
+-- The documents and the clients are the same, and so is each type of the two schemas.
+pub record SameHead (g h : Head) : Type 0 where
+  pub types : HaveSameTypes g.schema.spec h.schema.spec
+  pub doc : g.doc ≡ h.doc
+  pub clients : g.clients ≡ h.clients
+
+-- lines that are a head have no fault
+abbrev pub HeadExcludesFault : List (List ℕ) → Type 0
+HeadExcludesFault lines = (head : Head) (fault : ℕ × ℕ) → HeadIs lines (Ok head) → HeadIs lines (Err fault) → ⊥
+
+-- their fault, a line and a code, is one
+abbrev pub HasOneFault : List (List ℕ) → Type 0
+HasOneFault lines = (fault other : ℕ × ℕ) → HeadIs lines (Err fault) → HeadIs lines (Err other) → fault ≡ other
+
+-- two heads of the lines are the same
+abbrev pub HasOneHead : List (List ℕ) → Type 0
+HasOneHead lines = (head other : Head) → HeadIs lines (Ok head) → HeadIs lines (Ok other) → SameHead head other
