@@ -20,3 +20,4 @@ pub mod ReplaceOutcomes
 pub mod AroundOutcomes
 pub mod FedAround
 pub mod SlicePairs
+pub mod Crossing
