@@ -21,9 +21,12 @@ use Rattle.pm_client.specs.Lists.{nothing}
 use Rattle.pm_client.specs.Prefixes.{front-applies}
 use Rattle.pm_client.specs.Takings.{get-index}
 use Rattle.pm_client.specs.Answering.{submission-applies, base-is-doc}
-use Rattle.pm_session.specs.Events.{State, by_some, exchanges}
+use Rattle.pm_session.specs.declared.member.Member.{Member}
+use Rattle.pm_session.specs.declared.member.Member.TheVariants.{Editor, Raw}
+use Rattle.pm_session.specs.Events.{State, by_some, member_exchanges}
 use Rattle.pm_session.specs.Sessions.{exchanged, brought_up, in_turn, settled}
 use Rattle.pm_session.specs.Sounds.{Sound, AllCaughtUp}
+use Rattle.pm_session.proofs.Editors.{exchanges_at}
 use Rattle.pm_session.proofs.SoundLaws.{get-set, set-length, new-stands}
 use Rattle.pm_session.proofs.Keeping.{taken-one}
 use Rattle.pm_session.proofs.Moves.{given-moved}
@@ -97,20 +100,20 @@ module _ {Rules Doc Reason C : Type 0} (m : Meaning Rules Doc Reason C) (rules :
 module _ {Rules Doc Reason C : Type 0} (m : Meaning Rules Doc Reason C) (rules : Rules) (laws : Laws m) (a : Authority C Rules Doc Reason) (stood : IsKept m rules a)
     (c : Client C Rules Doc Reason) (kin : Kin m rules a.first a.log c) where
   -- a client that asked, and took the answer, has the whole log
-  asks-version : (exchanges m rules a c Asking false).2.version ≡ length a.log
+  asks-version : (exchanges_at m rules a c Asking false).2.version ≡ length a.log
   asks-version =
       let answer = Entries c.version (drop c.version a.log) in
       all-version m rules a.first a.log (kept (composed c Asking) answer) (given-moved m rules laws a stood c kin Asking).after.own
 
   -- and still nothing pending where it had nothing
-  asks-pending : c.pending ≡ [] → (exchanges m rules a c Asking false).2.pending ≡ []
+  asks-pending : c.pending ≡ [] → (exchanges_at m rules a c Asking false).2.pending ≡ []
   asks-pending none =
       let answer = Entries c.version (drop c.version a.log) in
       taken-one m rules (kept (composed c Asking) answer) (λ d. d.pending ≡ []) none (λ k base. drop-none k c.pending none)
       (λ own foreign base. rw (drop-none own c.pending none) refl) answer
 
   -- a client that has the whole log has nothing pending once it submitted
-  submits-pending : c.version ≡ length a.log → (exchanges m rules a c Submission false).2.pending ≡ []
+  submits-pending : c.version ≡ length a.log → (exchanges_at m rules a c Submission false).2.pending ≡ []
   submits-pending at =
       let f = submission-applies m rules laws a c stood kin c.version c.pending (new-stands m rules laws c Submission) at in
       rw (eq-eqb c.version (length a.log) at, fold-run m rules a.doc f.0 0 c.pending f.1) (whether (nat_le (length a.log + length c.pending) c.version) refl)
@@ -125,68 +128,75 @@ module _ {Rules Doc Reason C : Type 0} (m : Meaning Rules Doc Reason C) (rules :
           rw all (drop-all c.pending)
 
 module _ {Rules Doc Reason C : Type 0} (m : Meaning Rules Doc Reason C) (rules : Rules) (laws : Laws m) where
-  -- the others stay as they are in a client's turn
+  -- the others stay as they are in a member's turn
   others-stay : (kind : Kind) (i k : ℕ) (s : State C Rules Doc Reason) (d : Client C Rules Doc Reason) → (k ≡ i → ⊥)
-      → slice_get (exchanged m rules kind i s).clients k ≡ Some d → slice_get s.clients k ≡ Some d
-  others-stay kind i k s d apart h = from (slice_get s.clients i) h
+      → slice_get (exchanged m rules kind i s).members k ≡ Some (Editor d) → slice_get s.members k ≡ Some (Editor d)
+  others-stay kind i k s d apart h = from (slice_get s.members i) h
     where
-      from : (o : Option (Client C Rules Doc Reason)) → slice_get (by_some s i o (λ c. exchanges m rules s.authority c kind false)).1.clients k ≡ Some d
-          → slice_get s.clients k ≡ Some d
+      from : (o : Option (Member C Rules Doc Reason)) → slice_get (by_some s i o (member_exchanges m rules s.authority kind)).1.members k ≡ Some (Editor d)
+          → slice_get s.members k ≡ Some (Editor d)
       from None h = h
-      from (Some c) h = other (get-set s.clients i k (exchanges m rules s.authority c kind false).2 d h)
+      from (Some x) h = other (get-set s.members i k (member_exchanges m rules s.authority kind x).2 (Editor d) h)
         where
-          other : ((k ≡ i) × (d ≡ (exchanges m rules s.authority c kind false).2)) ⊎ ((k ≡ i → ⊥) × (slice_get s.clients k ≡ Some d)) → slice_get s.clients k ≡ Some d
+          other : ((k ≡ i) × (Editor d ≡ (member_exchanges m rules s.authority kind x).2)) ⊎ ((k ≡ i → ⊥) × (slice_get s.members k ≡ Some (Editor d)))
+              → slice_get s.members k ≡ Some (Editor d)
           other (inl p) = absurd (apart p.0)
           other (inr p) = p.1
 
-  clients-stay : (kind : Kind) (i : ℕ) (s : State C Rules Doc Reason) → length (exchanged m rules kind i s).clients ≡ length s.clients
-  clients-stay kind i s = from (slice_get s.clients i)
+  pub members-stay : (kind : Kind) (i : ℕ) (s : State C Rules Doc Reason) → length (exchanged m rules kind i s).members ≡ length s.members
+  members-stay kind i s = from (slice_get s.members i)
     where
-      from : (o : Option (Client C Rules Doc Reason)) → length (by_some s i o (λ c. exchanges m rules s.authority c kind false)).1.clients ≡ length s.clients
+      from : (o : Option (Member C Rules Doc Reason)) → length (by_some s i o (member_exchanges m rules s.authority kind)).1.members ≡ length s.members
       from None = refl
-      from (Some c) = set-length s.clients i (exchanges m rules s.authority c kind false).2
+      from (Some x) = set-length s.members i (member_exchanges m rules s.authority kind x).2
 
   -- a question adds nothing to the log
   log-stays : (i : ℕ) (s : State C Rules Doc Reason) → (exchanged m rules Asking i s).authority ≡ s.authority
-  log-stays i s = from (slice_get s.clients i)
+  log-stays i s = from (slice_get s.members i)
     where
-      from : (o : Option (Client C Rules Doc Reason)) → (by_some s i o (λ c. exchanges m rules s.authority c Asking false)).1.authority ≡ s.authority
+      from : (o : Option (Member C Rules Doc Reason)) → (by_some s i o (member_exchanges m rules s.authority Asking)).1.authority ≡ s.authority
       from None = refl
-      from (Some c) = refl
+      from (Some (Editor c)) = refl
+      from (Some (Raw name serial)) = refl
 
-  -- what the client whose turn it was is, and what it was
+  -- what the editor whose turn it was is, and what it was
   pub record Turned (kind : Kind) (i : ℕ) (s : State C Rules Doc Reason) (d : Client C Rules Doc Reason) : Type 0 where
     pub was : Client C Rules Doc Reason
-    pub at : slice_get s.clients i ≡ Some was
-    pub is : d ≡ (exchanges m rules s.authority was kind false).2
+    pub at : slice_get s.members i ≡ Some (Editor was)
+    pub is : d ≡ (exchanges_at m rules s.authority was kind false).2
 
-  turned : (kind : Kind) (i : ℕ) (s : State C Rules Doc Reason) (d : Client C Rules Doc Reason) → slice_get (exchanged m rules kind i s).clients i ≡ Some d → Turned kind i s d
-  turned kind i s d h = from (slice_get s.clients i) refl h
+  turned : (kind : Kind) (i : ℕ) (s : State C Rules Doc Reason) (d : Client C Rules Doc Reason) → slice_get (exchanged m rules kind i s).members i ≡ Some (Editor d)
+      → Turned kind i s d
+  turned kind i s d h = from (slice_get s.members i) refl h
     where
-      from : (o : Option (Client C Rules Doc Reason)) → slice_get s.clients i ≡ o
-          → slice_get (by_some s i o (λ c. exchanges m rules s.authority c kind false)).1.clients i ≡ Some d → Turned kind i s d
+      of : (x : Member C Rules Doc Reason) → slice_get s.members i ≡ Some x → Editor d ≡ (member_exchanges m rules s.authority kind x).2 → Turned kind i s d
+      of (Editor c) e f = let same : d ≡ (exchanges_at m rules s.authority c kind false).2 = cc in record { was = c; at = e; is = same }
+      of (Raw name serial) e f = absurd (cc)
+
+      from : (o : Option (Member C Rules Doc Reason)) → slice_get s.members i ≡ o
+          → slice_get (by_some s i o (member_exchanges m rules s.authority kind)).1.members i ≡ Some (Editor d) → Turned kind i s d
       from None e h = absurd (cc)
-      from (Some c) e h = this (get-set s.clients i i (exchanges m rules s.authority c kind false).2 d h)
+      from (Some x) e h = this (get-set s.members i i (member_exchanges m rules s.authority kind x).2 (Editor d) h)
         where
-          this : ((i ≡ i) × (d ≡ (exchanges m rules s.authority c kind false).2)) ⊎ ((i ≡ i → ⊥) × (slice_get s.clients i ≡ Some d)) → Turned kind i s d
-          this (inl p) = record { was = c; at = e; is = p.1 }
+          this : ((i ≡ i) × (Editor d ≡ (member_exchanges m rules s.authority kind x).2)) ⊎ ((i ≡ i → ⊥) × (slice_get s.members i ≡ Some (Editor d))) → Turned kind i s d
+          this (inl p) = of x e p.1
           this (inr p) = absurd (p.0 refl)
 
-  asked-version : (i : ℕ) (s : State C Rules Doc Reason) (d : Client C Rules Doc Reason) → Sound m rules s → slice_get (exchanged m rules Asking i s).clients i ≡ Some d
+  asked-version : (i : ℕ) (s : State C Rules Doc Reason) (d : Client C Rules Doc Reason) → Sound m rules s → slice_get (exchanged m rules Asking i s).members i ≡ Some (Editor d)
       → d.version ≡ length s.authority.log
   asked-version i s d sound h =
       let t = turned Asking i s d h in
-      ap (λ (x : Client C Rules Doc Reason). x.version) t.is ∙ asks-version m rules laws s.authority sound.authority t.was (sound.stand i t.was t.at).1
+      ap (λ (x : Client C Rules Doc Reason). x.version) t.is ∙ asks-version m rules laws s.authority sound.authority t.was (sound.stand i (Editor t.was) t.at).1.kin
 
   asked-pending : (i : ℕ) (s : State C Rules Doc Reason) (d : Client C Rules Doc Reason) → Sound m rules s
-      → ((c : Client C Rules Doc Reason) → slice_get s.clients i ≡ Some c → c.pending ≡ []) → slice_get (exchanged m rules Asking i s).clients i ≡ Some d → d.pending ≡ []
+      → ((c : Client C Rules Doc Reason) → slice_get s.members i ≡ Some (Editor c) → c.pending ≡ []) → slice_get (exchanged m rules Asking i s).members i ≡ Some (Editor d) → d.pending ≡ []
   asked-pending i s d sound none h =
       let t = turned Asking i s d h in
       ap (λ (x : Client C Rules Doc Reason). x.pending) t.is
-      ∙ asks-pending m rules laws s.authority sound.authority t.was (sound.stand i t.was t.at).1 (none t.was t.at)
+      ∙ asks-pending m rules laws s.authority sound.authority t.was (sound.stand i (Editor t.was) t.at).1.kin (none t.was t.at)
 
   -- a client that asked and then submitted has nothing pending
-  brought-pending : (i : ℕ) (s : State C Rules Doc Reason) (d : Client C Rules Doc Reason) → Sound m rules s → slice_get (brought_up m rules i s).clients i ≡ Some d → d.pending ≡ []
+  brought-pending : (i : ℕ) (s : State C Rules Doc Reason) (d : Client C Rules Doc Reason) → Sound m rules s → slice_get (brought_up m rules i s).members i ≡ Some (Editor d) → d.pending ≡ []
   brought-pending i s d sound h =
       let mid = exchanged m rules Asking i s in
       let t = turned Submission i mid d h in
@@ -194,23 +204,23 @@ module _ {Rules Doc Reason C : Type 0} (m : Meaning Rules Doc Reason C) (rules :
       let at : t.was.version ≡ length mid.authority.log =
       asked-version i s t.was sound t.at ∙ ap (λ (x : Authority C Rules Doc Reason). length x.log) (sym (log-stays i s)) in
       ap (λ (x : Client C Rules Doc Reason). x.pending) t.is
-      ∙ submits-pending m rules laws mid.authority there.authority t.was (there.stand i t.was t.at).1 at
+      ∙ submits-pending m rules laws mid.authority there.authority t.was (there.stand i (Editor t.was) t.at).1.kin at
 
   -- What each turn gives its client, and leaves the others, holds of all clients after the last turn.
   module _ (does : ℕ → State C Rules Doc Reason → State C Rules Doc Reason) (Inv : State C Rules Doc Reason → Type 0)
       (P : State C Rules Doc Reason → Client C Rules Doc Reason → Type 0)
       (keeps : (i : ℕ) (s : State C Rules Doc Reason) → Inv s → Inv (does i s))
-      (gives : (i : ℕ) (s : State C Rules Doc Reason) (d : Client C Rules Doc Reason) → Inv s → slice_get (does i s).clients i ≡ Some d → P (does i s) d)
-      (leaves : (i k : ℕ) (s : State C Rules Doc Reason) (d : Client C Rules Doc Reason) → (k ≡ i → ⊥) → slice_get (does i s).clients k ≡ Some d → slice_get s.clients k ≡ Some d)
+      (gives : (i : ℕ) (s : State C Rules Doc Reason) (d : Client C Rules Doc Reason) → Inv s → slice_get (does i s).members i ≡ Some (Editor d) → P (does i s) d)
+      (leaves : (i k : ℕ) (s : State C Rules Doc Reason) (d : Client C Rules Doc Reason) → (k ≡ i → ⊥) → slice_get (does i s).members k ≡ Some (Editor d) → slice_get s.members k ≡ Some (Editor d))
       (stays : (i : ℕ) (s : State C Rules Doc Reason) (d : Client C Rules Doc Reason) → P s d → P (does i s) d) where
-    all-turns : (k n : ℕ) (s : State C Rules Doc Reason) → Inv s → ((j : ℕ) (d : Client C Rules Doc Reason) → j < k → slice_get s.clients j ≡ Some d → P s d)
-        → Inv (in_turn does k n s) × ((j : ℕ) (d : Client C Rules Doc Reason) → j < k + n → slice_get (in_turn does k n s).clients j ≡ Some d → P (in_turn does k n s) d)
+    all-turns : (k n : ℕ) (s : State C Rules Doc Reason) → Inv s → ((j : ℕ) (d : Client C Rules Doc Reason) → j < k → slice_get s.members j ≡ Some (Editor d) → P s d)
+        → Inv (in_turn does k n s) × ((j : ℕ) (d : Client C Rules Doc Reason) → j < k + n → slice_get (in_turn does k n s).members j ≡ Some (Editor d) → P (in_turn does k n s) d)
     all-turns k zero s inv h = (inv, λ j d l at. h j d (omega (arith, l)) at)
     all-turns k (suc n) s inv h =
         let rest = all-turns (k + 1) n (does k s) (keeps k s inv) (λ j d l at. by-place j d l at (j == k) refl) in
         (rest.0, λ j d l at. rest.1 j d (omega (arith, l)) at)
       where
-        by-place : (j : ℕ) (d : Client C Rules Doc Reason) → j < k + 1 → slice_get (does k s).clients j ≡ Some d → (b : Bool) → (j == k) ≡ b → P (does k s) d
+        by-place : (j : ℕ) (d : Client C Rules Doc Reason) → j < k + 1 → slice_get (does k s).members j ≡ Some (Editor d) → (b : Bool) → (j == k) ≡ b → P (does k s) d
         by-place j d l at true e = let same : j ≡ k = eqb-true j k e in gives k s d inv (rw same at at)
         by-place j d l at false e =
             let apart : j ≡ k → ⊥ = λ q. let t : (j == k) ≡ true = eq-eqb j k q in absurd (cc) in
@@ -220,13 +230,13 @@ module _ {Rules Doc Reason C : Type 0} (m : Meaning Rules Doc Reason C) (rules :
             lower l apart = omega (arith, l, apart)
 
   NonePending : State C Rules Doc Reason → Type 0
-  NonePending s = (i : ℕ) (c : Client C Rules Doc Reason) → slice_get s.clients i ≡ Some c → c.pending ≡ []
+  NonePending s = (i : ℕ) (c : Client C Rules Doc Reason) → slice_get s.members i ≡ Some (Editor c) → c.pending ≡ []
 
   -- as many clients after turns as before them
-  clients-turns : (does : ℕ → State C Rules Doc Reason → State C Rules Doc Reason) → ((i : ℕ) (s : State C Rules Doc Reason) → length (does i s).clients ≡ length s.clients)
-      → (k n : ℕ) (s : State C Rules Doc Reason) → length (in_turn does k n s).clients ≡ length s.clients
-  clients-turns does stay k zero s = refl
-  clients-turns does stay k (suc n) s = clients-turns does stay (k + 1) n (does k s) ∙ stay k s
+  members-turns : (does : ℕ → State C Rules Doc Reason → State C Rules Doc Reason) → ((i : ℕ) (s : State C Rules Doc Reason) → length (does i s).members ≡ length s.members)
+      → (k n : ℕ) (s : State C Rules Doc Reason) → length (in_turn does k n s).members ≡ length s.members
+  members-turns does stay k zero s = refl
+  members-turns does stay k (suc n) s = members-turns does stay (k + 1) n (does k s) ∙ stay k s
 
   none-asked : (i : ℕ) (s : State C Rules Doc Reason) → Sound m rules s → NonePending s → NonePending (exchanged m rules Asking i s)
   unfolding NonePending
@@ -237,7 +247,7 @@ module _ {Rules Doc Reason C : Type 0} (m : Meaning Rules Doc Reason C) (rules :
       by-place false e = none k d (others-stay Asking i k s d (λ q. let t : (k == i) ≡ true = eq-eqb k i q in absurd (cc)) h)
 
   -- each client in turn asked and submitted
-  brought-none : (s : State C Rules Doc Reason) → Sound m rules s → NonePending (in_turn (brought_up m rules) 0 (length s.clients) s)
+  brought-none : (s : State C Rules Doc Reason) → Sound m rules s → NonePending (in_turn (brought_up m rules) 0 (length s.members) s)
   unfolding NonePending
   brought-none s sound i c at =
       let does = brought_up m rules in
@@ -246,15 +256,15 @@ module _ {Rules Doc Reason C : Type 0} (m : Meaning Rules Doc Reason C) (rules :
       let all =
       all-turns does (Sound m rules) (λ t d. d.pending ≡ []) keeps (λ i t d h at. brought-pending i t d h at)
       (λ i k t d apart h. others-stay Asking i k t d apart (others-stay Submission i k (exchanged m rules Asking i t) d apart h)) (λ i t d h. h)
-      0 (length s.clients) s sound (λ j d l at. absurd (omega (arith, l))) in
-      let size = clients-turns does (λ i t. clients-stay Submission i (exchanged m rules Asking i t) ∙ clients-stay Asking i t) 0 (length s.clients) s in
-      all.1 i c (omega (arith, size, (get-index (in_turn does 0 (length s.clients) s).clients i c at).0)) at
+      0 (length s.members) s sound (λ j d l at. absurd (omega (arith, l))) in
+      let size = members-turns does (λ i t. members-stay Submission i (exchanged m rules Asking i t) ∙ members-stay Asking i t) 0 (length s.members) s in
+      all.1 i c (omega (arith, size, (get-index (in_turn does 0 (length s.members) s).members i (Editor c) at).0)) at
 
   -- then each asked again
   pub settled-caught : (s : State C Rules Doc Reason) → Sound m rules s → AllCaughtUp (settled m rules s)
   unfolding NonePending
   settled-caught s sound i c at =
-      let n = length s.clients in
+      let n = length s.members in
       let up = in_turn (brought_up m rules) 0 n s in
       let does = exchanged m rules Asking in
       let up_sound = turns-sound m rules laws (brought_up m rules)
@@ -266,12 +276,12 @@ module _ {Rules Doc Reason C : Type 0} (m : Meaning Rules Doc Reason C) (rules :
       (λ i k t d apart h. others-stay Asking i k t d apart h)
       (λ i t d h. h ∙ ap (λ (x : Authority C Rules Doc Reason). length x.log) (sym (log-stays i t)))
       0 n up (up_sound, brought-none s sound) (λ j d l at. absurd (omega (arith, l))) in
-      let size_up = clients-turns (brought_up m rules) (λ i t. clients-stay Submission i (exchanged m rules Asking i t) ∙ clients-stay Asking i t) 0 n s in
-      let size = clients-turns does (λ i t. clients-stay Asking i t) 0 n up in
+      let size_up = members-turns (brought_up m rules) (λ i t. members-stay Submission i (exchanged m rules Asking i t) ∙ members-stay Asking i t) 0 n s in
+      let size = members-turns does (λ i t. members-stay Asking i t) 0 n up in
       let t = settled m rules s in
-      let version = all.1 i c (omega (arith, size, size_up, (get-index t.clients i c at).0)) at in
+      let version = all.1 i c (omega (arith, size, size_up, (get-index t.members i (Editor c) at).0)) at in
       let none : c.pending ≡ [] = all.0.1 i c at in
-      let kin = (all.0.0.stand i c at).1 in
+      let kin = (all.0.0.stand i (Editor c) at).1.kin in
       let base : c.base ≡ t.authority.doc = base-is-doc m rules laws t.authority c all.0.0.authority kin version in
       let doc : c.base ≡ c.doc = some-inj c.base c.doc (ap (λ l. fold m rules c.base (changes_of l)) (sym none) ∙ kin.doc_is) in
       record { version = version; pending = none; doc = sym doc ∙ base }

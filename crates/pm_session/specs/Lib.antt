@@ -1,4 +1,6 @@
 pub mod Makes
+pub mod Members
+pub mod Hosts
 pub mod Events
 pub mod Refusals
 pub mod Sessions

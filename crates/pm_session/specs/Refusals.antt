@@ -1,5 +1,5 @@
--- No message that a client composed is refused for a step.
-use Rattle.std.specs.Prelude.{◌≡◌, ℕ, slice_get, Some}
+-- No message that an editor composed is refused for a step.
+use Rattle.std.specs.Prelude.{◌≡◌, ℕ, false, List, slice_get, Some}
 use Rattle.pm_change.specs.Changes.{Meaning}
 use Rattle.pm_authority.specs.declared.message.Message.{Message}
 use Rattle.pm_authority.specs.declared.message.Answer.{Answer}
@@ -7,11 +7,15 @@ use Rattle.pm_authority.specs.declared.message.Answer.TheVariants.{Accepted, Wro
 use Rattle.pm_authority.specs.Presents.{presented}
 use Rattle.pm_client.specs.declared.client.Client.{Client}
 use Rattle.pm_client.specs.Clients.{message_at}
+use Rattle.pm_session.specs.declared.line.Act.{Act}
+use Rattle.pm_session.specs.declared.line.Line.{Line}
 use Rattle.pm_session.specs.declared.outcome.Told.{Told}
 use Rattle.pm_session.specs.declared.outcome.Told.TheVariants.{Accepted as ToldAccepted, Version, Refused as ToldRefused, Entries as ToldEntries}
 use Rattle.pm_session.specs.declared.outcome.Outcome.{Outcome}
 use Rattle.pm_session.specs.declared.outcome.Outcome.TheVariants.{Made, Nothing, NoRange, NoPlace, NoFit, Refused, CursorAt, Composed, Answered, Took, Exchanged}
+use Rattle.pm_session.specs.declared.member.Member.TheVariants.{Editor}
 use Rattle.pm_session.specs.Events.{State}
+use Rattle.pm_session.specs.Suits.{is_forge}
 
 module _ {Rules Doc Reason C : Type 0} where
   -- the answer refuses no step
@@ -43,8 +47,18 @@ module _ {Rules Doc Reason C : Type 0} where
   GetsNoRefusal (Composed n) = Unit {0}
   GetsNoRefusal (Took taken) = Unit {0}
 
--- Whichever of its messages a client of the room presents next, the answer refuses no step.
+  -- An act and what became of it. Where a member that doesn't forge, and so is an editor, did it, its answer refused no step.
+  -- What a raw client forges may be refused.
+  abbrev pub EditorGetsNoRefusal : {Op : Type 0} → Act Op C → Outcome C Rules Doc Reason → Type 0
+  EditorGetsNoRefusal act o = is_forge act ≡ false → GetsNoRefusal o
+
+  -- so it is with each of these lines and its outcome
+  abbrev pub NoEditorRefused : {Op : Type 0} → List (Line Op C) → List (Outcome C Rules Doc Reason) → Type 0
+  NoEditorRefused {Op} lines outcomes =
+      (k : ℕ) (line : Line Op C) (o : Outcome C Rules Doc Reason) → slice_get lines k ≡ Some line → slice_get outcomes k ≡ Some o → EditorGetsNoRefusal line.act o
+
+-- Whichever of its messages an editor of the room presents next, the answer refuses no step.
 abbrev pub NoMessageRefused : {Rules Doc Reason C : Type 0} → Meaning Rules Doc Reason C → Rules → State C Rules Doc Reason → Type 0
 NoMessageRefused {Rules} {Doc} {Reason} {C} m rules s =
-    (i j : ℕ) (c : Client C Rules Doc Reason) (message : Message C) → slice_get s.clients i ≡ Some c → message_at c j ≡ Some message
+    (i j : ℕ) (c : Client C Rules Doc Reason) (message : Message C) → slice_get s.members i ≡ Some (Editor c) → message_at c j ≡ Some message
     → RefusesNoStep (presented m rules s.authority message).0

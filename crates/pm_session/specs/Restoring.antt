@@ -6,8 +6,9 @@ use Rattle.pm_client.specs.declared.client.Client.{Client}
 use Rattle.pm_client.specs.Kins.{Kin}
 use Rattle.pm_client.specs.Undoings.{GivesBack}
 use Rattle.pm_session.specs.declared.line.Act.{Act}
-use Rattle.pm_session.specs.declared.line.Act.TheVariants.{Edit, Undo, Redo, Cursor, Submit, Ask, Present, Take, Push, Pull}
+use Rattle.pm_session.specs.declared.line.Act.TheVariants.{Edit, Undo, Redo, Cursor, Submit, Ask, Present, Take, Push, Pull, Forge}
 use Rattle.pm_session.specs.declared.line.Line.{Line}
+use Rattle.pm_session.specs.declared.member.Member.TheVariants.{Editor}
 use Rattle.pm_session.specs.Events.{State}
 
 module _ {Rules Doc Reason C : Type 0} (m : Meaning Rules Doc Reason C) (rules : Rules) where
@@ -19,7 +20,7 @@ module _ {Rules Doc Reason C : Type 0} (m : Meaning Rules Doc Reason C) (rules :
   Restored redo a c d = (kin : Kin m rules a.first a.log c) → GivesBack m rules redo c a.first kin.timeline d.doc
 
   -- so it is with what an act makes of a client, where the act is an undo or a redo
-  abbrev pub RestoredBy : {Op : Type 0} → Act Op → Authority C Rules Doc Reason → Client C Rules Doc Reason → Client C Rules Doc Reason → Type 0
+  abbrev pub RestoredBy : {Op : Type 0} → Act Op C → Authority C Rules Doc Reason → Client C Rules Doc Reason → Client C Rules Doc Reason → Type 0
   RestoredBy Undo a c d = Restored false a c d
   RestoredBy Redo a c d = Restored true a c d
   RestoredBy (Edit op event) a c d = Unit {0}
@@ -30,9 +31,10 @@ module _ {Rules Doc Reason C : Type 0} (m : Meaning Rules Doc Reason C) (rules :
   RestoredBy (Take n) a c d = Unit {0}
   RestoredBy (Push lost) a c d = Unit {0}
   RestoredBy (Pull lost) a c d = Unit {0}
+  RestoredBy (Forge version steps) a c d = Unit {0}
 
-  -- One room comes after another by this line: so it is with the line's client.
-  abbrev pub Restores : {Op : Type 0} → State C Rules Doc Reason → Line Op → State C Rules Doc Reason → Type 0
+  -- One room comes after another by this line: so it is with the line's editor.
+  abbrev pub Restores : {Op : Type 0} → State C Rules Doc Reason → Line Op C → State C Rules Doc Reason → Type 0
   Restores s line t =
-      (c d : Client C Rules Doc Reason) → slice_get s.clients line.client ≡ Some c → slice_get t.clients line.client ≡ Some d
+      (c d : Client C Rules Doc Reason) → slice_get s.members line.client ≡ Some (Editor c) → slice_get t.members line.client ≡ Some (Editor d)
       → RestoredBy line.act s.authority c d

@@ -2,14 +2,17 @@
 use Rattle.pm_map.specs.Moves.{IsSide}
 use Rattle.std.specs.Prelude.{◌≡◌, ℕ, ◌≤◌, ◌<◌, ◌==◌, ◌&&◌, Bool, true, false, List, [], ◌∷◌, ◌++◌, length, count_by, slice_get, Some}
 use Rattle.pm_client.specs.declared.client.Client.{Client}
+use Rattle.pm_session.specs.declared.member.Member.{Member}
+use Rattle.pm_session.specs.declared.member.Member.TheVariants.{Editor, Raw}
 use Rattle.pm_session.specs.declared.line.Line.{Line}
 use Rattle.pm_session.specs.declared.line.Act.{Act}
-use Rattle.pm_session.specs.declared.line.Act.TheVariants.{Edit, Undo, Redo, Cursor, Submit, Ask, Present, Take, Push, Pull}
+use Rattle.pm_session.specs.declared.line.Act.TheVariants.{Edit, Undo, Redo, Cursor, Submit, Ask, Present, Take, Push, Pull, Forge}
 use Rattle.pm_session.specs.Events.{State}
+use Rattle.pm_session.specs.Members.{name_of, kinds_of}
 
-module _ {Op : Type 0} where
+module _ {Op C : Type 0} where
   -- an act that composes one message
-  abbrev pub composes_one : Act Op → Bool
+  abbrev pub composes_one : Act Op C → Bool
   composes_one Submit = true
   composes_one Ask = true
   composes_one (Push lost) = true
@@ -20,9 +23,10 @@ module _ {Op : Type 0} where
   composes_one (Cursor p side) = false
   composes_one (Present j) = false
   composes_one (Take n) = false
+  composes_one (Forge version steps) = false
 
-  -- an act that gets one answer
-  abbrev pub gets_one : Act Op → Bool
+  -- an act that gets one answer, which is kept
+  abbrev pub gets_one : Act Op C → Bool
   gets_one (Present j) = true
   gets_one (Push lost) = true
   gets_one (Pull lost) = true
@@ -33,21 +37,36 @@ module _ {Op : Type 0} where
   gets_one Redo = false
   gets_one (Cursor p side) = false
   gets_one (Take n) = false
+  gets_one (Forge version steps) = false
+
+  -- an act that forges
+  abbrev pub is_forge : Act Op C → Bool
+  is_forge (Forge version steps) = true
+  is_forge (Edit op event) = false
+  is_forge Undo = false
+  is_forge Redo = false
+  is_forge (Cursor p side) = false
+  is_forge Submit = false
+  is_forge Ask = false
+  is_forge (Present j) = false
+  is_forge (Take n) = false
+  is_forge (Push lost) = false
+  is_forge (Pull lost) = false
 
   -- how many of these lines are the client's and do this
-  abbrev pub done_by : (Act Op → Bool) → ℕ → List (Line Op) → ℕ
+  abbrev pub done_by : (Act Op C → Bool) → ℕ → List (Line Op C) → ℕ
   done_by does i lines = count_by (λ line. (line.client == i) && does line.act) lines
 
   -- how many messages the client composed on these lines
-  abbrev pub composed_by : ℕ → List (Line Op) → ℕ
+  abbrev pub composed_by : ℕ → List (Line Op C) → ℕ
   composed_by i lines = done_by composes_one i lines
 
   -- how many answers the client got on these lines
-  abbrev pub answered_by : ℕ → List (Line Op) → ℕ
+  abbrev pub answered_by : ℕ → List (Line Op C) → ℕ
   answered_by i lines = done_by gets_one i lines
 
   -- an act that names a message or an answer names one of so many, and a cursor's side is 1 or -1
-  abbrev pub NamesOneOf : ℕ → ℕ → Act Op → Type 0
+  abbrev pub NamesOneOf : ℕ → ℕ → Act Op C → Type 0
   NamesOneOf messages answers (Present j) = (0 < j) × (j ≤ messages)
   NamesOneOf messages answers (Take n) = (0 < n) × (n ≤ answers)
   NamesOneOf messages answers (Edit op event) = Unit {0}
@@ -58,32 +77,45 @@ module _ {Op : Type 0} where
   NamesOneOf messages answers Ask = Unit {0}
   NamesOneOf messages answers (Push lost) = Unit {0}
   NamesOneOf messages answers (Pull lost) = Unit {0}
+  NamesOneOf messages answers (Forge version steps) = Unit {0}
 
-  -- a line of one of so many clients that suits what the earlier lines composed and got
-  pub record Suits (clients : ℕ) (earlier : List (Line Op)) (line : Line Op) : Type 0 where
-    pub within : line.client < clients
+  -- A line that suits what the earlier lines composed and got. `raw` says of each client whether it is a raw one: the line's
+  -- client is there, and it is a raw one exactly where the line forges.
+  pub record Suits (raw : List Bool) (earlier : List (Line Op C)) (line : Line Op C) : Type 0 where
+    pub kind : slice_get raw line.client ≡ Some (is_forge line.act)
     pub named : NamesOneOf (composed_by line.client earlier) (answered_by line.client earlier) line.act
 
   -- each line suits what the lines before it composed and got
-  abbrev pub AllSuit : ℕ → List (Line Op) → List (Line Op) → Type 0
-  AllSuit clients earlier [] = Unit {0}
-  AllSuit clients earlier (line ∷ lines) = Suits clients earlier line × AllSuit clients (earlier ++ line ∷ []) lines
+  abbrev pub AllSuit : List Bool → List (Line Op C) → List (Line Op C) → Type 0
+  AllSuit raw earlier [] = Unit {0}
+  AllSuit raw earlier (line ∷ lines) = Suits raw earlier line × AllSuit raw (earlier ++ line ∷ []) lines
+
+  -- An act that suits a member as it stands. An editor doesn't forge, and the message or the answer that the act names is
+  -- there. A raw client forges, and does nothing else.
+  abbrev pub ActSuits : {Rules Doc Reason : Type 0} → Member C Rules Doc Reason → Act Op C → Type 0
+  ActSuits (Editor c) act = (is_forge act ≡ false) × NamesOneOf (length c.messages) (length c.answers) act
+  ActSuits (Raw name serial) act = is_forge act ≡ true
+
+  -- a line of this member that suits it as it stands
+  pub record SuitsMember {Rules Doc Reason : Type 0} (x : Member C Rules Doc Reason) (line : Line Op C) : Type 0 where
+    pub client : name_of x ≡ line.client
+    pub suits : ActSuits x line.act
 
   -- a line that suits a room as it stands
-  pub record SuitsRoom {Rules Doc Reason C : Type 0} (s : State C Rules Doc Reason) (line : Line Op) : Type 0 where
-    pub client : Client C Rules Doc Reason
-    pub at : slice_get s.clients line.client ≡ Some client
-    pub named : NamesOneOf (length client.messages) (length client.answers) line.act
+  pub record SuitsRoom {Rules Doc Reason : Type 0} (s : State C Rules Doc Reason) (line : Line Op C) : Type 0 where
+    pub member : Member C Rules Doc Reason
+    pub at : slice_get s.members line.client ≡ Some member
+    pub suits : ActSuits member line.act
 
 module _ {Rules Doc Reason C Op : Type 0} where
-  -- each client has as many messages and answers as it composed and got on these lines
-  abbrev pub Counted : State C Rules Doc Reason → List (Line Op) → Type 0
+  -- each editor has as many messages and answers as it composed and got on these lines
+  abbrev pub Counted : State C Rules Doc Reason → List (Line Op C) → Type 0
   Counted s lines =
-      (i : ℕ) (c : Client C Rules Doc Reason) → slice_get s.clients i ≡ Some c
+      (i : ℕ) (c : Client C Rules Doc Reason) → slice_get s.members i ≡ Some (Editor c)
       → (length c.messages ≡ composed_by i lines) × (length c.answers ≡ answered_by i lines)
 
   -- Lines that suit a room as it stands. Its messages and answers are those of some earlier lines.
-  pub record LinesSuit (s : State C Rules Doc Reason) (lines : List (Line Op)) : Type 0 where
-    pub earlier : List (Line Op)
+  pub record LinesSuit (s : State C Rules Doc Reason) (lines : List (Line Op C)) : Type 0 where
+    pub earlier : List (Line Op C)
     pub counted : Counted s earlier
-    pub suit : AllSuit (length s.clients) earlier lines
+    pub suit : AllSuit (kinds_of s.members) earlier lines

@@ -1,15 +1,21 @@
-//! A room: an authority, the clients at it, and the lines that are played there.
+//! A session: an authority, the members at it, and the lines that they play there.
 #![tactic(auto)]
 
-mod act;
+mod acting;
 mod exchange;
+mod forge;
+mod host;
 mod line;
 mod local;
 mod maker;
+mod member;
 mod outcome;
 mod room;
 
+pub use acting::act;
+pub use host::Host;
 pub use line::{Act, Line};
 pub use maker::{Maker, NoSteps};
+pub use member::Member;
 pub use outcome::{Outcome, Told};
 pub use room::Room;

@@ -1,8 +1,9 @@
 //! One line of a session.
+use pm_list::Listed;
 
-/// What a line does.
+/// What a line does. All acts but `Forge` are an editor's, and `Forge` is a raw client's.
 #[derive(Debug, Drop)]
-pub enum Act<O> {
+pub enum Act<O, C> {
     /// Makes the steps of this op. They join the last event to undo where that is open and has this number; else they are a
     /// new event.
     Edit { op: O, event: Option<u32> },
@@ -24,14 +25,17 @@ pub enum Act<O> {
     Push { lost: bool },
     /// Composes an ask, presents it, keeps the answer, and takes it unless it is lost.
     Pull { lost: bool },
+    /// Presents a submission of these steps at this version. Each step gets the raw client's name and its next serial, also
+    /// where the submission is refused.
+    Forge { version: u64, steps: Listed<C> },
 }
 
 /// One event of a session.
 #[derive(Debug, Drop)]
-pub struct Line<O> {
+pub struct Line<O, C> {
     /// The number of the line in its file, from 1.
     pub number: u32,
     /// The client's number, from 0.
     pub client: u32,
-    pub act: Act<O>,
+    pub act: Act<O, C>,
 }

@@ -3,12 +3,11 @@ ghost use Rattle.std.specs.Prelude.{◌≡◌, ◌<◌, ◌≤◌, ◌^◌, leng
 ghost use Rattle.pm_map.specs.Moves.{IsSide};
 ghost use Rattle.pm_client.specs.Clients.{undone_last, redone_last};
 ghost use Rattle.pm_client.specs.Cursors.{AreWithin};
-ghost use Rattle.pm_client.specs.Kins.{Kin};
+ghost use Rattle.pm_client.specs.Kins.{Stands};
 ghost use Rattle.pm_session.specs.Events.{edits, turns, sets, composes, takes};
 
 use crate::maker::{Maker, NoSteps};
 use crate::outcome::Outcome;
-use pm_authority::Authority;
 use pm_change::Change;
 use pm_client::{Client, CursorError, EditError, Kind, UndoError};
 use std::alloc::{AllocError, Global};
@@ -41,20 +40,16 @@ pub fn edit<C: Change, K: Maker<C>>(
     }
 }
 
-/// The client undoes the last event that it can undo, or tells that there is none. Want of memory leaves it as it was. The
-/// client must stand to the log of the authority, which is read and stays.
+/// The client undoes the last event that it can undo, or tells that there is none. Want of memory leaves it as it was.
 pub fn undo<C: Change>(
     alloc: Global,
     rules: &C::Rules,
-    authority: &Authority<C>,
     client: &mut Client<C>,
 ) -> Result<Outcome<C>, AllocError>
-    requires stands { Kin C.means rules.now authority.now.first authority.now.log client.old }
+    requires stands { Stands C.means rules.now client.old }
     ensures undoes { IfOk result (λ o. (o, client.new) ≡ turns client.old (undone_last C.means rules.now client.old)) }
     ensures err { OnErr result (client.new ≡ client.old) }
 {
-    // A log that is held has a length of 64 bits.
-    let _length = authority.log().len();
     match client.undo(alloc, rules) {
         Ok(count) => Ok(Outcome::Made { count }),
         Err(UndoError::NothingToUndo) => Ok(Outcome::Nothing),
@@ -66,15 +61,12 @@ pub fn undo<C: Change>(
 pub fn redo<C: Change>(
     alloc: Global,
     rules: &C::Rules,
-    authority: &Authority<C>,
     client: &mut Client<C>,
 ) -> Result<Outcome<C>, AllocError>
-    requires stands { Kin C.means rules.now authority.now.first authority.now.log client.old }
+    requires stands { Stands C.means rules.now client.old }
     ensures redoes { IfOk result (λ o. (o, client.new) ≡ turns client.old (redone_last C.means rules.now client.old)) }
     ensures err { OnErr result (client.new ≡ client.old) }
 {
-    // A log that is held has a length of 64 bits.
-    let _length = authority.log().len();
     match client.redo(alloc, rules) {
         Ok(count) => Ok(Outcome::Made { count }),
         Err(UndoError::NothingToUndo) => Ok(Outcome::Nothing),
@@ -113,22 +105,18 @@ pub fn compose<C: Change>(
     Ok(Outcome::Composed { number })
 }
 
-/// The client takes the answer of this number, which was kept. Want of memory leaves it as it was. The client must stand
-/// to the log of the authority, which is read and stays.
+/// The client takes the answer of this number, which was kept. Want of memory leaves it as it was.
 pub fn take<C: Change>(
     alloc: Global,
     rules: &C::Rules,
-    authority: &Authority<C>,
     client: &mut Client<C>,
     answer: u64,
 ) -> Result<Outcome<C>, AllocError>
-    requires stands { Kin C.means rules.now authority.now.first authority.now.log client.old }
+    requires stands { Stands C.means rules.now client.old }
     requires named { (0 < answer) × (answer ≤ length client.old.answers) }
     ensures takes { IfOk result (λ o. (o, client.new) ≡ takes C.means rules.now client.old answer) }
     ensures err { OnErr result (client.new ≡ client.old) }
 {
-    // A log that is held has a length of 64 bits, and so has the client's version.
-    let _length = authority.log().len();
     let taken = client.take(alloc, rules, answer)?;
     Ok(Outcome::Took { taken })
 }

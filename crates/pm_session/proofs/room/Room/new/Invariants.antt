@@ -1,9 +1,9 @@
-use Rattle.std.proofs.Common.{◌≡◌, ◌-◌, ◌++◌, length, vec_len}
-use Rattle.pm_session.specs.Sessions.{new_clients}
+use Rattle.std.proofs.Common.{◌≡◌, ◌++◌, drop, vec_len}
+use Rattle.pm_session.specs.Sessions.{new_members}
 use Rattle.pm_session.proofs.room.Room.new.Given as goal
 
-abbrev pub invariant-loop-raw : goal.invariant-loop-raw
-invariant-loop-raw g l = record {
-  counted : vec_len l.clients ≡ l._raw-index;
-  clients : l.clients.items ++ new_clients l.doc l._raw-index (length l.raw - l._raw-index) ≡ new_clients l.doc 0 (length l.raw);
+abbrev pub invariant-loop-is_raw : goal.invariant-loop-is_raw
+invariant-loop-is_raw g l = record {
+  counted : vec_len l.members ≡ l.is_raw-index;
+  members : l.members.items ++ new_members l.doc l.is_raw-index (drop l.is_raw-index l.raw) ≡ new_members l.doc 0 l.raw;
 }

@@ -1,15 +1,13 @@
 use Rattle.std.proofs.Common.{rules, inl, inr, take, ◌≡◌, ◌+◌, ◌∷◌, ◌++◌, [], ◌∙◌, append_assoc, drop, ap, sym, subst}
 use Rattle.std.proofs.lemmas.List.{drop_more}
-use Rattle.pm_client.specs.Lists.{Each-append}
 use Rattle.pm_session.specs.Events.{State, state_of, played}
 use Rattle.pm_session.specs.Sessions.{session}
 use Rattle.pm_session.specs.Suits.{LinesSuit}
-use Rattle.pm_session.specs.Refusals.{GetsNoRefusal}
 use Rattle.pm_session.proofs.Lefts.{left-err, line-at}
-use Rattle.pm_session.proofs.LogNames.{sound-names}
-use Rattle.pm_session.proofs.Playing.{suits-first, suits-rest, session-more, session-last, at-rest}
+use Rattle.pm_session.proofs.Playing.{suits-first, suits-rest, session-more, session-last, at-rest, outcomes-all}
 use Rattle.pm_session.proofs.Restorings.{session-restores}
 use Rattle.pm_session.proofs.Rooms.{session-stays}
+use Rattle.pm_session.proofs.Unrefused.{session-none}
 use Rattle.pm_session.proofs.room.Room.play_all.Goals as goal
 
 pub play-requires-clause-suits : goal.play-requires-clause-suits
@@ -44,12 +42,10 @@ loop-line-preserved g c =
           ∙ sym (session-last m c.args.rules.now makes (state_of c.args.self.now) lines k c.line-item.result (at-rest lines (drop (k + 1) lines) k c.line-item.result rest));
       suit = subst (λ t. LinesSuit t (drop (k + 1) lines)) (sym (ap (λ p. p.1) c.in_ok-play.ensures.plays)) later;
       sound = c.play.ensures.sound;
-      unrefused = rw c.in_ok-push.ensures.items
-          (Each-append GetsNoRefusal c.loop-line.outcomes.items (c.in_ok-play.field-0 ∷ []) c.loop-line.invariant.unrefused (c.in_ok-play.ensures.unrefused, tt));
     }
 
 pub returns-clause-names : goal.returns-clause-names
-returns-clause-names g c = sound-names g.C.Change.means c.args.rules.now (state_of c.loop-line.self) c.loop-line.invariant.sound
+returns-clause-names g c = c.loop-line.invariant.sound.names
 
 pub returns-clause-cursors : goal.returns-clause-cursors
 returns-clause-cursors g c k =
@@ -90,3 +86,11 @@ returns-in_err-push-clause-left g c =
       left = inl (ap (λ q. q.1) c.in_ok-play.ensures.plays ∙ ap (λ (x : State g.row.C.Denot g.row.C-Rules.Denot g.row.C-Doc.Denot g.row.C-Reason.Denot). (played m c.args.rules.now makes x c.line-item.result).1) c.loop-line.invariant.front
           ∙ sym (session-last m c.args.rules.now makes (state_of c.args.self.now) lines k c.line-item.result (at-rest lines (drop (k + 1) lines) k c.line-item.result rest)));
     })
+
+pub returns-clause-unrefused : goal.returns-clause-unrefused
+returns-clause-unrefused g c =
+    let m = g.C.Change.means in
+    let makes = g.K.Maker.makes c.args.maker.now c.args.rules.now in
+    let all = outcomes-all m c.args.rules.now makes (state_of c.loop-line.self) c.args.lines.now c.loop-line.line-index c.loop-line.outcomes.items
+    (session m c.args.rules.now makes (state_of c.args.self.now) c.args.lines.now).0 (search rules) c.loop-line.invariant.outcomes in
+    rw all (session-none m c.args.rules.now g.met.C.Change.laws makes (state_of c.args.self.now) c.args.lines.now c.requires.sound c.requires.suit)

@@ -1,8 +1,6 @@
-use Rattle.std.specs.List.{AllByRecursion as Each}
 use Rattle.std.proofs.Common.{◌≡◌, ◌++◌, drop, take, vec_len}
 use Rattle.pm_session.specs.Events.{state_of}
 use Rattle.pm_session.specs.Sessions.{session}
-use Rattle.pm_session.specs.Refusals.{GetsNoRefusal}
 use Rattle.pm_session.specs.Sounds.{Sound}
 use Rattle.pm_session.specs.Suits.{LinesSuit}
 use Rattle.pm_session.proofs.room.Room.play_all.Given as goal
@@ -18,5 +16,4 @@ invariant-loop-line g l =
       front : state_of l.self ≡ (session m l.rules makes (state_of l.fn.self) (take l.line-index l.lines)).1;
       suit : LinesSuit (state_of l.self) (drop l.line-index l.lines);
       sound : Sound m l.rules (state_of l.self);
-      unrefused : Each GetsNoRefusal l.outcomes.items;
     }
