@@ -1,5 +1,4 @@
 pub mod Split
 pub mod Counts
-pub mod NameLists
 pub mod Missing
 mod OneSchema
