@@ -60,19 +60,22 @@ module _ {Rules Doc Reason C : Type 0} (m : Meaning Rules Doc Reason C) (rules :
   pub sent : (x : Message C) → x ≡ message_of c kind → answer ≡ (presented m rules a x).0 → new ≡ (presented m rules a x).1 → Sent
   sent x is e f = record { answer_is = rw is at e; authority_is = rw is at f }
 
-  module _ (s : Sent) (t : Told C Rules Doc Reason) (is : t ≡ told answer) (keeper : Client C Rules Doc Reason) (keeps : keeper ≡ kept (composed c kind) answer) where
-    pub lost-ends : (lost : Bool) → lost ≡ true → (Exchanged t None, new, keeper) ≡ exchanges m rules a c kind lost
-    lost-ends lost l = rw (l, is, keeps, s.answer_is, s.authority_is) refl
+  -- the client stands to the log that it sent to, once it kept the answer
+  pub stands-after : (s : Sent) (keeper : Client C Rules Doc Reason) → keeper ≡ kept (composed c kind) answer → Laws m → IsKept m rules a → Kin m rules a.first a.log c
+      → Kin m rules new.first new.log keeper
+  stands-after s keeper keeps laws stood kin = rw (keeps, s.answer_is, s.authority_is) (given-moved m rules laws a stood c kin kind).after.own
 
-    pub taken-ends : (lost : Bool) → lost ≡ false → (n : ℕ) → n ≡ length c.answers + 1 → (x : Taken) (end : Client C Rules Doc Reason)
-        → (x, end) ≡ taken_at m rules keeper n → (Exchanged t (Some x), new, end) ≡ exchanges m rules a c kind lost
-    taken-ends lost l n number x end took =
-        let same : (x, end) ≡ taken m rules keeper answer = took ∙ ap (λ k. taken_at m rules k n) keeps ∙ taken-last m rules (composed c kind) answer n number
-        ∙ ap (λ k. taken m rules k answer) (sym keeps) in
-        let one : x ≡ (taken m rules keeper answer).0 = ap (λ p. p.0) same in
-        let two : end ≡ (taken m rules keeper answer).1 = ap (λ p. p.1) same in
-        rw (l, is, one, two, keeps, s.answer_is, s.authority_is) refl
+-- how an exchange ends
+module _ {Rules Doc Reason C : Type 0} (m : Meaning Rules Doc Reason C) (rules : Rules) (c : Client C Rules Doc Reason) (kind : Kind) (answer : Answer C Rules Doc Reason)
+    (t : Told C Rules Doc Reason) (is : t ≡ told answer) (keeper : Client C Rules Doc Reason) (keeps : keeper ≡ kept (composed c kind) answer) where
+  pub lost-ends : (lost : Bool) → lost ≡ true → (Exchanged t None, keeper) ≡ exchanges m rules c kind lost (Some answer)
+  lost-ends lost l = rw (l, is, keeps) refl
 
-    -- the client stands to the log that it sent to
-    pub stands-after : Laws m → IsKept m rules a → Kin m rules a.first a.log c → Kin m rules new.first new.log keeper
-    stands-after laws stood kin = rw (keeps, s.answer_is, s.authority_is) (given-moved m rules laws a stood c kin kind).after.own
+  pub taken-ends : (lost : Bool) → lost ≡ false → (n : ℕ) → n ≡ length c.answers + 1 → (x : Taken) (end : Client C Rules Doc Reason)
+      → (x, end) ≡ taken_at m rules keeper n → (Exchanged t (Some x), end) ≡ exchanges m rules c kind lost (Some answer)
+  taken-ends lost l n number x end took =
+      let same : (x, end) ≡ taken m rules keeper answer = took ∙ ap (λ k. taken_at m rules k n) keeps ∙ taken-last m rules (composed c kind) answer n number
+      ∙ ap (λ k. taken m rules k answer) (sym keeps) in
+      let one : x ≡ (taken m rules keeper answer).0 = ap (λ p. p.0) same in
+      let two : end ≡ (taken m rules keeper answer).1 = ap (λ p. p.1) same in
+      rw (l, is, one, two, keeps) refl

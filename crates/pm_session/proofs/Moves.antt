@@ -3,6 +3,8 @@ use Rattle.std.specs.List.{AllByRecursion as Each}
 use Rattle.std.specs.Prelude.{if◌then◌else◌, nat_lt, ◌≡◌, ℕ, ℤ, zero, suc, ◌+◌, ◌-◌, ◌<◌, Bool, true, false, List, [], ◌∷◌, ◌++◌, length, slice_get, Option, Some, None, Result, Ok, Err, refl}
 use Rattle.std.proofs.Common.{cond, sym, ap, ◌∙◌, subst, arith, append-nil, length-append}
 use Rattle.std.proofs.lemmas.Bool.{ltb-false}
+use Rattle.std.proofs.lemmas.List.Elements.{All-from_recursion}
+use Rattle.pm_client.specs.Lists.{Each-append}
 use Rattle.pm_map.specs.Moves.{IsSide}
 use Rattle.pm_change.specs.Changes.{Meaning, Laws}
 use Rattle.pm_history.specs.declared.branch.Event.{Event}
@@ -12,6 +14,7 @@ use Rattle.pm_authority.specs.declared.named.Named.{Named}
 use Rattle.pm_authority.specs.declared.running.Refusal.{Refusal}
 use Rattle.pm_authority.specs.declared.message.Message.{Message}
 use Rattle.pm_authority.specs.Kept.{IsKept}
+use Rattle.pm_authority.specs.Requests.{NamedBy}
 use Rattle.pm_authority.specs.Presents.{presented}
 use Rattle.pm_client.specs.declared.client.Client.{Client}
 use Rattle.pm_client.specs.declared.taken.Kind.{Kind}
@@ -23,14 +26,15 @@ use Rattle.pm_client.specs.Keeps.{kin-edited, kin-cursor, kin-composed}
 use Rattle.pm_client.proofs.Turns.{kin-turned}
 use Rattle.pm_client.specs.Answering.{After, presented-kept, presented-only}
 use Rattle.pm_session.specs.declared.line.Act.{Act}
-use Rattle.pm_session.specs.declared.line.Act.TheVariants.{Edit, Undo, Redo, Cursor, Submit, Ask, Present, Take, Push, Pull}
+use Rattle.pm_session.specs.declared.line.Act.TheVariants.{Edit, Undo, Redo, Cursor, Submit, Ask, Present, Take, Push, Pull, Forge}
 use Rattle.pm_session.specs.declared.maker.NoSteps.{NoSteps}
 use Rattle.pm_session.specs.declared.maker.NoSteps.TheVariants.{Range, NotThere, NoFit as FitsNowhere, NoMemory}
-use Rattle.pm_session.specs.Events.{edits, turns, sets, made, presents, exchanges, acted}
+use Rattle.pm_session.specs.Events.{edits, turns, sets, made}
 use Rattle.pm_session.specs.declared.outcome.Outcome.{Outcome}
 use Rattle.pm_session.specs.declared.outcome.Outcome.TheVariants.{NoRange, CursorAt}
 use Rattle.pm_session.specs.Suits.{composes_one, gets_one, NamesOneOf}
 use Rattle.pm_session.proofs.SoundLaws.{message-stands, new-stands, presented-own}
+use Rattle.pm_session.proofs.Editors.{presents, exchanges_at, editor_acts}
 use Rattle.pm_session.proofs.Keeping.{KeepsBox, edited-keeps, turned-keeps, taken-keeps, taken_at-keeps, taken-last}
 
 module _ {Rules Doc Reason C : Type 0} (m : Meaning Rules Doc Reason C) (rules : Rules) where
@@ -45,13 +49,21 @@ module _ {Rules Doc Reason C : Type 0} (m : Meaning Rules Doc Reason C) (rules :
     pub more : List (Named C)
     pub log_is : new.log ≡ a.log ++ more
     pub own : Each (IsOwn c.name) more
+    -- where each step that it composed has its name, so it is still
+    pub named : Each (NamedBy c.name) c.messages → Each (NamedBy next.name) next.messages
+
+-- each step of a message just composed has the client's name
+pub message-named : {Rules Doc Reason C : Type 0} (c : Client C Rules Doc Reason) (kind : Kind) → Each (IsOwn c.name) c.pending → NamedBy c.name (message_of c kind)
+message-named c Submission own = All-from_recursion (IsOwn c.name) c.pending own
+message-named c Asking own = tt
 
 module _ {Rules Doc Reason C : Type 0} (m : Meaning Rules Doc Reason C) (rules : Rules) (laws : Laws m) (a : Authority C Rules Doc Reason) (stood : IsKept m rules a)
     (c : Client C Rules Doc Reason) (kin : Kin m rules a.first a.log c) where
   -- the client alone became another
   moved-alone : (composes gets : Bool) (next : Client C Rules Doc Reason) → next.name ≡ c.name → length next.messages ≡ length c.messages + cond composes 1 0
-      → length next.answers ≡ length c.answers + cond gets 1 0 → Kin m rules a.first a.log next → Moved m rules a c composes gets a next
-  moved-alone composes gets next name messages answers k = record {
+      → length next.answers ≡ length c.answers + cond gets 1 0 → Kin m rules a.first a.log next
+      → (Each (NamedBy c.name) c.messages → Each (NamedBy next.name) next.messages) → Moved m rules a c composes gets a next
+  moved-alone composes gets next name messages answers k named = record {
     name = name;
     messages = messages;
     answers = answers;
@@ -59,11 +71,13 @@ module _ {Rules Doc Reason C : Type 0} (m : Meaning Rules Doc Reason C) (rules :
     more = [];
     log_is = sym (append-nil a.log);
     own = tt;
+    named = named;
   }
 
   -- it has the same messages and answers
   moved-box : (next : Client C Rules Doc Reason) → KeepsBox c next → Kin m rules a.first a.log next → Moved m rules a c false false a next
   moved-box next box k = moved-alone false false next box.name (omega (arith, ap length box.messages)) (omega (arith, ap length box.answers)) k
+      (λ h. rw (box.name, box.messages) h)
 
   pub unmoved : Moved m rules a c false false a c
   unmoved = moved-box c (record { name = refl; messages = refl; answers = refl }) kin
@@ -105,6 +119,7 @@ module _ {Rules Doc Reason C : Type 0} (m : Meaning Rules Doc Reason C) (rules :
   pub composes-moved : (kind : Kind) → Moved m rules a c true false a (composed c kind)
   composes-moved kind =
       moved-alone true false (composed c kind) refl (length-append c.messages (message_of c kind ∷ [])) (omega arith) (kin-composed m rules a.first a.log c kin kind)
+      (λ h. Each-append (NamedBy c.name) c.messages (message_of c kind ∷ []) h (message-named c kind kin.own, tt))
 
   -- the client presented a message that stands
   pub presented-moved : (message : Message C) → MessageStands c.version c.pending message → Moved m rules a c false false (presented m rules a message).1 c
@@ -118,6 +133,7 @@ module _ {Rules Doc Reason C : Type 0} (m : Meaning Rules Doc Reason C) (rules :
         more = own.0;
         log_is = own.1;
         own = own.2;
+        named = λ h. h;
       }
 
   -- and kept the answer
@@ -133,6 +149,7 @@ module _ {Rules Doc Reason C : Type 0} (m : Meaning Rules Doc Reason C) (rules :
         more = own.0;
         log_is = own.1;
         own = own.2;
+        named = λ h. h;
       }
 
 -- what was moved by one and then by another
@@ -151,6 +168,7 @@ moved-twice m rules a c mid gets new next one two = record {
   more = two.more;
   log_is = two.log_is;
   own = subst (λ (n : ℕ). Each (IsOwn n) two.more) one.name two.own;
+  named = λ h. two.named (one.named h);
 }
 
 module _ {Rules Doc Reason C : Type 0} (m : Meaning Rules Doc Reason C) (rules : Rules) (laws : Laws m) (a : Authority C Rules Doc Reason) (stood : IsKept m rules a)
@@ -171,7 +189,7 @@ module _ {Rules Doc Reason C : Type 0} (m : Meaning Rules Doc Reason C) (rules :
       moved-twice m rules a c (composed c kind) true p.1 (kept (composed c kind) p.0) (composes-moved m rules laws a stood c kin kind)
       (kept-moved m rules laws a stood (composed c kind) k (message_of c kind) (new-stands m rules laws c kind))
 
-  pub exchanges-moved : (kind : Kind) (lost : Bool) → Moved m rules a c true true (exchanges m rules a c kind lost).1 (exchanges m rules a c kind lost).2
+  pub exchanges-moved : (kind : Kind) (lost : Bool) → Moved m rules a c true true (exchanges_at m rules a c kind lost).1 (exchanges_at m rules a c kind lost).2
   exchanges-moved kind true = given-moved kind
   exchanges-moved kind false =
       let p = presented m rules a (message_of c kind) in
@@ -189,12 +207,13 @@ module _ {Rules Doc Reason C : Type 0} (m : Meaning Rules Doc Reason C) (rules :
         more = one.more;
         log_is = one.log_is;
         own = one.own;
+        named = λ h. rw (box.name, box.messages) (one.named h);
       }
 
   module _ {Op : Type 0} (makes : Doc → Op → Result (List C) NoSteps) where
     -- an act that suits the client
-    pub acted-moved : (act : Act Op) → NamesOneOf (length c.messages) (length c.answers) act
-        → Moved m rules a c (composes_one act) (gets_one act) (acted m rules makes a act c).1 (acted m rules makes a act c).2
+    pub acted-moved : (act : Act Op C) → NamesOneOf (length c.messages) (length c.answers) act
+        → Moved m rules a c (composes_one act) (gets_one act) (editor_acts m rules makes a act c).1 (editor_acts m rules makes a act c).2
     acted-moved (Edit op event) h = edits-moved m rules laws a stood c kin event (makes c.doc op)
     acted-moved Undo h = turns-moved m rules laws a stood c kin false
     acted-moved Redo h = turns-moved m rules laws a stood c kin true
@@ -204,6 +223,7 @@ module _ {Rules Doc Reason C : Type 0} (m : Meaning Rules Doc Reason C) (rules :
     acted-moved (Take n) h = takes-moved m rules laws a stood c kin n
     acted-moved (Push lost) h = exchanges-moved Submission lost
     acted-moved (Pull lost) h = exchanges-moved Asking lost
+    acted-moved (Forge version steps) h = unmoved m rules laws a stood c kin
     acted-moved (Present j) h = from (message_at c j) refl
       where
         some : {A : Type 0} (xs : List A) (k : ℕ) → k < length xs → (x : A) × (slice_get xs k ≡ Some x)

@@ -17,12 +17,10 @@ use Rattle.pm_client.specs.declared.taken.Kind.{Kind}
 use Rattle.pm_client.specs.declared.taken.Kind.TheVariants.{Submit as Submission, Ask as Asking}
 use Rattle.pm_client.specs.Clients.{message_of, message_at}
 use Rattle.pm_client.specs.Kins.{IsOwn, MessageStands, Kin}
-use Rattle.pm_client.specs.Lists.{Each-front, Each-append}
+use Rattle.pm_client.specs.Lists.{Each-front}
 use Rattle.pm_client.specs.Takings.{get-index}
 use Rattle.pm_client.specs.Keeps.{doc-good}
-use Rattle.pm_client.specs.Answering.{After}
-use Rattle.pm_session.specs.Events.{State, placed}
-use Rattle.pm_session.specs.Sounds.{Sound, IsOfOne}
+use Rattle.pm_session.specs.Sounds.{IsOfOne}
 
 -- a list with another item at i: it is that item there, and the old one elsewhere
 pub get-set : {A : Type 0} (xs : List A) (i k : ℕ) (v x : A) → slice_get (slice_set xs i v) k ≡ Some x
@@ -89,23 +87,3 @@ module _ {Rules Doc Reason C : Type 0} (m : Meaning Rules Doc Reason C) (rules :
           let same : version ≡ length a.log = eqb-true version (length a.log) e in
           let pre = h.1 (omega (arith, same, h.0, past)) in
           by-run (run m rules a.doc 0 steps) (Each-front (IsOwn c.name) steps pre.0 (rw (sym pre.1) at kin.own))
-
-  module _ (s : State C Rules Doc Reason) (sound : Sound m rules s) (i : ℕ) (c : Client C Rules Doc Reason) (at : slice_get s.clients i ≡ Some c) where
-    -- client i and the authority became others
-    pub sound-after : (new : Authority C Rules Doc Reason) (next : Client C Rules Doc Reason) → next.name ≡ c.name → After m rules s.authority c new next
-        → (more : List (Named C)) → new.log ≡ s.authority.log ++ more → Each (IsOwn c.name) more → Sound m rules (placed s i new next)
-    sound-after new next name after more log own = record {
-      authority = after.authority;
-      stand = λ k d h. here k d (get-set s.clients i k next d h);
-      entries = rw (set-length s.clients i next, log) (Each-append (IsOfOne (length s.clients)) s.authority.log more sound.entries
-          (of-one c.name (length s.clients) more (omega (arith, (sound.stand i c at).0, (get-index s.clients i c at).0)) own));
-    }
-      where
-        here : (k : ℕ) (d : Client C Rules Doc Reason) → ((k ≡ i) × (d ≡ next)) ⊎ ((k ≡ i → ⊥) × (slice_get s.clients k ≡ Some d))
-            → (d.name ≡ k) × Kin m rules new.first new.log d
-        here k d (inl h) =
-            let n : next.name ≡ k = name ∙ (sound.stand i c at).0 ∙ sym h.0 in
-            subst (λ (x : Client C Rules Doc Reason). (x.name ≡ k) × Kin m rules new.first new.log x) (sym h.1) (n, after.own)
-        here k d (inr h) =
-            let was = sound.stand k d h.1 in
-            (was.0, after.other d (λ e. h.0 (sym was.0 ∙ sym e ∙ (sound.stand i c at).0)) was.1)

@@ -28,13 +28,13 @@ use Rattle.pm_client.proofs.TokenLeads.{names-append}
 use Rattle.pm_client.proofs.TokenKeeps.{edited-keeps, taken-keeps}
 use Rattle.pm_client.proofs.Turns.{turned-keeps}
 use Rattle.pm_session.specs.declared.line.Act.{Act}
-use Rattle.pm_session.specs.declared.line.Act.TheVariants.{Edit, Undo, Redo, Cursor, Submit, Ask, Present, Take, Push, Pull}
+use Rattle.pm_session.specs.declared.line.Act.TheVariants.{Edit, Undo, Redo, Cursor, Submit, Ask, Present, Take, Push, Pull, Forge}
 use Rattle.pm_session.specs.declared.maker.NoSteps.{NoSteps}
 use Rattle.pm_session.specs.declared.maker.NoSteps.TheVariants.{Range, NotThere, NoFit as FitsNowhere, NoMemory}
 use Rattle.pm_session.specs.declared.outcome.Outcome.{Outcome}
 use Rattle.pm_session.specs.declared.outcome.Outcome.TheVariants.{NoRange, CursorAt}
-use Rattle.pm_session.specs.Events.{edits, turns, sets, made, presents, exchanges, acted}
-use Rattle.pm_session.specs.Left.{LeftAsWas, LeftPresenting, LeftExchanging, LeftBy}
+use Rattle.pm_session.specs.Events.{edits, turns, sets, made}
+use Rattle.pm_session.proofs.Editors.{presents, exchanges_at, editor_acts, AsWas, WasPresenting, WasExchanging, EditorLeft}
 use Rattle.pm_session.specs.Standing.{tokens_of, AreNamed, NonePinched}
 use Rattle.pm_session.proofs.Keeping.{edited-on, taken-one, taken-last}
 use Rattle.pm_session.proofs.Moves.{given-moved}
@@ -246,7 +246,7 @@ module _ {Rules Doc Reason C : Type 0} (m : Meaning Rules Doc Reason C) (rules :
         from None = omega arith
         from (Some x) = taken-rises c x
 
-    exchanges-stayed : (kind : Kind) (lost : Bool) → Stayed (exchanges m rules a c kind lost).1 (exchanges m rules a c kind lost).2
+    exchanges-stayed : (kind : Kind) (lost : Bool) → Stayed (exchanges_at m rules a c kind lost).1 (exchanges_at m rules a c kind lost).2
     exchanges-stayed kind true = given-stayed kind
     exchanges-stayed kind false =
         let p = presented m rules a (message_of c kind) in
@@ -274,21 +274,21 @@ module _ {Rules Doc Reason C : Type 0} (m : Meaning Rules Doc Reason C) (rules :
     presents-stayed None = unmoved
     presents-stayed (Some message) = kept-stayed message
 
-    as-was : (p : Authority C Rules Doc Reason × Client C Rules Doc Reason) → LeftAsWas m rules a c p → Stayed p.0 p.1
+    as-was : (p : Authority C Rules Doc Reason × Client C Rules Doc Reason) → AsWas m rules a c p → Stayed p.0 p.1
     as-was p e = subst (λ (q : Authority C Rules Doc Reason × Client C Rules Doc Reason). Stayed q.0 q.1) (sym e) unmoved
 
-    exchanging : (kind : Kind) (p : Authority C Rules Doc Reason × Client C Rules Doc Reason) → LeftExchanging m rules a c kind p → Stayed p.0 p.1
+    exchanging : (kind : Kind) (p : Authority C Rules Doc Reason × Client C Rules Doc Reason) → WasExchanging m rules a c kind p → Stayed p.0 p.1
     exchanging kind p (inl e) = as-was p e
     exchanging kind p (inr (inl e)) = subst (λ (q : Authority C Rules Doc Reason × Client C Rules Doc Reason). Stayed q.0 q.1) (sym e) (composed-stayed kind)
     exchanging kind p (inr (inr (inl e))) = subst (λ (q : Authority C Rules Doc Reason × Client C Rules Doc Reason). Stayed q.0 q.1) (sym e) (sent-stayed kind)
     exchanging kind p (inr (inr (inr e))) = subst (λ (q : Authority C Rules Doc Reason × Client C Rules Doc Reason). Stayed q.0 q.1) (sym e) (given-stayed kind)
 
-    presenting : (x : Message C) (p : Authority C Rules Doc Reason × Client C Rules Doc Reason) → LeftPresenting m rules a c x p → Stayed p.0 p.1
+    presenting : (x : Message C) (p : Authority C Rules Doc Reason × Client C Rules Doc Reason) → WasPresenting m rules a c x p → Stayed p.0 p.1
     presenting x p (inl e) = as-was p e
     presenting x p (inr e) = subst (λ (q : Authority C Rules Doc Reason × Client C Rules Doc Reason). Stayed q.0 q.1) (sym e) (presented-stayed x)
 
     module _ {Op : Type 0} where
-      pub acted-stayed : (makes : Doc → Op → Result (List C) NoSteps) (act : Act Op) → Stayed (acted m rules makes a act c).1 (acted m rules makes a act c).2
+      pub acted-stayed : (makes : Doc → Op → Result (List C) NoSteps) (act : Act Op C) → Stayed (editor_acts m rules makes a act c).1 (editor_acts m rules makes a act c).2
       acted-stayed makes (Edit op event) = edits-stayed event (makes c.doc op)
       acted-stayed makes Undo = turns-stayed false
       acted-stayed makes Redo = turns-stayed true
@@ -299,9 +299,10 @@ module _ {Rules Doc Reason C : Type 0} (m : Meaning Rules Doc Reason C) (rules :
       acted-stayed makes (Take n) = takes-stayed n
       acted-stayed makes (Push lost) = exchanges-stayed Submission lost
       acted-stayed makes (Pull lost) = exchanges-stayed Asking lost
+      acted-stayed makes (Forge version steps) = unmoved
 
       -- and so it is where an act ran out of memory
-      pub left-stayed : (act : Act Op) (p : Authority C Rules Doc Reason × Client C Rules Doc Reason) → LeftBy m rules a c act p → Stayed p.0 p.1
+      pub left-stayed : (act : Act Op C) (p : Authority C Rules Doc Reason × Client C Rules Doc Reason) → EditorLeft m rules a c act p → Stayed p.0 p.1
       left-stayed (Edit op event) p h = as-was p h
       left-stayed Undo p h = as-was p h
       left-stayed Redo p h = as-was p h
@@ -312,3 +313,4 @@ module _ {Rules Doc Reason C : Type 0} (m : Meaning Rules Doc Reason C) (rules :
       left-stayed (Take n) p h = as-was p h
       left-stayed (Push lost) p h = exchanging Submission p h
       left-stayed (Pull lost) p h = exchanging Asking p h
+      left-stayed (Forge version steps) p h = as-was p h

@@ -25,6 +25,22 @@ use Rattle.pm_session.specs.declared.outcome.Outcome.{Outcome}
 use Rattle.pm_session.specs.declared.outcome.Outcome.TheVariants.{Made, Nothing, NoRange, NoPlace, NoFit, Refused, CursorAt, Composed, Answered, Took, Exchanged}
 use Rattle.pm_session.specs.declared.room.Room.{Room}
 
+module _ {C : Type 0} where
+  -- The message that a raw client of this name, which has drawn so many serials, presents by this act: `Forge` presents its
+  -- steps at its version, named by the client and its next serials. No other act presents one.
+  abbrev pub asked_by_raw : {Op : Type 0} → Act Op C → ℕ → ℕ → Option (Message C)
+  asked_by_raw (Forge version steps) name serial = Some (SubmitMessage version (named name (serial + 1) steps))
+  asked_by_raw (Edit op event) name serial = None
+  asked_by_raw Undo name serial = None
+  asked_by_raw Redo name serial = None
+  asked_by_raw (Cursor p side) name serial = None
+  asked_by_raw Submit name serial = None
+  asked_by_raw Ask name serial = None
+  asked_by_raw (Present j) name serial = None
+  asked_by_raw (Take n) name serial = None
+  asked_by_raw (Push lost) name serial = None
+  asked_by_raw (Pull lost) name serial = None
+
 -- A room, without where its members lie in memory: the authority, and member i at place i.
 pub record State (C Rules Doc Reason : Type 0) : Type 0 where
   pub authority : Authority C Rules Doc Reason
@@ -73,21 +89,6 @@ module _ {Rules Doc Reason C : Type 0} where
   asked_by_editor Ask c = None
   asked_by_editor (Take n) c = None
   asked_by_editor (Forge version steps) c = None
-
-  -- The message that a raw client of this name, which has drawn so many serials, presents by this act: `Forge` presents its
-  -- steps at its version, named by the client and its next serials. No other act presents one.
-  abbrev pub asked_by_raw : {Op : Type 0} → Act Op C → ℕ → ℕ → Option (Message C)
-  asked_by_raw (Forge version steps) name serial = Some (SubmitMessage version (named name (serial + 1) steps))
-  asked_by_raw (Edit op event) name serial = None
-  asked_by_raw Undo name serial = None
-  asked_by_raw Redo name serial = None
-  asked_by_raw (Cursor p side) name serial = None
-  asked_by_raw Submit name serial = None
-  asked_by_raw Ask name serial = None
-  asked_by_raw (Present j) name serial = None
-  asked_by_raw (Take n) name serial = None
-  asked_by_raw (Push lost) name serial = None
-  asked_by_raw (Pull lost) name serial = None
 
   -- the message that a member presents to the authority by this act, if any
   abbrev pub asked : {Op : Type 0} → Act Op C → Member C Rules Doc Reason → Option (Message C)

@@ -1,0 +1,14 @@
+pub mod Makes
+pub mod Members
+pub mod Hosts
+pub mod Events
+pub mod Refusals
+pub mod Sessions
+pub mod Left
+pub mod Suits
+pub mod Sounds
+pub mod Standing
+pub mod Restoring
+pub mod Openings
+pub mod Holding
+pub mod Answers

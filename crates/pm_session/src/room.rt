@@ -14,8 +14,8 @@ ghost use Rattle.pm_session.specs.declared.line.Line.{Line};
 ghost use Rattle.pm_session.specs.declared.member.Member.{Member};
 ghost use Rattle.pm_session.specs.Suits.{SuitsRoom, LinesSuit};
 
-use crate::acting::act;
-use crate::exchange::exchange;
+use crate::acting::act_at;
+use crate::exchange::exchange_at;
 use crate::host::AtAuthority;
 use crate::line::Line;
 use crate::maker::Maker;
