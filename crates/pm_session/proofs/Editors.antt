@@ -1,6 +1,6 @@
 -- What one editor does at an authority, and what want of memory leaves of it.
-use Rattle.std.specs.Prelude.{◌≡◌, ◌⊎◌, ℕ, ◌+◌, Bool, true, false, List, slice_get, Option, Some, None, Result, refl}
-use Rattle.std.proofs.Common.{sym, ap, ◌∙◌, subst, inl, inr}
+use Rattle.std.specs.Prelude.{◌≡◌, ◌⊎◌, Bool, List, Option, Some, None, Result, refl}
+use Rattle.std.proofs.Common.{ap, ◌∙◌, inl, inr}
 use Rattle.pm_change.specs.Changes.{Meaning}
 use Rattle.pm_authority.specs.declared.message.Message.{Message}
 use Rattle.pm_authority.specs.declared.message.Answer.{Answer}
@@ -13,12 +13,12 @@ use Rattle.pm_client.specs.Clients.{undone_last, redone_last, message_of, messag
 use Rattle.pm_session.specs.declared.line.Act.{Act}
 use Rattle.pm_session.specs.declared.line.Act.TheVariants.{Edit, Undo, Redo, Cursor, Submit, Ask, Present, Take, Push, Pull, Forge}
 use Rattle.pm_session.specs.declared.member.Member.{Member}
-use Rattle.pm_session.specs.declared.member.Member.TheVariants.{Editor, Raw}
+use Rattle.pm_session.specs.declared.member.Member.TheVariants.{Editor}
 use Rattle.pm_session.specs.declared.maker.NoSteps.{NoSteps}
 use Rattle.pm_session.specs.declared.outcome.Outcome.{Outcome}
 use Rattle.pm_session.specs.declared.outcome.Outcome.TheVariants.{NoPlace}
-use Rattle.pm_session.specs.Events.{edits, turns, sets, composes, takes, keeps, ends, exchanges, by_answer, member_exchanges, acted}
-use Rattle.pm_session.specs.Left.{AuthorityTells, LeftAsWas, LeftPresenting, LeftExchanging, LeftBy, LeftByMember}
+use Rattle.pm_session.specs.Events.{edits, turns, sets, composes, takes, keeps, ends, by_answer, acted}
+use Rattle.pm_session.specs.Left.{AuthorityTells, LeftAsWas, LeftPresenting, LeftExchanging, LeftBy}
 
 module _ {Rules Doc Reason C : Type 0} where
   -- an act that leaves the authority as it was
@@ -109,8 +109,15 @@ module _ {Rules Doc Reason C : Type 0} (m : Meaning Rules Doc Reason C) (rules :
   EditorLeft a c (Forge version steps) p = AsWas a c p
 
   module _ (a new : Authority C Rules Doc Reason) (c : Client C Rules Doc Reason) (next : Member C Rules Doc Reason) where
-    pair : (b : Authority C Rules Doc Reason) (d : Client C Rules Doc Reason) → new ≡ b → (new, d) ≡ (b, d)
-    pair b d e = ap (λ (x : Authority C Rules Doc Reason). (x, d)) e
+    abbrev Both : Type 0
+    Both = Authority C Rules Doc Reason × Client C Rules Doc Reason
+
+    with-client : Client C Rules Doc Reason → Authority C Rules Doc Reason → Both
+    with-client d x = (x, d)
+
+    pair : (b : Authority C Rules Doc Reason) (d : Client C Rules Doc Reason) → new ≡ b → ◌≡◌ {A = Both} (new, d) (b, d)
+    unfolding with-client
+    pair b d e = ap (with-client d) e
 
     answered : (message : Message C) (answer : Answer C Rules Doc Reason) → AuthorityTells m rules a new message answer
         → (new ≡ (presented m rules a message).1) × (answer ≡ (presented m rules a message).0)
@@ -133,8 +140,7 @@ module _ {Rules Doc Reason C : Type 0} (m : Meaning Rules Doc Reason C) (rules :
         (composed c kind, h.2, inr (inr (inl (pair q.1 (composed c kind) (answered (message_of c kind) h.0 h.1).0))))
     exchanging kind (inr (inr (inr h))) =
         let q = presented m rules a (message_of c kind) in
-        let e = answered (message_of c kind) h.0 h.1 in
-        (
+        let e = answered (message_of c kind) h.0 h.1 in (
           kept (composed c kind) q.0,
           h.2 ∙ ap (λ x. Editor (kept (composed c kind) x)) e.1,
           inr (inr (inr (pair q.1 (kept (composed c kind) q.0) e.0))),

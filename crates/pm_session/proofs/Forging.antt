@@ -1,13 +1,14 @@
 -- What a raw client's submission leaves: a log in which names differ, and to which every editor stands.
 use Rattle.std.specs.List.{AllByRecursion as Each}
-use Rattle.std.specs.Prelude.{◌≡◌, ℕ, zero, suc, ◌+◌, ◌<◌, ◌≤◌, ◌==◌, if◌then◌else◌, Bool, true, false, List, [], ◌∷◌, ◌++◌, length, Result, Ok, Err, refl}
+use Rattle.std.specs.Prelude.{◌≡◌, ℕ, suc, ◌+◌, ◌<◌, ◌≤◌, ◌==◌, if◌then◌else◌, Bool, true, false, List, [], ◌∷◌, ◌++◌, length, take, Some, Result, Ok, Err, IfOk, OnErr, All, refl}
 use Rattle.std.proofs.Common.{sym, ap, ◌∙◌, subst, arith, append-nil}
 use Rattle.std.proofs.lemmas.List.Elements.{All-from_recursion}
-use Rattle.std.proofs.lemmas.Bool.{eq-eqb, eqb-true}
+use Rattle.std.proofs.lemmas.Bool.{eqb-true}
 use Rattle.pm_change.specs.Changes.{Meaning, Laws}
 use Rattle.pm_authority.specs.declared.named.Named.{Named}
 use Rattle.pm_authority.specs.declared.running.Refusal.{Refusal}
 use Rattle.pm_authority.specs.declared.message.Message.TheVariants.{Submit}
+use Rattle.pm_authority.specs.declared.message.Answer.{Answer}
 use Rattle.pm_authority.specs.declared.message.Answer.TheVariants.{WrongVersion}
 use Rattle.pm_authority.specs.declared.authority.Authority.{Authority}
 use Rattle.pm_authority.specs.Kept.{IsKept}
@@ -23,6 +24,11 @@ use Rattle.pm_client.specs.Lists.{Each-append}
 use Rattle.pm_client.specs.LogNames.{LogOf}
 use Rattle.pm_client.specs.Serials.{times, own_serials, serials_of, Rises}
 use Rattle.pm_client.specs.SerialLists.{own_serials-append, own_serials-own, rises-append}
+use Rattle.pm_session.specs.declared.member.Member.{Member}
+use Rattle.pm_session.specs.declared.member.Member.TheVariants.{Editor, Raw}
+use Rattle.pm_session.specs.declared.outcome.Outcome.{Outcome}
+use Rattle.pm_session.specs.Events.{draws}
+use Rattle.pm_session.specs.Hosts.{IsAnswered}
 use Rattle.pm_session.specs.Sounds.{IsDrawn}
 
 -- steps that were named by a client
@@ -64,11 +70,32 @@ module _ {C : Type 0} (client : ℕ) where
   -- the serials of the client's own entries are among those that it drew
   own-drawn : (k : ℕ) (log : List (Named C)) → Each (IsDrawn client k) log → Each (λ x. x ≤ k) (own_serials client log)
   own-drawn k [] h = tt
-  own-drawn k (x ∷ log) h = by-test (x.name.client == client) refl
+  own-drawn k (x ∷ log) h = by-test (x.name.client == client) refl (own-drawn k log h.1)
     where
-      by-test : (b : Bool) → (x.name.client == client) ≡ b → Each (λ y. y ≤ k) (if b then x.name.serial ∷ own_serials client log else own_serials client log)
-      by-test true e = (h.0 (eqb-true x.name.client client e), own-drawn k log h.1)
-      by-test false e = own-drawn k log h.1
+      by-test : (b : Bool) → (x.name.client == client) ≡ b → Each (λ y. y ≤ k) (own_serials client log)
+          → Each (λ y. y ≤ k) (if b then x.name.serial ∷ own_serials client log else own_serials client log)
+      by-test true e rest = (h.0 (eqb-true x.name.client client e), rest)
+      by-test false e rest = rest
+
+named-push : {C : Type 0} (client serial : ℕ) (cs : List C) (c : C)
+    → named client serial (cs ++ c ∷ []) ≡ named client serial cs ++ record { name = record { client = client; serial = serial + length cs }; change = c } ∷ []
+named-push client serial [] c = let e : serial ≡ serial + 0 = omega arith in ap (λ n. record { name = record { client = client; serial = n }; change = c } ∷ []) e
+named-push client serial (d ∷ cs) c =
+    let e : serial + 1 + length cs ≡ serial + length (d ∷ cs) = omega arith in
+    ap (λ l. record { name = record { client = client; serial = serial }; change = d } ∷ l)
+    (named-push client (serial + 1) cs c ∙ ap (λ n. named client (serial + 1) cs ++ record { name = record { client = client; serial = n }; change = c } ∷ []) e)
+
+-- one step more was named
+pub push-named : {C : Type 0} (client serial k last : ℕ) (cs : List C) (all : List (Named C)) (c d : C) → all ≡ named client (serial + 1) (take k cs)
+    → length (take k cs) ≡ k → last ≡ serial + k → d ≡ c → take (k + 1) cs ≡ take k cs ++ c ∷ []
+    → all ++ record { name = record { client = client; serial = last + 1 }; change = d } ∷ [] ≡ named client (serial + 1) (take (k + 1) cs)
+push-named client serial k last cs all c d all_is size last_is same more =
+    let number : last + 1 ≡ serial + 1 + length (take k cs) = omega (arith, size, last_is) in
+    rw (more, all_is, same, number) (sym (named-push client (serial + 1) (take k cs) c))
+
+-- steps that a client named are named by it
+pub named-by : {C : Type 0} (client serial : ℕ) (cs : List C) (steps : List (Named C)) → steps ≡ named client serial cs → All (λ (n : Named C). n.name.client ≡ client) steps
+named-by client serial cs steps is = rw is (All-from_recursion (IsOwn client) (named client serial cs) (named-own client serial cs))
 
 -- numbers that rise stand once
 times-none : (s : ℕ) (xs : List ℕ) → Each (λ y. s < y) xs → times s xs ≡ 0
@@ -162,3 +189,28 @@ module _ {Rules Doc Reason C : Type 0} (m : Meaning Rules Doc Reason C) (rules :
   -- each step of the submission has the client's name
   pub forged-named : (version : ℕ) → NamedBy name (Submit version steps)
   forged-named version = All-from_recursion (IsOwn name) steps (named-own name (serial + 1) cs)
+
+-- how many serials a raw client drew
+abbrev drawn_of : {Rules Doc Reason C : Type 0} → Member C Rules Doc Reason → ℕ
+drawn_of (Raw name serial) = serial
+drawn_of (Editor c) = 0
+
+-- the raw client's own entries and others' at a host
+module _ {Rules Doc Reason C : Type 0} (m : Meaning Rules Doc Reason C) (rules : Rules) (laws : Laws m) (name serial : ℕ) (cs : List C) (version : ℕ) (first : Doc) where
+  pub drawn-hosted-at : (log new : List (Named C)) (answer : Answer C Rules Doc Reason) → Each (IsDrawn name serial) log → IsAnswered m rules name first log (Submit version (named name (serial + 1) cs)) answer new
+      → Each (IsDrawn name (serial + length cs)) new
+  drawn-hosted-at log new answer drawn h =
+      let before : Each (IsDrawn name serial) h.authority.log = rw h.log_is (Each-append (IsDrawn name serial) log h.others drawn (drawn-foreign name serial h.others h.foreign)) in
+      subst (Each (IsDrawn name (serial + length cs))) (sym h.new_is) (forged m rules laws h.authority h.kept name serial before cs version).drawn
+
+  -- so it is whether the raw client ran out of memory or not
+  pub either-drawn : {E H : Type 0} (log_of : H → List (Named C)) (old after : H) (Tells : Answer C Rules Doc Reason → Type 0) (r : Result (Outcome C Rules Doc Reason) E) (next : ℕ)
+      → Each (IsDrawn name serial) (log_of old)
+      → IfOk r (λ o. (answer : Answer C Rules Doc Reason) × Tells answer
+      × IsAnswered m rules name first (log_of old) (Submit version (named name (serial + 1) cs)) answer (log_of after)
+      × ((o, Raw name next) ≡ draws name serial (length cs) (Some answer)))
+      → OnErr r ((after ≡ old) × (next ≡ serial)) → Each (IsDrawn name next) (log_of after)
+  either-drawn log_of old after Tells (Err e) next drawn told err = rw (err.0, err.1) drawn
+  either-drawn log_of old after Tells (Ok o) next drawn told err =
+      let same : next ≡ serial + length cs = ap (λ p. drawn_of p.1) told.3 in
+      rw same (drawn-hosted-at (log_of old) (log_of after) told.0 drawn told.2)

@@ -1,6 +1,6 @@
 -- A line that ran out of memory leaves a sound room.
-use Rattle.std.specs.Prelude.{◌≡◌, ℕ, Bool, true, false, List, length, slice_get, Some, Result, Ok, Err, IfOk, OnErr, refl}
-use Rattle.std.proofs.Common.{sym, ap, ◌∙◌, subst, inl, inr}
+use Rattle.std.specs.Prelude.{◌≡◌, ℕ, Bool, true, false, Some, Result, Ok, Err, OnErr}
+use Rattle.std.proofs.Common.{sym, subst, inl, inr}
 use Rattle.pm_change.specs.Changes.{Meaning, Laws}
 use Rattle.pm_authority.specs.declared.authority.Authority.{Authority}
 use Rattle.pm_authority.specs.declared.message.Message.{Message}
@@ -13,8 +13,6 @@ use Rattle.pm_client.specs.Kins.{Kin}
 use Rattle.pm_session.specs.declared.line.Act.{Act}
 use Rattle.pm_session.specs.declared.line.Act.TheVariants.{Edit, Undo, Redo, Cursor, Submit, Ask, Present, Take, Push, Pull, Forge}
 use Rattle.pm_session.specs.declared.line.Line.{Line}
-use Rattle.pm_session.specs.declared.maker.NoSteps.{NoSteps}
-use Rattle.pm_session.specs.declared.outcome.Outcome.{Outcome}
 use Rattle.pm_session.specs.Events.{State}
 use Rattle.pm_session.specs.Left.{LeftByLine, LeftByExchange, LeftPulling}
 use Rattle.pm_session.proofs.Editors.{AsWas, WasPresenting, WasExchanging, EditorLeft}

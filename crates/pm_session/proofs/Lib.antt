@@ -9,3 +9,14 @@ pub mod Stays
 pub mod Forging
 pub mod MemberMoves
 pub mod Hosted
+pub mod Unrefusing
+pub mod Opening
+pub mod Playing
+pub mod Rooms
+pub mod Restorings
+pub mod Unrefused
+pub mod Turns
+pub mod Settling
+pub mod Holdings
+pub mod RoomActs
+pub mod Alone

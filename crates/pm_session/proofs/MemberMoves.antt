@@ -1,22 +1,18 @@
 -- What a member's act makes of it and of the authority, and that the room is sound after it.
 use Rattle.std.specs.List.{AllByRecursion as Each}
-use Rattle.std.specs.Prelude.{◌≡◌, ◌⊎◌, ℕ, ◌+◌, ◌<◌, ◌==◌, Bool, true, false, List, [], ◌++◌, length, slice_get, slice_set, Option, Some, None, Result, Ok, Err, IfOk, OnErr, refl}
+use Rattle.std.specs.Prelude.{◌≡◌, ◌⊎◌, ℕ, ◌==◌, Bool, true, false, List, [], ◌++◌, length, slice_get, Some, Result, refl}
 use Rattle.std.proofs.Common.{sym, ap, ◌∙◌, subst, inl, inr, arith, append-nil}
-use Rattle.std.proofs.lemmas.Bool.{eqb-true}
+use Rattle.std.proofs.lemmas.Bool.{eq-eqb, eqb-true}
 use Rattle.pm_change.specs.Changes.{Meaning, Laws}
 use Rattle.pm_authority.specs.declared.named.Named.{Named}
-use Rattle.pm_authority.specs.declared.message.Message.{Message}
-use Rattle.pm_authority.specs.declared.message.Answer.{Answer}
 use Rattle.pm_authority.specs.declared.authority.Authority.{Authority}
 use Rattle.pm_authority.specs.Kept.{IsKept}
-use Rattle.pm_authority.specs.Presents.{presented}
 use Rattle.pm_client.specs.declared.client.Client.{Client}
 use Rattle.pm_client.specs.declared.taken.Kind.{Kind}
-use Rattle.pm_client.specs.Clients.{message_of}
-use Rattle.pm_client.specs.Kins.{IsOwn, IsForeign, Kin}
+use Rattle.pm_client.specs.Kins.{IsOwn, Kin}
 use Rattle.pm_client.specs.Lists.{Each-append}
 use Rattle.pm_client.specs.LogNames.{LogOf, kin-log}
-use Rattle.pm_client.specs.Serials.{times, own_serials, Rises}
+use Rattle.pm_client.specs.Serials.{own_serials}
 use Rattle.pm_client.specs.SerialLists.{own_serials-append, own_serials-foreign}
 use Rattle.pm_client.specs.Takings.{get-index}
 use Rattle.pm_session.specs.declared.line.Act.{Act}
@@ -24,18 +20,16 @@ use Rattle.pm_session.specs.declared.line.Act.TheVariants.{Edit, Undo, Redo, Cur
 use Rattle.pm_session.specs.declared.member.Member.{Member}
 use Rattle.pm_session.specs.declared.member.Member.TheVariants.{Editor, Raw}
 use Rattle.pm_session.specs.declared.maker.NoSteps.{NoSteps}
-use Rattle.pm_session.specs.declared.outcome.Outcome.{Outcome}
-use Rattle.pm_session.specs.Events.{State, placed, by_answer, asked, finished, member_exchanges, acted}
+use Rattle.pm_session.specs.Events.{State, placed, member_exchanges, acted}
 use Rattle.pm_session.specs.Left.{AuthorityTells, LeftBy, LeftByMember}
 use Rattle.pm_session.specs.Members.{name_of, is_raw}
-use Rattle.pm_session.specs.Sounds.{IsOfOne, IsDrawn, NamesDiffer, EditorStands, MemberStands, Sound}
+use Rattle.pm_session.specs.Sounds.{IsOfOne, IsDrawn, EditorStands, MemberStands, Sound}
 use Rattle.pm_session.specs.Suits.{composes_one, gets_one, ActSuits}
-use Rattle.pm_session.proofs.Editors.{lifted, exchanges_at, editor_acts, acted-editor, left-editor, exchanging as exchanging-editor}
+use Rattle.pm_session.proofs.Editors.{exchanges_at, editor_acts, acted-editor, left-editor, exchanging as exchanging-editor}
 use Rattle.pm_session.proofs.Forging.{drawn-foreign, others-foreign, forged}
 use Rattle.pm_session.proofs.Lefts.{left-moved, exchanging}
-use Rattle.pm_session.proofs.Moves.{Moved, unmoved, exchanges-moved, acted-moved}
+use Rattle.pm_session.proofs.Moves.{Moved, exchanges-moved, acted-moved}
 use Rattle.pm_session.proofs.SoundLaws.{get-set, set-length, of-one}
-use Rattle.pm_session.proofs.Stays.{presented-first, acted-stayed, left-stayed}
 
 -- A member became the next one, and the authority the new one. Each editor of another name stands as before.
 pub record MemberMoved {Rules Doc Reason C : Type 0} (m : Meaning Rules Doc Reason C) (rules : Rules) (a : Authority C Rules Doc Reason) (x : Member C Rules Doc Reason)
@@ -170,7 +164,7 @@ module _ {Rules Doc Reason C : Type 0} (m : Meaning Rules Doc Reason C) (rules :
             record { rise = rw is (was client).rise; once = λ k. rw is ((was client).once k) }
           where
             differ : (a b : ℕ) → (a == b) ≡ false → a ≡ b → ⊥
-            differ a b e same = absurd (omega (arith, e, same))
+            differ a b e same = let t : (a == b) ≡ true = eq-eqb a b same in absurd (cc)
 
     -- the room is sound when member i and the authority became others
     pub moved-sound : Sound m rules (placed s i new next)

@@ -20,7 +20,7 @@ use Rattle.pm_authority.specs.Presents.{tried, presented}
 use Rattle.pm_client.specs.declared.client.Client.{Client}
 use Rattle.pm_client.specs.declared.taken.Kind.{Kind}
 use Rattle.pm_client.specs.declared.taken.Kind.TheVariants.{Submit as Submission, Ask as Asking}
-use Rattle.pm_client.specs.Clients.{edited, event_turned, last_turned, cursor_set, message_of, message_at, composed, kept, taken, taken_at, taken_if, answer_at}
+use Rattle.pm_client.specs.Clients.{edited, last_turned, cursor_set, message_of, message_at, composed, kept, taken, taken_at, taken_if, answer_at}
 use Rattle.pm_client.specs.Kins.{Kin}
 use Rattle.pm_client.specs.Serials.{serials_of, own_serials}
 use Rattle.pm_client.specs.TokenNames.{Token, Has, first_names, names_after, AllDiffer, passed, MayName, KeepsTokens}
@@ -246,7 +246,7 @@ module _ {Rules Doc Reason C : Type 0} (m : Meaning Rules Doc Reason C) (rules :
         from None = omega arith
         from (Some x) = taken-rises c x
 
-    exchanges-stayed : (kind : Kind) (lost : Bool) → Stayed (exchanges_at m rules a c kind lost).1 (exchanges_at m rules a c kind lost).2
+    pub exchanges-stayed : (kind : Kind) (lost : Bool) → Stayed (exchanges_at m rules a c kind lost).1 (exchanges_at m rules a c kind lost).2
     exchanges-stayed kind true = given-stayed kind
     exchanges-stayed kind false =
         let p = presented m rules a (message_of c kind) in

@@ -1,5 +1,5 @@
 -- What holds of a room.
-use Rattle.std.specs.Prelude.{◌≡◌, ℕ, ◌≤◌, List, [], length, take, slice_get, Some}
+use Rattle.std.specs.Prelude.{◌≡◌, ℕ, ◌≤◌, [], length, take, slice_get, Some}
 use Rattle.pm_change.specs.Changes.{Meaning}
 use Rattle.pm_authority.specs.Kept.{IsKept}
 use Rattle.pm_authority.specs.Runs.{AllApply}

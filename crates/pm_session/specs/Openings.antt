@@ -1,12 +1,12 @@
 -- Lines that suit a room just opened.
 use Rattle.std.specs.Prelude.{◌≡◌, ℕ, zero, suc, ◌+◌, Bool, true, false, List, [], ◌∷◌, length, slice_get, Some, refl}
-use Rattle.std.proofs.Common.{sym, ap, ◌∙◌, arith}
+use Rattle.std.proofs.Common.{sym, ap, arith}
 use Rattle.pm_client.specs.declared.client.Client.{Client}
 use Rattle.pm_client.specs.Clients.{new_client}
 use Rattle.pm_session.specs.declared.member.Member.{Member}
-use Rattle.pm_session.specs.declared.member.Member.TheVariants.{Editor, Raw}
+use Rattle.pm_session.specs.declared.member.Member.TheVariants.{Editor}
 use Rattle.pm_session.specs.declared.line.Line.{Line}
-use Rattle.pm_session.specs.Members.{is_raw, kinds_of}
+use Rattle.pm_session.specs.Members.{kinds_of}
 use Rattle.pm_session.specs.Sessions.{new_member, new_members, opened}
 use Rattle.pm_session.specs.Suits.{AllSuit, LinesSuit}
 
@@ -31,11 +31,12 @@ module _ {Rules Doc Reason C : Type 0} (doc : Doc) where
       let is : c ≡ new_client i doc = cc in
       (ap (λ (x : Client C Rules Doc Reason). length x.messages) is, ap (λ (x : Client C Rules Doc Reason). length x.answers) is)
 
-  -- the members are of the kinds that were asked for
-  pub kinds-new : (i : ℕ) (raw : List Bool) → kinds_of (new_members {Rules = Rules} {Reason = Reason} {C = C} doc i raw) ≡ raw
-  kinds-new i [] = refl
-  kinds-new i (true ∷ raw) = ap (λ l. true ∷ l) (kinds-new (i + 1) raw)
-  kinds-new i (false ∷ raw) = ap (λ l. false ∷ l) (kinds-new (i + 1) raw)
+-- the members are of the kinds that were asked for
+pub kinds-new : (Rules Doc Reason C : Type 0) (doc : Doc) (i : ℕ) (raw : List Bool)
+    → kinds_of (new_members {Rules = Rules} {Doc = Doc} {Reason = Reason} {C = C} doc i raw) ≡ raw
+kinds-new Rules Doc Reason C doc i [] = refl
+kinds-new Rules Doc Reason C doc i (true ∷ raw) = ap (λ l. true ∷ l) (kinds-new Rules Doc Reason C doc (i + 1) raw)
+kinds-new Rules Doc Reason C doc i (false ∷ raw) = ap (λ l. false ∷ l) (kinds-new Rules Doc Reason C doc (i + 1) raw)
 
 -- lines of clients of these kinds, the first of which follows no other, suit a room opened with these clients
 pub opened-suits : {Op : Type 0} (Rules Doc Reason C : Type 0) (doc : Doc) (raw : List Bool) (lines : List (Line Op C)) → AllSuit raw [] lines
@@ -43,5 +44,5 @@ pub opened-suits : {Op : Type 0} (Rules Doc Reason C : Type 0) (doc : Doc) (raw 
 opened-suits Rules Doc Reason C doc raw lines suit = record {
   earlier = [];
   counted = λ i c at. let is = new-at doc 0 raw i (Editor c) at in new-empty doc (0 + i) is.0 c is.2;
-  suit = rw (kinds-new {Rules = Rules} {Reason = Reason} {C = C} doc 0 raw) suit;
+  suit = rw (kinds-new Rules Doc Reason C doc 0 raw) suit;
 }

@@ -12,7 +12,7 @@ ghost use Rattle.pm_session.specs.declared.member.Member.TheVariants.{Editor, Ra
 
 use crate::exchange::{exchange, present};
 use crate::forge::forge;
-use crate::host::{AtAuthority, Host};
+use crate::host::Host;
 use crate::line::{Act, Line};
 use crate::local::{compose, edit, redo, set_cursor, take, undo};
 use crate::maker::Maker;
@@ -34,22 +34,20 @@ pub fn act<C: Change, K: Maker<C>, H: Host<C>>(
     host: &mut H,
     line: &Line<K::Op, C>,
 ) -> Result<Outcome<C>, AllocError>
-    requires rules { H.rules host.old ≡ rules.now }
-    requires served { H.serves host.old line.now.client }
+    requires served { H.serves host.old rules.now line.now.client }
     requires suits { SuitsMember member.old line.now }
     requires stands { MemberStands C.means rules.now (H.first host.old) (H.log host.old) member.old }
     // The host is asked once where the act presents a message, and is as before where it presents none. The outcome and the
     // member are those of the one answer that came.
     ensures acts { IfOk result (λ o. Acts C.means rules.now (K.makes maker.now rules.now)
-        (host.new ≡ host.old) (λ message answer. H.told host.old line.now.client message answer host.new) line.now.act member.old o member.new) }
-    ensures left { OnErr result (LeftBy (host.new ≡ host.old) (λ message answer. H.told host.old line.now.client message answer host.new) line.now.act member.old member.new) }
+        (host.new ≡ host.old) (λ message answer. H.told rules.now host.old line.now.client message answer host.new) line.now.act member.old o member.new) }
+    ensures left { OnErr result (LeftBy (host.new ≡ host.old) (λ message answer. H.told rules.now host.old line.now.client message answer host.new) line.now.act member.old member.new) }
     // No message of an editor is refused for a step.
     ensures unrefused { IfOk result (λ o. EditorGetsNoRefusal line.now.act o) }
     ensures stands { MemberStands C.means rules.now (H.first host.new) (H.log host.new) member.new }
     ensures stays { H.stays host.old host.new }
-    ensures rules { H.rules host.new ≡ H.rules host.old }
     ensures first { H.first host.new ≡ H.first host.old }
-    ensures served { H.serves host.new line.now.client }
+    ensures served { H.serves host.new rules.now line.now.client }
 {
     match member {
         Member::Editor(client) => act_editor(alloc, rules, maker, host, client, &line.act),
@@ -68,19 +66,17 @@ fn act_editor<C: Change, K: Maker<C>, H: Host<C>>(
     client: &mut Client<C>,
     act: &Act<K::Op, C>,
 ) -> Result<Outcome<C>, AllocError>
-    requires rules { H.rules host.old ≡ rules.now }
-    requires served { H.serves host.old client.old.name }
+    requires served { H.serves host.old rules.now client.old.name }
     requires suits { ActSuits (Editor client.old) act.now }
     requires stands { EditorStands C.means rules.now (H.first host.old) (H.log host.old) client.old }
     ensures acts { IfOk result (λ o. Acts C.means rules.now (K.makes maker.now rules.now)
-        (host.new ≡ host.old) (λ message answer. H.told host.old client.old.name message answer host.new) act.now (Editor client.old) o (Editor client.new)) }
-    ensures left { OnErr result (LeftBy (host.new ≡ host.old) (λ message answer. H.told host.old client.old.name message answer host.new) act.now (Editor client.old) (Editor client.new)) }
+        (host.new ≡ host.old) (λ message answer. H.told rules.now host.old client.old.name message answer host.new) act.now (Editor client.old) o (Editor client.new)) }
+    ensures left { OnErr result (LeftBy (host.new ≡ host.old) (λ message answer. H.told rules.now host.old client.old.name message answer host.new) act.now (Editor client.old) (Editor client.new)) }
     ensures unrefused { IfOk result GetsNoRefusal }
     ensures stands { EditorStands C.means rules.now (H.first host.new) (H.log host.new) client.new }
     ensures stays { H.stays host.old host.new }
-    ensures rules { H.rules host.new ≡ H.rules host.old }
     ensures first { H.first host.new ≡ H.first host.old }
-    ensures served { H.serves host.new client.old.name }
+    ensures served { H.serves host.new rules.now client.old.name }
 {
     match act {
         Act::Edit { op, event } => edit(alloc, rules, maker, client, op, *event),
@@ -110,23 +106,21 @@ fn act_raw<C: Change, K: Maker<C>, H: Host<C>>(
     serial: &mut u64,
     act: &Act<K::Op, C>,
 ) -> Result<Outcome<C>, AllocError>
-    requires served { H.serves host.old name }
-    requires rules { H.rules host.old ≡ rules.now }
+    requires served { H.serves host.old rules.now name }
     requires suits { is_forge act.now ≡ true }
     requires stands { Each (IsDrawn name serial.old) (H.log host.old) }
     ensures acts { IfOk result (λ o. Acts C.means rules.now (K.makes maker.now rules.now)
-        (host.new ≡ host.old) (λ message answer. H.told host.old name message answer host.new) act.now (Raw name serial.old) o (Raw name serial.new)) }
+        (host.new ≡ host.old) (λ message answer. H.told rules.now host.old name message answer host.new) act.now (Raw name serial.old) o (Raw name serial.new)) }
     ensures left { OnErr result ((host.new ≡ host.old) × (serial.new ≡ serial.old)) }
     ensures stands { Each (IsDrawn name serial.new) (H.log host.new) }
     ensures stays { H.stays host.old host.new }
-    ensures rules { H.rules host.new ≡ H.rules host.old }
     ensures first { H.first host.new ≡ H.first host.old }
-    ensures served { H.serves host.new name }
+    ensures served { H.serves host.new rules.now name }
 {
-    let _lent = (rules, maker);
+    let _maker = maker;
     match act {
         Act::Forge { version, steps } => {
-            forge(alloc, host, name, serial, *version, steps.as_slice())
+            forge(alloc, rules, host, name, serial, *version, steps.as_slice())
         }
         _ => unreachable!(),
     }
@@ -150,11 +144,5 @@ pub fn act_at<C: Change, K: Maker<C>>(
 {
     // A log that is held has a length of 64 bits.
     let _length = authority.log().len();
-    let mut host = AtAuthority { rules, authority };
-    let outcome = act::<C, K, AtAuthority<C>>(alloc, member, rules, maker, &mut host, line);
-    let AtAuthority {
-        rules: _,
-        authority: _,
-    } = host;
-    outcome
+    act(alloc, member, rules, maker, authority, line)
 }

@@ -10,7 +10,7 @@ ghost use Rattle.pm_session.specs.Refusals.{RefusesNoStep, GetsNoRefusal};
 ghost use Rattle.pm_session.specs.Sounds.{EditorStands, MemberStands};
 ghost use Rattle.pm_session.specs.declared.member.Member.TheVariants.{Editor};
 
-use crate::host::{AtAuthority, Host};
+use crate::host::Host;
 use crate::member::Member;
 use crate::outcome::{Outcome, Told};
 use pm_authority::{Answer, Authority};
@@ -27,25 +27,22 @@ pub fn present<C: Change, H: Host<C>>(
     client: &mut Client<C>,
     message: u64,
 ) -> Result<Outcome<C>, AllocError>
-    requires rules { H.rules host.old ≡ rules.now }
-    requires served { H.serves host.old client.old.name }
+    requires served { H.serves host.old rules.now client.old.name }
     requires stands { EditorStands C.means rules.now (H.first host.old) (H.log host.old) client.old }
     requires named { (0 < message) × (message ≤ length client.old.messages) }
     ensures presents { IfOk result (λ o. (x : Message C) × (answer : Answer C C.Rules C.Doc C.Reason)
         × (message_at client.old message ≡ Some x)
-        × H.told host.old client.old.name x answer host.new
+        × H.told rules.now host.old client.old.name x answer host.new
         × ((o, client.new) ≡ keeps client.old (Some answer))) }
     ensures err { OnErr result ((x : Message C) × (message_at client.old message ≡ Some x)
-        × LeftPresenting (host.new ≡ host.old) (λ m answer. H.told host.old client.old.name m answer host.new) x client.old (Editor client.new)) }
+        × LeftPresenting (host.new ≡ host.old) (λ m answer. H.told rules.now host.old client.old.name m answer host.new) x client.old (Editor client.new)) }
     ensures unrefused { IfOk result GetsNoRefusal }
     ensures stands { EditorStands C.means rules.now (H.first host.new) (H.log host.new) client.new }
     ensures stays { H.stays host.old host.new }
-    ensures rules { H.rules host.new ≡ H.rules host.old }
     ensures first { H.first host.new ≡ H.first host.old }
-    ensures served { H.serves host.new client.old.name }
+    ensures served { H.serves host.new rules.now client.old.name }
 {
-    let _rules = rules;
-    let answer = host.present(alloc, client.name(), client.message_at(message))?;
+    let answer = host.present(alloc, rules, client.name(), client.message_at(message))?;
     let told = told(&answer);
     let _number = client.keep(answer)?;
     Ok(Outcome::Answered { told })
@@ -61,22 +58,20 @@ pub fn exchange<C: Change, H: Host<C>>(
     kind: Kind,
     lost: bool,
 ) -> Result<Outcome<C>, AllocError>
-    requires rules { H.rules host.old ≡ rules.now }
-    requires served { H.serves host.old client.old.name }
+    requires served { H.serves host.old rules.now client.old.name }
     requires stands { EditorStands C.means rules.now (H.first host.old) (H.log host.old) client.old }
     ensures exchanges { IfOk result (λ o. (answer : Answer C C.Rules C.Doc C.Reason)
-        × H.told host.old client.old.name (message_of client.old kind) answer host.new
+        × H.told rules.now host.old client.old.name (message_of client.old kind) answer host.new
         × ((o, client.new) ≡ exchanges C.means rules.now client.old kind lost (Some answer))) }
-    ensures err { OnErr result (LeftExchanging (host.new ≡ host.old) (λ message answer. H.told host.old client.old.name message answer host.new) kind client.old (Editor client.new)) }
+    ensures err { OnErr result (LeftExchanging (host.new ≡ host.old) (λ message answer. H.told rules.now host.old client.old.name message answer host.new) kind client.old (Editor client.new)) }
     ensures unrefused { IfOk result GetsNoRefusal }
     ensures stands { EditorStands C.means rules.now (H.first host.new) (H.log host.new) client.new }
     ensures stays { H.stays host.old host.new }
-    ensures rules { H.rules host.new ≡ H.rules host.old }
     ensures first { H.first host.new ≡ H.first host.old }
-    ensures served { H.serves host.new client.old.name }
+    ensures served { H.serves host.new rules.now client.old.name }
 {
     let message = client.compose(alloc, kind)?;
-    let answer = host.present(alloc, client.name(), client.message_at(message))?;
+    let answer = host.present(alloc, rules, client.name(), client.message_at(message))?;
     let told = told(&answer);
     let number = client.keep(answer)?;
     if lost {
@@ -124,32 +119,10 @@ pub fn exchange_at<C: Change>(
     ensures exchanges { IfOk result (λ o. (o, authority.new, member.new) ≡ member_exchanges C.means rules.now authority.old kind member.old) }
     ensures left { OnErr result (LeftByMember (authority.new ≡ authority.old) (AuthorityTells C.means rules.now authority.old authority.new) kind member.old member.new) }
 {
-    match member {
-        Member::Editor(client) => exchange_editor(alloc, rules, authority, client, kind),
-        Member::Raw { name: _, serial: _ } => Ok(Outcome::NoPlace),
-    }
-}
-
-/// The editor exchanges a message of this kind with this authority.
-fn exchange_editor<C: Change>(
-    alloc: Global,
-    rules: &C::Rules,
-    authority: &mut Authority<C>,
-    client: &mut Client<C>,
-    kind: Kind,
-) -> Result<Outcome<C>, AllocError>
-    requires kept { IsKept C.means rules.now authority.old }
-    requires stands { EditorStands C.means rules.now authority.old.first authority.old.log client.old }
-    ensures exchanges { IfOk result (λ o. (o, authority.new, Editor client.new) ≡ member_exchanges C.means rules.now authority.old kind (Editor client.old)) }
-    ensures left { OnErr result (LeftExchanging (authority.new ≡ authority.old) (AuthorityTells C.means rules.now authority.old authority.new) kind client.old (Editor client.new)) }
-{
     // A log that is held has a length of 64 bits.
     let _length = authority.log().len();
-    let mut host = AtAuthority { rules, authority };
-    let outcome = exchange::<C, AtAuthority<C>>(alloc, rules, &mut host, client, kind, false);
-    let AtAuthority {
-        rules: _,
-        authority: _,
-    } = host;
-    outcome
+    match member {
+        Member::Editor(client) => exchange(alloc, rules, authority, client, kind, false),
+        Member::Raw { name: _, serial: _ } => Ok(Outcome::NoPlace),
+    }
 }

@@ -19,29 +19,29 @@ use std::alloc::{AllocError, Global};
 /// pass 64 bits.
 pub fn forge<C: Change, H: Host<C>>(
     alloc: Global,
+    rules: &C::Rules,
     host: &mut H,
     name: u32,
     serial: &mut u64,
     version: u64,
     steps: &[C],
 ) -> Result<Outcome<C>, AllocError>
-    requires served { H.serves host.old name }
+    requires served { H.serves host.old rules.now name }
     ensures told { IfOk result (λ o. (answer : Answer C C.Rules C.Doc C.Reason)
-        × H.told host.old name (Submit version (named name (serial.old + 1) steps.now)) answer host.new
-        × IsAnswered C.means (H.rules host.old) name (H.first host.old) (H.log host.old) (Submit version (named name (serial.old + 1) steps.now)) answer (H.log host.new)
+        × H.told rules.now host.old name (Submit version (named name (serial.old + 1) steps.now)) answer host.new
+        × IsAnswered C.means rules.now name (H.first host.old) (H.log host.old) (Submit version (named name (serial.old + 1) steps.now)) answer (H.log host.new)
         × ((o, Raw name serial.new) ≡ draws name serial.old (length steps.now) (Some answer))) }
     ensures err { OnErr result ((host.new ≡ host.old) × (serial.new ≡ serial.old)) }
     ensures stays { H.stays host.old host.new }
-    ensures rules { H.rules host.new ≡ H.rules host.old }
     ensures first { H.first host.new ≡ H.first host.old }
-    ensures served { H.serves host.new name }
+    ensures served { H.serves host.new rules.now name }
 {
     let Some(last) = serial.checked_add(steps.len() as u64) else {
         return Err(AllocError);
     };
     let steps = named_copies(alloc, name, *serial, steps)?;
     let message = Message::Submit { version, steps };
-    let answer = host.present(alloc, name, &message)?;
+    let answer = host.present(alloc, rules, name, &message)?;
     *serial = last;
     Ok(Outcome::Answered { told: told(answer) })
 }

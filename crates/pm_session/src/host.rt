@@ -1,5 +1,4 @@
 //! Who answers what clients present.
-
 use pm_authority::{Answer, Authority, Message};
 use pm_change::Change;
 use std::alloc::{AllocError, Global};
@@ -13,11 +12,8 @@ pub trait Host<C: Change> {
     ghost use Rattle.pm_authority.specs.Requests.{NamedBy};
     ghost use Rattle.pm_session.specs.Hosts.{IsLog, IsAnswered};
 
-    /// The rules by which it answers.
-    ghost rules: { Self → C.Rules };
-
-    /// Whether it serves the client of this name.
-    ghost serves: { Self → ℕ → Type 0 };
+    /// Whether it answers the client of this name, and does so by these rules.
+    ghost serves: { Self → C.Rules → ℕ → Type 0 };
 
     /// The document that its log begins with.
     ghost first: { Self → C.Doc };
@@ -25,8 +21,8 @@ pub trait Host<C: Change> {
     /// All steps that it accepted, the oldest first.
     ghost log: { Self → List (Named C) };
 
-    /// A call, which answered: the host before it, the client, the message, the answer, and the host after it.
-    ghost told: { Self → ℕ → Message C → Answer C C.Rules C.Doc C.Reason → Self → Type 0 };
+    /// A call that was answered: the rules, the host before it, the client, the message, the answer, and the host after it.
+    ghost told: { C.Rules → Self → ℕ → Message C → Answer C C.Rules C.Doc C.Reason → Self → Type 0 };
 
     /// Of a host before and after a call: what it borrows is what it borrowed.
     ghost stays: { Self → Self → Type 0 };
@@ -35,64 +31,57 @@ pub trait Host<C: Change> {
     fn present(
         &mut self,
         alloc: Global,
+        rules: &C::Rules,
         client: u32,
         message: &Message<C>,
     ) -> Result<Answer<C>, AllocError>
-        requires served { serves self.old client }
+        requires served { serves self.old rules.now client }
         requires named { NamedBy client message.now }
-        ensures told { IfOk result (λ answer. told self.old client message.now answer self.new) }
+        ensures told { IfOk result (λ answer. told rules.now self.old client message.now answer self.new) }
         // Others' entries may have come first. Then the answer and the log are those of an authority.
-        ensures answered { IfOk result (λ answer. IsAnswered C.means (rules self.old) client (first self.old) (log self.old) message.now answer (log self.new)) }
+        ensures answered { IfOk result (λ answer. IsAnswered C.means rules.now client (first self.old) (log self.old) message.now answer (log self.new)) }
         ensures err { OnErr result (self.new ≡ self.old) }
         ensures stays { stays self.old self.new }
-        ensures rules { rules self.new ≡ rules self.old }
         ensures first { first self.new ≡ first self.old }
-        ensures served { serves self.new client };
+        ensures served { serves self.new rules.now client };
 
-    /// Where it serves a client, its log is one.
-    ghost kept: { (host : Self) (client : ℕ) → serves host client → IsLog C.means (rules host) (first host) (log host) };
+    /// Where it serves a client, its log is one by these rules.
+    ghost kept: { (host : Self) (rules : C.Rules) (client : ℕ) → serves host rules client → IsLog C.means rules (first host) (log host) };
 
     /// A host that was not called stays.
     ghost rests: { (host : Self) → stays host host };
 }
 
-/// An authority that is lent, with the rules that its documents keep.
-pub struct AtAuthority<'a, C: Change> {
-    pub rules: &'a C::Rules,
-    pub authority: &'a mut Authority<C>,
-}
-
-impl<'a, C: Change> Host<C> for AtAuthority<'a, C> {
-    ghost use Rattle.std.specs.Prelude.{◌≡◌, ◌<◌, ◌^◌, length, refl};
+/// An authority answers each client at once, and nobody else adds to its log.
+impl<C: Change> Host<C> for Authority<C> {
+    ghost use Rattle.std.specs.Prelude.{◌≡◌, ◌<◌, ◌^◌, length};
     ghost use Rattle.pm_authority.specs.Kept.{IsKept};
     ghost use Rattle.pm_authority.specs.Presents.{presented};
-    ghost use Rattle.pm_session.specs.Hosts.{IsLog};
 
-    ghost rules = { λ h. h.rules.now };
+    ghost serves = { λ a rules client. IsKept C.means rules a × (length a.log < 2 ^ 64) };
 
-    ghost serves = { λ h client. IsKept C.means h.rules.now h.authority.now × (length h.authority.now.log < 2 ^ 64) };
+    ghost first = { λ a. a.first };
 
-    ghost first = { λ h. h.authority.now.first };
+    ghost log = { λ a. a.log };
 
-    ghost log = { λ h. h.authority.now.log };
+    ghost told = { λ rules a client message answer new. (answer, new) ≡ presented C.means rules a message };
 
-    ghost told = { λ h client message answer k. (answer, k.authority.now) ≡ presented C.means h.rules.now h.authority.now message };
-
-    ghost stays = { λ h k. (k.authority.ghost_name ≡ h.authority.ghost_name) × (k.rules ≡ h.rules) };
+    ghost stays = { λ a new. Unit {0} };
 
     fn present(
         &mut self,
         alloc: Global,
+        rules: &C::Rules,
         client: u32,
         message: &Message<C>,
     ) -> Result<Answer<C>, AllocError> {
-        let answer = self.authority.present(alloc, self.rules, client, message)?;
+        let answer = Authority::present(self, alloc, rules, client, message)?;
         // A log that is held has a length of 64 bits.
-        let _length = self.authority.log().len();
+        let _length = self.log().len();
         Ok(answer)
     }
 
-    ghost kept = { λ h client s. record { first_good = s.0.first_good; applies = (h.authority.now.doc, s.0.folded); short = s.1 } };
+    ghost kept = { λ a rules client s. record { first_good = s.0.first_good; applies = (a.doc, s.0.folded); short = s.1 } };
 
-    ghost rests = { λ h. (refl, refl) };
+    ghost rests = { λ a. tt };
 }

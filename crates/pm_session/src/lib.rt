@@ -13,7 +13,7 @@ mod outcome;
 mod room;
 
 pub use acting::act;
-pub use host::{AtAuthority, Host};
+pub use host::Host;
 pub use line::{Act, Line};
 pub use maker::{Maker, NoSteps};
 pub use member::Member;

@@ -16,7 +16,6 @@ ghost use Rattle.pm_session.specs.Suits.{SuitsRoom, LinesSuit};
 
 use crate::acting::act_at;
 use crate::exchange::exchange_at;
-use crate::host::AtAuthority;
 use crate::line::Line;
 use crate::maker::Maker;
 use crate::member::Member;
