@@ -1,6 +1,5 @@
 pub mod Split
 pub mod Counts
-pub mod NameLists
 pub mod Missing
 mod OneSchema
 mod TwinFills

@@ -1,5 +1,5 @@
 -- The clients that line 3 lists.
-use Rattle.std.specs.Prelude.{ℕ, suc, nat_lt, nat_le, nat_eq, Bool, true, false, not, ◌&&◌, List, [], ◌∷◌, ◌++◌, codes, Option, Some, None, Result, Ok, Err, option_and_then, option_map, if◌then◌else◌}
+use Rattle.std.specs.Prelude.{ℕ, suc, nat_lt, nat_le, nat_eq, Bool, true, false, not, ◌&&◌, List, [], ◌∷◌, ◌++◌, map, codes, Option, Some, None, Result, Ok, Err, option_and_then, option_map, if◌then◌else◌}
 use Rattle.std.specs.List.{list_any}
 use Rattle.std.specs.Cmp.Lexicographic.{pointwise}
 use Rattle.serde_json.specs.Data.{Data, null, boolean, number, string, array, object, Items, no_items, item}
@@ -64,7 +64,6 @@ clients_of d = do
 unfoldable pub clients_line : List ℕ → Result (List ClientEntry) ℕ
 clients_line line = json_line line >>= clients_of
 
--- the names of the clients, where none is raw
-abbrev pub editors : List ClientEntry → Option (List (List ℕ))
-editors [] = Some []
-editors (c ∷ cs) = if c.raw then None else option_map (λ names. c.name ∷ names) (editors cs)
+-- whether each client is raw, in order
+abbrev pub raw_flags : List ClientEntry → List Bool
+raw_flags clients = map (λ c. c.raw) clients

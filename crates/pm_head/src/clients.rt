@@ -1,12 +1,12 @@
 //! Line 3: the clients.
-ghost use Rattle.std.specs.Prelude.{◌≡◌, ◌≤◌, [], length, nat_eq, map, codes, option_map, option_and_then, string_bytes, IfOk};
+ghost use Rattle.std.specs.Prelude.{◌≡◌, ◌≤◌, [], length, nat_eq, codes, option_map, option_and_then, IfOk};
 ghost use Rattle.std.specs.List.{list_any};
 ghost use Rattle.std.specs.Cmp.Lexicographic.{pointwise};
 ghost use Rattle.serde_json.specs.View.{view, items_view};
 ghost use Rattle.serde_json.specs.Find.{get, as_str};
 ghost use Rattle.pm_head.specs.Answers.{Gives};
 ghost use Rattle.pm_head.specs.Entries.{entry_view};
-ghost use Rattle.pm_head.specs.Clients.{entry_of as entry_in, next_client as client_behind, entries_of as entries_from, clients_of as clients_in, clients_line as line_of_clients, editors};
+ghost use Rattle.pm_head.specs.Clients.{entry_of as entry_in, next_client as client_behind, entries_of as entries_from, clients_of as clients_in, clients_line as line_of_clients, raw_flags};
 
 use crate::fault::LineError;
 use crate::lines::json_line;
@@ -21,7 +21,7 @@ use std::alloc::{AllocError, Global};
 pub struct ClientEntry {
     /// Its name: 1 to 16 characters of `a` to `z` and `0` to `9`.
     pub name: Text,
-    /// Whether it is a raw client, whose messages are made as they stand in the file, and no editor.
+    /// Whether it is a raw client, whose submissions the session writes out, and no editor.
     pub raw: bool,
 }
 
@@ -124,29 +124,9 @@ fn is_taken(name: &str, earlier: &[ClientEntry]) -> bool
     earlier.iter().any(|other| name == other.name.as_str())
 }
 
-/// The clients' names, `None` exactly where one of them is raw.
-#[tactic(auto, using(crate::proofs::NameLists::fronts))]
-pub fn editor_names(
-    alloc: Global,
-    clients: &[ClientEntry],
-) -> Result<Option<Vec<String>>, AllocError>
-    ensures { IfOk result (λ o. option_map (λ v. map string_bytes v.items) o ≡ editors clients.now) }
+/// Whether each client is raw, in order.
+pub fn raw_flags(alloc: Global, clients: &[ClientEntry]) -> Result<Vec<bool>, AllocError>
+    ensures { IfOk result (λ v. v.items ≡ raw_flags clients.now) }
 {
-    let mut names = Vec::new(alloc);
-    for client in clients {
-        if client.raw {
-            return Ok(None);
-        }
-        push_name(alloc, &mut names, client.name.as_str())?;
-    }
-    Ok(Some(names))
+    clients.iter().map(|c| c.raw).collect(alloc)
 }
-
-fn push_name(alloc: Global, names: &mut Vec<String>, name: &str) -> Result<(), AllocError>
-    ensures { OnOk result (map string_bytes names.new.items ≡ map string_bytes names.old.items ++ name.now ∷ []) }
-{
-    names.push(String::from_str(alloc, name)?)?;
-    Ok(())
-}
-
-ghost use Rattle.std.specs.Prelude.{◌++◌, ◌∷◌, OnOk};

@@ -11,7 +11,7 @@ mod names;
 mod reading;
 mod schema;
 
-pub use clients::{ClientEntry, editor_names};
+pub use clients::{ClientEntry, raw_flags};
 pub use codes::node_code;
 pub use fault::{HeadError, LineError};
 pub use laws::{head_means_one, schema_means_one};

@@ -9,6 +9,7 @@ use Rattle.pm_meaning.specs.Steps.{Step}
 use Rattle.pm_meaning.specs.declared.reason.Reason.{Reason}
 use Rattle.pm_apply.specs.Changes.{meaning}
 use Rattle.pm_apply.specs.Laws.{laws}
+use Rattle.pm_head.specs.Clients.{raw_flags}
 use Rattle.pm_session.specs.Sessions.{settled}
 use Rattle.pm_session.specs.Sounds.{Sound}
 use Rattle.pm_session.specs.Openings.{opened-suits}
@@ -28,10 +29,10 @@ use Rattle.pm_program.specs.Playing.{Room, LineOutcome, room_of, playing, room_a
 use Rattle.pm_program.specs.Sounds.{RoomsSound, AllSound}
 
 pub reported : (s : Session) (r : Result (String Global) AllocError) (outcomes : List LineOutcome) (before after : Room) (standing : List ℕ)
-    → outcomes ≡ (playing s).0 → before ≡ (playing s).1 → standing ≡ client_lines s.head.schema.spec s.head.clients 0 before.clients → after ≡ settled meaning s.head.schema before
+    → outcomes ≡ (playing s).0 → before ≡ (playing s).1 → standing ≡ client_lines s.head.schema.spec s.head.clients 0 before.members → after ≡ settled meaning s.head.schema before
     → IfOk r (λ t. string_bytes t ≡ outcome_lines s.lines outcomes ++ standing
     ++ line (codes "log" & decimal (length after.authority.log)) ++ entry_lines s.head.schema.spec s.head.clients 1 after.authority.log
-    ++ settled_lines s.head.clients 0 after.clients ++ line (codes "final" & doc_text s.head.schema.spec after.authority.doc))
+    ++ settled_lines s.head.clients 0 after.members ++ line (codes "final" & doc_text s.head.schema.spec after.authority.doc))
     → IfOk r (λ t. string_bytes t ≡ report_of s)
 reported s r outcomes before after standing o b st a h =
     let one = rw a at h in
@@ -43,11 +44,11 @@ reported s r outcomes before after standing o b st a h =
 rooms-sound : (s : Session) → Holds s → RoomsSound s
 rooms-sound s suited =
     let rules = s.head.schema in
-    let clients = length s.head.clients in
+    let raw = raw_flags s.head.clients in
     let room = room_of s in
-    let sound : Sound meaning rules room = opened-sound s.head.doc meaning rules clients suited.valid in
-    let suits = λ (k : ℕ). opened-suits Schema Doc Reason Step s.head.doc clients (take k s.lines) (suit-front clients [] s.lines k suited.suit) in
-    let all = opened-suits Schema Doc Reason Step s.head.doc clients s.lines suited.suit in
+    let sound : Sound meaning rules room = opened-sound s.head.doc meaning rules raw suited.valid in
+    let suits = λ (k : ℕ). opened-suits Schema Doc Reason Step s.head.doc raw (take k s.lines) (suit-front raw [] s.lines k suited.suit) in
+    let all = opened-suits Schema Doc Reason Step s.head.doc raw s.lines suited.suit in
     let last : Sound meaning rules (playing s).1 = session-sound meaning rules laws (makes rules) room s.lines sound all in
     let end : Sound meaning rules (room_settled s) = settled-sound meaning rules laws (playing s).1 last in
     let played : (k : ℕ) → Sound meaning rules (room_after s k) = λ k. session-sound meaning rules laws (makes rules) room (take k s.lines) sound (suits k) in

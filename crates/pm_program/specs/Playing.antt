@@ -1,10 +1,11 @@
 -- A session, played.
-use Rattle.std.specs.Prelude.{ℕ, List, take, length}
+use Rattle.std.specs.Prelude.{ℕ, List, take}
 use Rattle.pm_tokens.specs.Tokens.{Doc}
 use Rattle.pm_schema.specs.declared.schema.Schema.{Schema}
 use Rattle.pm_meaning.specs.Steps.{Step}
 use Rattle.pm_meaning.specs.declared.reason.Reason.{Reason}
 use Rattle.pm_apply.specs.Changes.{meaning}
+use Rattle.pm_head.specs.Clients.{raw_flags}
 use Rattle.pm_session.specs.declared.outcome.Outcome.{Outcome}
 use Rattle.pm_session.specs.Events.{State}
 use Rattle.pm_session.specs.Sessions.{opened, session, settled}
@@ -19,9 +20,9 @@ Room = State Step Schema Doc Reason
 abbrev pub LineOutcome : Type 0
 LineOutcome = Outcome Step Schema Doc Reason
 
--- the room at the session's first document, with its clients
+-- the room at the session's first document, with its editors and raw clients
 abbrev pub room_of : Session → Room
-room_of s = opened s.head.doc (length s.head.clients)
+room_of s = opened s.head.doc (raw_flags s.head.clients)
 
 -- what arises by playing the session's lines in file order
 abbrev pub playing : Session → List LineOutcome × Room
@@ -31,7 +32,7 @@ playing s = session meaning s.head.schema (makes s.head.schema) (room_of s) s.li
 abbrev pub room_after : Session → ℕ → Room
 room_after s k = (session meaning s.head.schema (makes s.head.schema) (room_of s) (take k s.lines)).1
 
--- the room once the clients have settled
+-- the room once the editors have settled
 abbrev pub room_settled : Session → Room
 room_settled s = settled meaning s.head.schema (playing s).1
 

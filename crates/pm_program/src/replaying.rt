@@ -1,5 +1,5 @@
 //! Sessions played in file order.
-ghost use Rattle.std.specs.Prelude.{◌≡◌, ◌≤◌, false, All, length, string_bytes, IfOk};
+ghost use Rattle.std.specs.Prelude.{◌≡◌, ◌≤◌, length, string_bytes, IfOk};
 ghost use Rattle.pm_tokens.specs.Faults.{Valid};
 ghost use Rattle.pm_schema.specs.Documents.{documents_of};
 ghost use Rattle.pm_apply.specs.Changes.{meaning};
@@ -10,6 +10,7 @@ ghost use Rattle.pm_script.specs.Held.{Holds};
 
 use crate::making::EditMaker;
 use pm_apply::DocChange;
+use pm_head::raw_flags;
 use pm_report::{client_lines, report};
 use pm_script::Session;
 use pm_session::Room;
@@ -25,7 +26,7 @@ pub fn replay(alloc: Global, session: &Session) -> Result<String, AllocError>
     let lines = session.lines.as_slice();
     let mut room = open(alloc, session)?;
     let outcomes = room.play_all(alloc, schema, &EditMaker, lines)?;
-    let standing = client_lines(alloc, schema, entries, room.clients())?;
+    let standing = client_lines(alloc, schema, entries, room.members())?;
     room.settle(alloc, schema)?;
     report(
         alloc,
@@ -46,6 +47,6 @@ fn open(alloc: Global, session: &Session) -> Result<Room<DocChange>, AllocError>
     ensures sound { IfOk result (λ r. Sound meaning session.now.head.schema (state_of r)) }
 {
     let doc = session.head.doc.copy()?;
-    let raw = vec![in alloc; false; session.head.clients.len()]?;
+    let raw = raw_flags(alloc, session.head.clients.as_slice())?;
     Room::new(alloc, &session.head.schema, doc, &raw)
 }

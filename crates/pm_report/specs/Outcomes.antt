@@ -64,7 +64,7 @@ outcome_text (Took taken) = taken_text taken
 outcome_text (Exchanged told taken) = told_text told ++ codes ";" & end_text taken
 
 -- for each line its number and its outcome
-abbrev pub outcome_lines : List (Line Op) → List (Outcome Step Schema Doc Reason) → List ℕ
+abbrev pub outcome_lines : List (Line Op Step) → List (Outcome Step Schema Doc Reason) → List ℕ
 outcome_lines [] outcomes = []
 outcome_lines (l ∷ lines) [] = []
 outcome_lines (l ∷ lines) (o ∷ outcomes) = line (decimal l.number & outcome_text o) ++ outcome_lines lines outcomes

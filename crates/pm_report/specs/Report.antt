@@ -1,4 +1,4 @@
--- The report of a session: what became of each line, how the clients stood, the log, and how all stands in the end.
+-- The report of a session: what became of each line, how the editors stood, the log, and how all stands in the end.
 use Rattle.std.specs.Prelude.{ℕ, ℤ, ◌+◌, List, [], ◌∷◌, ◌++◌, length, map, codes, decimal, option_map, slice_get, unwrap_or}
 use Rattle.serde_json.specs.Written.{compact_text}
 use Rattle.pm_tokens.specs.Tokens.{Doc}
@@ -13,6 +13,8 @@ use Rattle.pm_authority.specs.declared.named.Named.{Named}
 use Rattle.pm_client.specs.declared.client.Client.{Client}
 use Rattle.pm_ops.specs.declared.op.Op.{Op}
 use Rattle.pm_session.specs.declared.line.Line.{Line}
+use Rattle.pm_session.specs.declared.member.Member.{Member}
+use Rattle.pm_session.specs.declared.member.Member.TheVariants.{Editor, Raw}
 use Rattle.pm_session.specs.declared.outcome.Outcome.{Outcome}
 use Rattle.pm_session.specs.Events.{State}
 use Rattle.pm_report.specs.Words.{◌&◌, line, list_text}
@@ -33,9 +35,14 @@ name_at entries i = unwrap_or (option_map (λ e. e.name) (slice_get entries i)) 
 abbrev pub settled_line : List ℕ → Client Step Schema Doc Reason → List ℕ
 settled_line name c = line (codes "settled" & name & decimal c.version & list_text c.dropped & list_text (map place_of c.cursors))
 
-abbrev pub settled_lines : List ClientEntry → ℕ → List (Client Step Schema Doc Reason) → List ℕ
+-- an editor's line; a raw client has none
+abbrev pub settled_member : List ℕ → Member Step Schema Doc Reason → List ℕ
+settled_member name (Editor c) = settled_line name c
+settled_member name (Raw number serial) = []
+
+abbrev pub settled_lines : List ClientEntry → ℕ → List (Member Step Schema Doc Reason) → List ℕ
 settled_lines entries i [] = []
-settled_lines entries i (c ∷ clients) = settled_line (name_at entries i) c ++ settled_lines entries (i + 1) clients
+settled_lines entries i (m ∷ members) = settled_member (name_at entries i) m ++ settled_lines entries (i + 1) members
 
 module _ (s : SchemaSpec) where
   abbrev pub doc_text : Doc → List ℕ
@@ -48,22 +55,27 @@ module _ (s : SchemaSpec) where
   abbrev pub client_line : List ℕ → Client Step Schema Doc Reason → List ℕ
   client_line name c = line (codes "client" & name & decimal c.version & list_text (map serial_of c.pending) & list_text c.dropped & list_text (map place_of c.cursors) & doc_text c.doc)
 
-  -- a line for each client, in order from client i on
-  abbrev pub client_lines : List ClientEntry → ℕ → List (Client Step Schema Doc Reason) → List ℕ
+  -- an editor's line; a raw client has none
+  abbrev pub member_line : List ℕ → Member Step Schema Doc Reason → List ℕ
+  member_line name (Editor c) = client_line name c
+  member_line name (Raw number serial) = []
+
+  -- a line for each editor, in order from client i on
+  abbrev pub client_lines : List ClientEntry → ℕ → List (Member Step Schema Doc Reason) → List ℕ
   client_lines entries i [] = []
-  client_lines entries i (c ∷ clients) = client_line (name_at entries i) c ++ client_lines entries (i + 1) clients
+  client_lines entries i (m ∷ members) = member_line (name_at entries i) m ++ client_lines entries (i + 1) members
 
   -- each entry of the log, counted from 1, with the name of the client that made it
   abbrev pub entry_lines : List ClientEntry → ℕ → List (Named Step) → List ℕ
   entry_lines entries i [] = []
   entry_lines entries i (n ∷ log) = line (decimal i & name_at entries n.name.client & decimal n.name.serial & step_text n.change) ++ entry_lines entries (i + 1) log
 
-  -- the outcomes, the clients before they settle, the log after that, the clients again, and the authority's document
-  abbrev pub report : List ClientEntry → List (Line Op) → List (Outcome Step Schema Doc Reason) → State Step Schema Doc Reason → State Step Schema Doc Reason → List ℕ
+  -- the outcomes, the editors before they settle, the log after that, the editors again, and the authority's document
+  abbrev pub report : List ClientEntry → List (Line Op Step) → List (Outcome Step Schema Doc Reason) → State Step Schema Doc Reason → State Step Schema Doc Reason → List ℕ
   report entries lines outcomes before after =
       outcome_lines lines outcomes
-      ++ client_lines entries 0 before.clients
+      ++ client_lines entries 0 before.members
       ++ line (codes "log" & decimal (length after.authority.log))
       ++ entry_lines entries 1 after.authority.log
-      ++ settled_lines entries 0 after.clients
+      ++ settled_lines entries 0 after.members
       ++ line (codes "final" & doc_text after.authority.doc)

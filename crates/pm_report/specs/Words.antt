@@ -1,5 +1,5 @@
 -- Words of a report's lines.
-use Rattle.std.specs.Prelude.{ℕ, ℤ, List, [], ◌∷◌, ◌++◌}
+use Rattle.std.specs.Prelude.{ℕ, List, [], ◌∷◌, ◌++◌}
 use Rattle.serde_json.specs.Data.{number, unsigned, array, Items, no_items, item}
 use Rattle.serde_json.specs.Written.{compact_text}
 

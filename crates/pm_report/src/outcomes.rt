@@ -14,7 +14,7 @@ use std::alloc::{AllocError, Global};
 pub(crate) fn push_outcomes(
     alloc: Global,
     text: &mut String,
-    lines: &[Line<Op>],
+    lines: &[Line<Op, DocChange>],
     outcomes: &[Outcome<DocChange>],
 ) -> Result<(), AllocError>
     requires { length outcomes.now ≡ length lines.now }
@@ -28,7 +28,7 @@ pub(crate) fn push_outcomes(
 
 fn outcome_line(
     alloc: Global,
-    of: &Line<Op>,
+    of: &Line<Op, DocChange>,
     outcome: &Outcome<DocChange>,
 ) -> Result<String, AllocError>
     ensures { IfOk result (λ s. string_bytes s ≡ line (decimal of.now.number & outcome_text outcome.now)) }

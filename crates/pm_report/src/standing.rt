@@ -1,7 +1,7 @@
-//! How the clients stand.
+//! How the editors stand. A raw client has no line.
 ghost use Rattle.std.specs.Prelude.{◌≡◌, ◌++◌, map, codes, decimal, IfOk, OnOk, string_bytes};
 ghost use Rattle.pm_report.specs.Words.{◌&◌, line};
-ghost use Rattle.pm_report.specs.Report.{name_at, client_line, client_lines, settled_line, settled_lines};
+ghost use Rattle.pm_report.specs.Report.{name_at, client_line, member_line, client_lines, settled_line, settled_member, settled_lines};
 
 use crate::written::{cursors_text, numbers_text, serials_text};
 use pm_apply::DocChange;
@@ -9,20 +9,21 @@ use pm_client::Client;
 use pm_docjson::document_text;
 use pm_head::ClientEntry;
 use pm_schema::Schema;
+use pm_session::Member;
 use std::alloc::{AllocError, Global};
 
-/// A line for each client: its name, version, pending serials, dropped serials, cursors' positions and document.
+/// A line for each editor: its name, version, pending serials, dropped serials, cursors' positions and document.
 pub fn client_lines(
     alloc: Global,
     schema: &Schema,
     entries: &[ClientEntry],
-    clients: &[Client<DocChange>],
+    members: &[Member<DocChange>],
 ) -> Result<String, AllocError>
-    ensures { IfOk result (λ s. string_bytes s ≡ client_lines schema.now.spec entries.now 0 clients.now) }
+    ensures { IfOk result (λ s. string_bytes s ≡ client_lines schema.now.spec entries.now 0 members.now) }
 {
     let mut text = String::new(alloc);
-    for (i, client) in clients.iter().enumerate() {
-        text.push_str(client_line(alloc, schema, name_at(entries, i), client)?.as_str())?;
+    for (i, member) in members.iter().enumerate() {
+        text.push_str(member_line(alloc, schema, name_at(entries, i), member)?.as_str())?;
     }
     Ok(text)
 }
@@ -34,6 +35,20 @@ pub(crate) fn name_at(entries: &[ClientEntry], i: usize) -> &str
     match entries.get(i) {
         Some(entry) => entry.name.as_str(),
         None => "",
+    }
+}
+
+fn member_line(
+    alloc: Global,
+    schema: &Schema,
+    name: &str,
+    member: &Member<DocChange>,
+) -> Result<String, AllocError>
+    ensures { IfOk result (λ s. string_bytes s ≡ member_line schema.now.spec name.now member.now) }
+{
+    match member {
+        Member::Editor(client) => client_line(alloc, schema, name, client),
+        Member::Raw { name: _, serial: _ } => Ok(String::new(alloc)),
     }
 }
 
@@ -77,19 +92,32 @@ fn client_words(
     format!(in alloc; "{head} {dropped} {cursors} {doc}\n")
 }
 
-/// Puts a line for each client behind the text: its name, version, dropped serials and cursors' positions.
+/// Puts a line for each editor behind the text: its name, version, dropped serials and cursors' positions.
 pub(crate) fn push_settled(
     alloc: Global,
     text: &mut String,
     entries: &[ClientEntry],
-    clients: &[Client<DocChange>],
+    members: &[Member<DocChange>],
 ) -> Result<(), AllocError>
-    ensures { OnOk result (string_bytes text.new ≡ string_bytes text.old ++ settled_lines entries.now 0 clients.now) }
+    ensures { OnOk result (string_bytes text.new ≡ string_bytes text.old ++ settled_lines entries.now 0 members.now) }
 {
-    for (i, client) in clients.iter().enumerate() {
-        text.push_str(settled_line(alloc, name_at(entries, i), client)?.as_str())?;
+    for (i, member) in members.iter().enumerate() {
+        text.push_str(settled_member(alloc, name_at(entries, i), member)?.as_str())?;
     }
     Ok(())
+}
+
+fn settled_member(
+    alloc: Global,
+    name: &str,
+    member: &Member<DocChange>,
+) -> Result<String, AllocError>
+    ensures { IfOk result (λ s. string_bytes s ≡ settled_member name.now member.now) }
+{
+    match member {
+        Member::Editor(client) => settled_line(alloc, name, client),
+        Member::Raw { name: _, serial: _ } => Ok(String::new(alloc)),
+    }
 }
 
 fn settled_line(alloc: Global, name: &str, client: &Client<DocChange>) -> Result<String, AllocError>

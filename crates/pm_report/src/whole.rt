@@ -17,13 +17,13 @@ use pm_session::{Line, Outcome, Room};
 use pm_stepjson::step_text;
 use std::alloc::{AllocError, Global};
 
-/// The report: what became of each line, how the clients stood before they settled, which is `standing`, the log after that,
-/// how the clients stand then, and the authority's document. Each line ends with LF.
+/// The report: what became of each line, how the editors stood before they settled, which is `standing`, the log after that,
+/// how the editors stand then, and the authority's document. Each line ends with LF.
 pub fn report(
     alloc: Global,
     schema: &Schema,
     entries: &[ClientEntry],
-    lines: &[Line<Op>],
+    lines: &[Line<Op, DocChange>],
     outcomes: &[Outcome<DocChange>],
     standing: &str,
     settled: &Room<DocChange>,
@@ -32,14 +32,14 @@ pub fn report(
     ensures { IfOk result (λ s. string_bytes s ≡ outcome_lines lines.now outcomes.now ++ standing.now
         ++ line (codes "log" & decimal (length settled.now.authority.log))
         ++ entry_lines schema.now.spec entries.now 1 settled.now.authority.log
-        ++ settled_lines entries.now 0 settled.now.clients.items
+        ++ settled_lines entries.now 0 settled.now.members.items
         ++ line (codes "final" & doc_text schema.now.spec settled.now.authority.doc)) }
 {
     let mut text = String::new(alloc);
     push_outcomes(alloc, &mut text, lines, outcomes)?;
     text.push_str(standing)?;
     push_log(alloc, schema, &mut text, entries, settled.authority().log())?;
-    push_settled(alloc, &mut text, entries, settled.clients())?;
+    push_settled(alloc, &mut text, entries, settled.members())?;
     text.push_str(final_line(alloc, schema, settled.authority().doc())?.as_str())?;
     Ok(text)
 }

@@ -1,7 +1,6 @@
 pub mod Came
 pub mod Sides
 pub mod Places
-pub mod Raws
 pub mod Tallies
 pub mod PartLaws
 pub mod StepLaws

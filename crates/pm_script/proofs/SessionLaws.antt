@@ -4,12 +4,12 @@ use Rattle.std.proofs.lemmas.Bool.Decides.{nat_tests}
 use Rattle.std.specs.Prelude.{nat_lt, MatchBool, IfOk}
 use Rattle.pm_tokens.specs.Faults.{Valid}
 use Rattle.pm_schema.specs.Documents.{documents_of}
+use Rattle.pm_meaning.specs.Steps.{Step}
 use Rattle.pm_ops.specs.declared.op.Op.{Op}
 use Rattle.pm_session.specs.declared.line.Line.{Line}
 use Rattle.pm_session.specs.Suits.{AllSuit}
-use Rattle.pm_list.specs.Readings.{or_fault}
 use Rattle.pm_head.specs.declared.reading.Head.{Head}
-use Rattle.pm_head.specs.Clients.{editors}
+use Rattle.pm_head.specs.Clients.{raw_flags}
 use Rattle.pm_head.specs.Heads.{HeadIs}
 use Rattle.pm_head.specs.Lines.{lines_of}
 use Rattle.pm_script.specs.declared.session.Session.{Session}
@@ -18,12 +18,11 @@ use Rattle.pm_script.specs.Held.{Holds}
 use Rattle.pm_script.specs.Sessions.{max_input, ops_of, with_ops, behind, behind_head, SessionOf, SessionIs}
 use Rattle.pm_script.specs.declared.fault.SessionError.{SessionError}
 use Rattle.pm_script.specs.declared.fault.SessionError.TheVariants.{Refused, NoMemory}
-use Rattle.pm_script.proofs.Came.{then-ok}
 use Rattle.pm_script.proofs.HeadLaws.{head-good}
 use Rattle.pm_script.proofs.Suited.{ops-suit}
 
-with-holds : (h : Head) (r : Result (List (Line Op)) (ℕ × ℕ)) (s : Session) → Valid (documents_of h.schema.spec) h.doc → length h.clients ≤ 32
-    → ((ops : List (Line Op)) → r ≡ Ok ops → AllSuit (length h.clients) [] ops) → with_ops h r ≡ Ok s → Holds s
+with-holds : (h : Head) (r : Result (List (Line Op Step)) (ℕ × ℕ)) (s : Session) → Valid (documents_of h.schema.spec) h.doc → length h.clients ≤ 32
+    → ((ops : List (Line Op Step)) → r ≡ Ok ops → AllSuit (raw_flags h.clients) [] ops) → with_ops h r ≡ Ok s → Holds s
 with-holds h (Ok ops) s valid few suit e =
     let made : record { head = h; lines = ops } ≡ s = cc in
     subst Holds made (record { valid = valid; few = few; suit = suit ops refl })
@@ -32,9 +31,8 @@ with-holds h (Err fault) s valid few suit e = absurd (cc)
 behind-holds : (lines rest : List (List ℕ)) (h : Head) (s : Session) → HeadIs lines (Ok h) → Ok s ≡ behind h rest → Holds s
 behind-holds lines rest h s is e =
     let back : behind h rest ≡ Ok s = cc in
-    let one = then-ok (or_fault (3, 99) (editors h.clients)) _ s back in
     let good = head-good lines h is in
-    with-holds h (ops_of h.schema.spec h.clients [] 4 rest) s good.0 good.1 (λ ops read. ops-suit h.schema.spec h.clients [] 4 rest ops read) one.2
+    with-holds h (ops_of h.schema.spec h.clients [] 4 rest) s good.0 good.1 (λ ops read. ops-suit h.schema.spec h.clients [] 4 rest ops read) back
 
 of-holds : (lines : List (List ℕ)) (s : Session) → SessionOf lines (Ok s) → Holds s
 of-holds lines s e = from e.0 e.1 e.2

@@ -42,4 +42,20 @@ step-fault e line r f h = subst (λ (l : LineError). Fails l (of_line r)) (sym h
 pub step-read : (s : Step) (r : Result steps.Step StepReadError) → r ≡ Ok (step_of s) → (coded r >>= (λ x. Ok (as_step x))) ≡ Ok s
 step-read s r h = rw h (ap Ok (step-back s))
 
+-- the same of a step that is presented
+change-line : (e : StepReadError) (r : Result steps.Step StepReadError) → step.Fails e r → Fails (fault_of (step_code e)) (coded r)
+change-line Shape r f = ap coded f
+change-line UnknownKind r f = ap coded f
+change-line (Slice e) r f = with-code (node_code e) (coded r) (ap coded f)
+change-line (Mark e) r f = with-code (node_code e) (coded r) (ap coded f)
+change-line NoMemory r f = tt
+
+pub change-fault : (e : StepReadError) (line : LineError) (r : Result steps.Step StepReadError) → step.Fails e r → line ≡ fault_of (step_code e) → Fails line (coded r)
+change-fault e line r f h = subst (λ (l : LineError). Fails l (coded r)) (sym h) (change-line e r f)
+
+pub change-read : (s : steps.Step) (r : Result steps.Step StepReadError) → r ≡ Ok s → coded r ≡ Ok s
+change-read s r h = ap coded h
+
 pub ruleset read_steps = (step-fault, step-read)
+
+pub ruleset read_changes = (change-fault, change-read)

@@ -6,9 +6,10 @@ use Rattle.std.specs.Prelude.{◌==◌, ◌&&◌, slice_index, slice_set, if◌t
 use Rattle.pm_session.specs.declared.line.Act.{Act}
 use Rattle.pm_session.specs.declared.line.Line.{Line}
 use Rattle.pm_session.specs.Suits.{done_by}
+use Rattle.pm_meaning.specs.Steps.{Step}
 use Rattle.pm_ops.specs.declared.op.Op.{Op}
 
-done_by-more : (does : Act Op → Bool) (k : ℕ) (lines : List (Line Op)) (line : Line Op)
+done_by-more : (does : Act Op Step → Bool) (k : ℕ) (lines : List (Line Op Step)) (line : Line Op Step)
     → done_by does k (lines ++ line ∷ []) ≡ done_by does k lines + cond ((line.client == k) && does line.act) 1 0
 done_by-more does k lines line = grind (arith, common_steps)
 
@@ -27,7 +28,7 @@ by_test : (more : Bool) (counts new : List ℕ) (client k before after : ℕ) �
 by_test true counts new client k before after h l is at more = rw is (set_more (nat_eq client k) counts client k before after refl h l at more)
 by_test false counts new client k before after h l is at more = rw is (kept (nat_eq client k) (slice_index counts k) before after at more)
 
-pub counted-more : (does : Act Op → Bool) (counts new : List ℕ) (lines : List (Line Op)) (line : Line Op) (more : Bool)
+pub counted-more : (does : Act Op Step → Bool) (counts new : List ℕ) (lines : List (Line Op Step)) (line : Line Op Step) (more : Bool)
     → more ≡ does line.act → line.client < length counts → length new ≡ length counts
     → new ≡ (if more then slice_set counts line.client (slice_index counts line.client + 1) else counts)
     → ((k : ℕ) → k < length counts → slice_index counts k ≡ done_by does k lines)

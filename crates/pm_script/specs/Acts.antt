@@ -1,33 +1,42 @@
 -- What an op line does, by its word. Its fields are read in the order in which they stand here.
-use Rattle.std.specs.Prelude.{ℕ, Bool, ◌&&◌, nat_lt, nat_le, true, false, codes, Result, Ok, Err}
+use Rattle.std.specs.Prelude.{ℕ, Bool, ◌&&◌, nat_lt, nat_le, true, false, codes, Result, Ok}
 use Rattle.serde_json.specs.Data.{Data}
 use Rattle.pm_list.specs.Readings.{◌>>=◌}
 use Rattle.pm_schema.specs.declared.spec.SchemaSpec.{SchemaSpec}
+use Rattle.pm_meaning.specs.Steps.{Step}
 use Rattle.pm_ops.specs.declared.op.Op.{Op}
 use Rattle.pm_session.specs.declared.line.Act.{Act}
-use Rattle.pm_session.specs.declared.line.Act.TheVariants.{Edit, Undo, Redo, Cursor, Submit, Ask, Present, Take, Push, Pull}
+use Rattle.pm_session.specs.declared.line.Act.TheVariants.{Edit, Undo, Redo, Cursor, Submit, Ask, Present, Take, Push, Pull, Forge}
 use Rattle.pm_script.specs.declared.kinds.EditKind.{EditKind}
 use Rattle.pm_script.specs.declared.word.Word.{Word}
 use Rattle.pm_script.specs.declared.word.Word.TheVariants as word
 use Rattle.pm_script.specs.Fields.{number_in, lost_in, side_in, event_in}
 use Rattle.pm_script.specs.Ops.{op_of}
+use Rattle.pm_script.specs.Parts.{steps_in}
 
 -- an edit: the fields of its kind, and then an event number
-unfoldable pub edit_in : SchemaSpec → EditKind → Data → Result (Act Op) ℕ
+unfoldable pub edit_in : SchemaSpec → EditKind → Data → Result (Act Op Step) ℕ
 edit_in s kind d = do
   op ← op_of s kind d
   event ← event_in d
   Ok (Edit op event)
 
 -- `cursor`: a position, and a side
-unfoldable pub cursor_in : Data → Result (Act Op) ℕ
+unfoldable pub cursor_in : Data → Result (Act Op Step) ℕ
 cursor_in d = do
   at ← number_in (codes "pos") d
   side ← side_in d
   Ok (Cursor at side)
 
+-- `forge`: a version, and the steps
+unfoldable pub forge_in : SchemaSpec → Data → Result (Act Op Step) ℕ
+forge_in s d = do
+  version ← number_in (codes "version") d
+  steps ← steps_in s d
+  Ok (Forge version steps)
+
 -- what the word does
-abbrev pub act_in : SchemaSpec → Word → Data → Result (Act Op) ℕ
+abbrev pub act_in : SchemaSpec → Word → Data → Result (Act Op Step) ℕ
 act_in s (word.Edit kind) d = edit_in s kind d
 act_in s word.Undo d = Ok Undo
 act_in s word.Redo d = Ok Redo
@@ -38,10 +47,10 @@ act_in s word.Present d = number_in (codes "message") d >>= (λ n. Ok (Present n
 act_in s word.Take d = number_in (codes "answer") d >>= (λ n. Ok (Take n))
 act_in s word.Push d = lost_in d >>= (λ lost. Ok (Push lost))
 act_in s word.Pull d = lost_in d >>= (λ lost. Ok (Pull lost))
-act_in s word.Forge d = Err 18
+act_in s word.Forge d = forge_in s d
 
 -- an act that names a message or an answer names one of so many
-abbrev pub names_one : ℕ → ℕ → Act Op → Bool
+abbrev pub names_one : ℕ → ℕ → Act Op Step → Bool
 names_one messages answers (Edit op event) = true
 names_one messages answers Undo = true
 names_one messages answers Redo = true
@@ -52,9 +61,10 @@ names_one messages answers (Present j) = nat_lt 0 j && nat_le j messages
 names_one messages answers (Take n) = nat_lt 0 n && nat_le n answers
 names_one messages answers (Push lost) = true
 names_one messages answers (Pull lost) = true
+names_one messages answers (Forge version steps) = true
 
 -- an act that sets a cursor
-abbrev pub sets_one : Act Op → Bool
+abbrev pub sets_one : Act Op Step → Bool
 sets_one (Edit op event) = false
 sets_one Undo = false
 sets_one Redo = false
@@ -65,3 +75,4 @@ sets_one (Present j) = false
 sets_one (Take n) = false
 sets_one (Push lost) = false
 sets_one (Pull lost) = false
+sets_one (Forge version steps) = false

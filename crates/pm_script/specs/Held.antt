@@ -2,12 +2,13 @@
 use Rattle.std.specs.Prelude.{◌≤◌, [], length}
 use Rattle.pm_tokens.specs.Faults.{Valid}
 use Rattle.pm_schema.specs.Documents.{documents_of}
+use Rattle.pm_head.specs.Clients.{raw_flags}
 use Rattle.pm_session.specs.Suits.{AllSuit}
 use Rattle.pm_script.specs.declared.session.Session.{Session}
 
--- Its first document is valid. It has at most 32 clients. Each op line names one of them, and the message or the answer that
--- it names was composed or got on an earlier line.
+-- Its first document is valid. It has at most 32 clients. Each op line names one of them, and it is a `forge` exactly where
+-- that client is raw. The message or the answer that it names was composed or got on an earlier line.
 pub record Holds (s : Session) : Type 0 where
   pub valid : Valid (documents_of s.head.schema.spec) s.head.doc
   pub few : length s.head.clients ≤ 32
-  pub suit : AllSuit (length s.head.clients) [] s.lines
+  pub suit : AllSuit (raw_flags s.head.clients) [] s.lines

@@ -1,8 +1,8 @@
--- The parts of an edit that are read by the schema. One that is absent and must be there has code 6, and a name of no node type
+-- The parts of an edit or a `forge` that are read by the schema. One that is absent and must be there has code 6, and a name of no node type
 -- code 7.
-use Rattle.std.specs.Prelude.{ℕ, List, codes, Result, Ok}
-use Rattle.serde_json.specs.Data.{Data}
-use Rattle.serde_json.specs.Find.{get}
+use Rattle.std.specs.Prelude.{ℕ, List, [], ◌∷◌, codes, Result, Ok}
+use Rattle.serde_json.specs.Data.{Data, Items, no_items, item}
+use Rattle.serde_json.specs.Find.{get, as_array}
 use Rattle.pm_list.specs.Readings.{◌>>=◌, or_fault}
 use Rattle.pm_value.specs.Plain.{Plain}
 use Rattle.pm_marks.specs.declared.mark.Mark.{Mark}
@@ -35,6 +35,21 @@ module _ (s : SchemaSpec) where
   -- the value as a step
   abbrev pub step_from : Data → Result Step ℕ
   step_from d = coded (step_read s d) >>= (λ read. Ok (as_step read))
+
+  -- the values as steps, from the front
+  unfoldable pub step_list : Items → Result (List steps.Step) ℕ
+  step_list no_items = Ok []
+  step_list (item d ds) = do
+    first ← coded (step_read s d)
+    rest ← step_list ds
+    Ok (first ∷ rest)
+
+  -- the list of steps at `steps`, which may be empty
+  unfoldable pub steps_in : Data → Result (List steps.Step) ℕ
+  steps_in d = do
+    value ← or_fault 6 (get (codes "steps") d)
+    items ← or_fault 6 (as_array value)
+    step_list items
 
   -- the step at `step`
   abbrev pub step_in : Data → Result Step ℕ

@@ -1,12 +1,12 @@
 -- What an input is: a session, or its least faulty line with the code of that line's first fault.
 use Rattle.std.specs.Prelude.{◌≡◌, ℕ, ◌+◌, List, [], ◌∷◌, ◌++◌, drop, length, nat_lt, Result, Ok, Err, MatchBool}
-use Rattle.pm_list.specs.Readings.{◌>>=◌, or_fault}
+use Rattle.pm_list.specs.Readings.{◌>>=◌}
 use Rattle.pm_schema.specs.declared.spec.SchemaSpec.{SchemaSpec}
 use Rattle.pm_head.specs.declared.clients.ClientEntry.{ClientEntry}
 use Rattle.pm_head.specs.declared.reading.Head.{Head}
-use Rattle.pm_head.specs.Clients.{editors}
 use Rattle.pm_head.specs.Heads.{HeadIs}
 use Rattle.pm_head.specs.Lines.{lines_of}
+use Rattle.pm_meaning.specs.Steps.{Step}
 use Rattle.pm_ops.specs.declared.op.Op.{Op}
 use Rattle.pm_session.specs.declared.line.Line.{Line}
 use Rattle.pm_script.specs.declared.session.Session.{Session}
@@ -22,7 +22,7 @@ at_line n (Ok x) = Ok x
 at_line n (Err code) = Err (n, code)
 
 -- the op lines from number n on, behind these earlier ones
-unfoldable pub ops_of : SchemaSpec → List ClientEntry → List (Line Op) → ℕ → List (List ℕ) → Result (List (Line Op)) (ℕ × ℕ)
+unfoldable pub ops_of : SchemaSpec → List ClientEntry → List (Line Op Step) → ℕ → List (List ℕ) → Result (List (Line Op Step)) (ℕ × ℕ)
 ops_of s clients earlier n [] = Ok []
 ops_of s clients earlier n (line ∷ rest) = do
   op ← at_line n (op_line s clients earlier n line)
@@ -30,13 +30,13 @@ ops_of s clients earlier n (line ∷ rest) = do
   Ok (op ∷ later)
 
 -- the session of this head and these op lines, where they were read
-abbrev pub with_ops : Head → Result (List (Line Op)) (ℕ × ℕ) → Result Session (ℕ × ℕ)
+abbrev pub with_ops : Head → Result (List (Line Op Step)) (ℕ × ℕ) → Result Session (ℕ × ℕ)
 with_ops head (Ok ops) = Ok (record { head = head; lines = ops })
 with_ops head (Err fault) = Err fault
 
--- the session of this head, whose op lines these are; raw clients aren't built yet
+-- the session of this head, whose op lines these are
 abbrev pub behind : Head → List (List ℕ) → Result Session (ℕ × ℕ)
-behind head lines = or_fault (3, 99) (editors head.clients) >>= (λ names. with_ops head (ops_of head.schema.spec head.clients [] 4 lines))
+behind head lines = with_ops head (ops_of head.schema.spec head.clients [] 4 lines)
 
 -- the same, where the head may be refused
 abbrev pub behind_head : Result Head (ℕ × ℕ) → List (List ℕ) → Result Session (ℕ × ℕ)

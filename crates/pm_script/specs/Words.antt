@@ -1,5 +1,5 @@
 -- The words of op lines.
-use Rattle.std.specs.Prelude.{ℕ, nat_eq, nat_lt, Bool, true, false, List, codes, Option, Some, None, if◌then◌else◌}
+use Rattle.std.specs.Prelude.{ℕ, nat_eq, nat_lt, Bool, not, ◌&&◌, List, codes, Option, Some, None, if◌then◌else◌}
 use Rattle.std.specs.Cmp.Lexicographic.{pointwise}
 use Rattle.pm_script.specs.declared.kinds.EditKind.{EditKind}
 use Rattle.pm_script.specs.declared.kinds.EditKind.TheVariants as kind
@@ -52,16 +52,17 @@ word_named text =
     else (if says text (codes "cursor") then Some Cursor
     else exchange_named text)))
 
--- A line of an editor may say every word but `forge`, and `cursor` where fewer than 64 earlier lines of the client do.
-abbrev pub may_say : ℕ → Word → Bool
-may_say cursors (Edit edit) = true
-may_say cursors Undo = true
-may_say cursors Redo = true
-may_say cursors Cursor = nat_lt cursors 64
-may_say cursors Submit = true
-may_say cursors Ask = true
-may_say cursors Present = true
-may_say cursors Take = true
-may_say cursors Push = true
-may_say cursors Pull = true
-may_say cursors Forge = false
+-- A raw client's line may say `forge` alone. A line of an editor may say every other word, and `cursor` where fewer than 64
+-- earlier lines of the client do.
+abbrev pub may_say : Bool → ℕ → Word → Bool
+may_say raw cursors (Edit edit) = not raw
+may_say raw cursors Undo = not raw
+may_say raw cursors Redo = not raw
+may_say raw cursors Cursor = not raw && nat_lt cursors 64
+may_say raw cursors Submit = not raw
+may_say raw cursors Ask = not raw
+may_say raw cursors Present = not raw
+may_say raw cursors Take = not raw
+may_say raw cursors Push = not raw
+may_say raw cursors Pull = not raw
+may_say raw cursors Forge = raw

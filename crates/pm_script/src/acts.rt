@@ -2,12 +2,14 @@
 ghost use Rattle.std.specs.Prelude.{◌≡◌};
 ghost use Rattle.serde_json.specs.View.{view};
 ghost use Rattle.pm_head.specs.Answers.{Gives};
-ghost use Rattle.pm_script.specs.Acts.{edit_in, cursor_in, act_in, names_one, sets_one};
+ghost use Rattle.pm_script.specs.Acts.{edit_in, cursor_in, forge_in, act_in, names_one, sets_one};
 
 use crate::fields::{event_in, lost_in, number_in, side_in};
 use crate::kinds::EditKind;
 use crate::ops::op_of;
+use crate::parts::steps_in;
 use crate::word::Word;
+use pm_apply::DocChange;
 use pm_head::LineError;
 use pm_ops::Op;
 use pm_schema::Schema;
@@ -21,7 +23,7 @@ pub(crate) fn act_in(
     schema: &Schema,
     word: Word,
     json: &Value,
-) -> Result<Act<Op>, LineError>
+) -> Result<Act<Op, DocChange>, LineError>
     ensures { Gives (λ a. a) result (act_in schema.now.spec word (view json.now)) }
 {
     match word {
@@ -47,7 +49,7 @@ pub(crate) fn act_in(
             let lost = lost_in(json)?;
             Ok(Act::Pull { lost })
         }
-        Word::Forge => Err(LineError::Code(18)),
+        Word::Forge => forge_in(alloc, schema, json),
     }
 }
 
@@ -58,7 +60,7 @@ fn edit_in(
     schema: &Schema,
     kind: EditKind,
     json: &Value,
-) -> Result<Act<Op>, LineError>
+) -> Result<Act<Op, DocChange>, LineError>
     ensures { Gives (λ a. a) result (edit_in schema.now.spec kind (view json.now)) }
 {
     let op = op_of(alloc, schema, kind, json)?;
@@ -68,7 +70,7 @@ fn edit_in(
 
 /// A line that sets a cursor.
 #[tactic(auto, unfolding(crate::specs::Acts::cursor_in))]
-fn cursor_in(json: &Value) -> Result<Act<Op>, LineError>
+fn cursor_in(json: &Value) -> Result<Act<Op, DocChange>, LineError>
     ensures { Gives (λ a. a) result (cursor_in (view json.now)) }
 {
     let pos = number_in(json, "pos")?;
@@ -76,8 +78,18 @@ fn cursor_in(json: &Value) -> Result<Act<Op>, LineError>
     Ok(Act::Cursor { pos, side })
 }
 
+/// A line of a raw client, which presents these steps at this version.
+#[tactic(auto, unfolding(crate::specs::Acts::forge_in))]
+fn forge_in(alloc: Global, schema: &Schema, json: &Value) -> Result<Act<Op, DocChange>, LineError>
+    ensures { Gives (λ a. a) result (forge_in schema.now.spec (view json.now)) }
+{
+    let version = number_in(json, "version")?;
+    let steps = steps_in(alloc, schema, json)?;
+    Ok(Act::Forge { version, steps })
+}
+
 /// Whether an act that names a message or an answer names one of so many.
-pub(crate) fn names_one(messages: u64, answers: u64, act: &Act<Op>) -> bool
+pub(crate) fn names_one(messages: u64, answers: u64, act: &Act<Op, DocChange>) -> bool
     ensures { result ≡ names_one messages answers act.now }
 {
     match act {
@@ -90,12 +102,16 @@ pub(crate) fn names_one(messages: u64, answers: u64, act: &Act<Op>) -> bool
         | Act::Submit
         | Act::Ask
         | Act::Push { lost: _ }
-        | Act::Pull { lost: _ } => true,
+        | Act::Pull { lost: _ }
+        | Act::Forge {
+            version: _,
+            steps: _,
+        } => true,
     }
 }
 
 /// Whether an act sets a cursor.
-pub(crate) fn sets_one(act: &Act<Op>) -> bool
+pub(crate) fn sets_one(act: &Act<Op, DocChange>) -> bool
     ensures { result ≡ sets_one act.now }
 {
     match act {
@@ -108,6 +124,10 @@ pub(crate) fn sets_one(act: &Act<Op>) -> bool
         | Act::Present { message: _ }
         | Act::Take { answer: _ }
         | Act::Push { lost: _ }
-        | Act::Pull { lost: _ } => false,
+        | Act::Pull { lost: _ }
+        | Act::Forge {
+            version: _,
+            steps: _,
+        } => false,
     }
 }

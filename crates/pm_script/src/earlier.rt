@@ -4,6 +4,7 @@ ghost use Rattle.pm_session.specs.Suits.{composes_one, gets_one, composed_by, an
 ghost use Rattle.pm_script.specs.Lines.{cursors_by};
 
 use crate::acts::sets_one;
+use pm_apply::DocChange;
 use pm_ops::Op;
 use pm_session::{Act, Line};
 use std::alloc::{AllocError, Global};
@@ -12,7 +13,7 @@ use std::alloc::{AllocError, Global};
 /// got and how many cursors it set.
 #[derive(Drop)]
 pub struct Earlier {
-    pub lines: Vec<Line<Op>>,
+    pub lines: Vec<Line<Op, DocChange>>,
     pub composed: Vec<u64>,
     pub answered: Vec<u64>,
     pub cursors: Vec<u64>,
@@ -62,7 +63,7 @@ impl Earlier {
     }
 
     /// Adds the next line.
-    pub fn add(&mut self, line: Line<Op>) -> Result<(), AllocError>
+    pub fn add(&mut self, line: Line<Op, DocChange>) -> Result<(), AllocError>
         requires composed { line.client < vec_len self.old.composed }
         requires answered { line.client < vec_len self.old.answered }
         requires cursors { line.client < vec_len self.old.cursors }
@@ -98,7 +99,7 @@ fn count(counts: &mut Vec<u64>, client: usize, more: bool)
 }
 
 /// Whether an act composes a message.
-fn composes_one(act: &Act<Op>) -> bool
+fn composes_one(act: &Act<Op, DocChange>) -> bool
     ensures { result ≡ composes_one act.now }
 {
     match act {
@@ -108,12 +109,16 @@ fn composes_one(act: &Act<Op>) -> bool
         | Act::Redo
         | Act::Cursor { pos: _, side: _ }
         | Act::Present { message: _ }
-        | Act::Take { answer: _ } => false,
+        | Act::Take { answer: _ }
+        | Act::Forge {
+            version: _,
+            steps: _,
+        } => false,
     }
 }
 
 /// Whether an act gets an answer.
-fn gets_one(act: &Act<Op>) -> bool
+fn gets_one(act: &Act<Op, DocChange>) -> bool
     ensures { result ≡ gets_one act.now }
 {
     match act {
@@ -124,6 +129,10 @@ fn gets_one(act: &Act<Op>) -> bool
         | Act::Cursor { pos: _, side: _ }
         | Act::Submit
         | Act::Ask
-        | Act::Take { answer: _ } => false,
+        | Act::Take { answer: _ }
+        | Act::Forge {
+            version: _,
+            steps: _,
+        } => false,
     }
 }

@@ -3,12 +3,13 @@ ghost use Rattle.std.specs.Prelude.{◌≡◌, ◌≤◌, ◌<◌, length, nat_e
 ghost use Rattle.std.specs.Cmp.Lexicographic.{pointwise};
 ghost use Rattle.serde_json.specs.View.{view};
 ghost use Rattle.pm_head.specs.Answers.{Gives};
-ghost use Rattle.pm_script.specs.Lines.{client_in, word_in, said, named, op_in, op_line};
+ghost use Rattle.pm_script.specs.Lines.{client_in, word_in, is_raw, said, named, op_in, op_line};
 
 use crate::acts::{act_in, names_one};
 use crate::earlier::Earlier;
 use crate::fields::text_in;
 use crate::word::Word;
+use pm_apply::DocChange;
 use pm_head::{ClientEntry, LineError, json_line};
 use pm_ops::Op;
 use pm_schema::Schema;
@@ -20,8 +21,8 @@ use std::alloc::Global;
 const LAST_LINE: u32 = 100_003;
 
 /// Op line `number`, behind earlier ones. The code of its first fault is: 4 where it is past line 100,003; 3 where it passes
-/// 1,048,576 bytes; 5 where it is not UTF-8 or no JSON; 6 and 7 as its fields have them; 18 where its op is none of an editor's,
-/// or it would be the client's 65th cursor; 17 where it names a message or an answer that is not there.
+/// 1,048,576 bytes; 5 where it is not UTF-8 or no JSON; 6 and 7 as its fields have them; 18 where its op is not one of the client's
+/// kind, or it would be the client's 65th cursor; 17 where it names a message or an answer that is not there.
 #[tactic(auto, unfolding(crate::specs::Lines::op_line))]
 pub(crate) fn op_line(
     alloc: Global,
@@ -30,7 +31,7 @@ pub(crate) fn op_line(
     earlier: &Earlier,
     number: u32,
     line: &[u8],
-) -> Result<Line<Op>, LineError>
+) -> Result<Line<Op, DocChange>, LineError>
     requires composed { vec_len earlier.now.composed ≡ length clients.now }
     requires answered { vec_len earlier.now.answered ≡ length clients.now }
     requires cursors { vec_len earlier.now.cursors ≡ length clients.now }
@@ -55,7 +56,7 @@ fn op_in(
     earlier: &Earlier,
     number: u32,
     json: &Value,
-) -> Result<Line<Op>, LineError>
+) -> Result<Line<Op, DocChange>, LineError>
     requires composed { vec_len earlier.now.composed ≡ length clients.now }
     requires answered { vec_len earlier.now.answered ≡ length clients.now }
     requires cursors { vec_len earlier.now.cursors ≡ length clients.now }
@@ -65,7 +66,7 @@ fn op_in(
 {
     let client = client_in(clients, json)?;
     let found = word_in(json)?;
-    let word = said(earlier, client, found)?;
+    let word = said(clients, earlier, client, found)?;
     let read = act_in(alloc, schema, word, json)?;
     let act = named(earlier, client, read)?;
     Ok(Line {
@@ -106,12 +107,27 @@ fn word_in(json: &Value) -> Result<Word, LineError>
     }
 }
 
-/// The word, where the client's line may say it.
-fn said(earlier: &Earlier, client: usize, word: Word) -> Result<Word, LineError>
-    requires { client < vec_len earlier.now.cursors }
-    ensures { Gives (λ w. w) result (said earlier.now.lines.items client word) }
+/// Whether the client at this place is raw.
+fn is_raw(clients: &[ClientEntry], client: usize) -> bool
+    ensures { result ≡ is_raw clients.now client }
 {
-    if word.may_be_said(earlier.cursors(client)) {
+    match clients.get(client) {
+        Some(entry) => entry.raw,
+        None => false,
+    }
+}
+
+/// The word, where the client's line may say it.
+fn said(
+    clients: &[ClientEntry],
+    earlier: &Earlier,
+    client: usize,
+    word: Word,
+) -> Result<Word, LineError>
+    requires { client < vec_len earlier.now.cursors }
+    ensures { Gives (λ w. w) result (said clients.now earlier.now.lines.items client word) }
+{
+    if word.may_be_said(is_raw(clients, client), earlier.cursors(client)) {
         Ok(word)
     } else {
         Err(LineError::Code(18))
@@ -119,7 +135,11 @@ fn said(earlier: &Earlier, client: usize, word: Word) -> Result<Word, LineError>
 }
 
 /// The act, where the message or the answer that it names is there.
-fn named(earlier: &Earlier, client: usize, act: Act<Op>) -> Result<Act<Op>, LineError>
+fn named(
+    earlier: &Earlier,
+    client: usize,
+    act: Act<Op, DocChange>,
+) -> Result<Act<Op, DocChange>, LineError>
     requires composed { client < vec_len earlier.now.composed }
     requires answered { client < vec_len earlier.now.answered }
     ensures { Gives (λ a. a) result (named earlier.now.lines.items client act) }

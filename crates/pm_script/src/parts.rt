@@ -1,20 +1,23 @@
-//! The parts of an edit that are read by the schema. One that is absent and must be there has code 6; the codes of the faults
+//! The parts of an edit or a `forge` that are read by the schema. One that is absent and must be there has code 6; the codes of the faults
 //! within one are those of its reader.
 ghost use Rattle.std.specs.Prelude.{◌<◌, length, IfOk};
-ghost use Rattle.serde_json.specs.View.{view};
+ghost use Rattle.serde_json.specs.View.{view, items_view};
 ghost use Rattle.pm_docjson.specs.Reading.{mark_of, node_of};
 ghost use Rattle.pm_docjson.specs.declared.leaves.LeafContent.TheVariants.{Refused};
 ghost use Rattle.pm_slicejson.specs.Reading.{slice_of};
+ghost use Rattle.pm_stepjson.specs.Reading.{step_read};
 ghost use Rattle.pm_head.specs.Answers.{Gives};
-ghost use Rattle.pm_script.specs.Codes.{node_coded};
-ghost use Rattle.pm_script.specs.Parts.{step_from, step_in, slice_in, node_in, mark_in, type_in, attrs_in};
+ghost use Rattle.pm_script.specs.Codes.{coded, node_coded};
+ghost use Rattle.pm_script.specs.Parts.{step_from, step_in, step_list, steps_in, slice_in, node_in, mark_in, type_in, attrs_in};
 
 use crate::codes::{node_fault, step_fault};
 use crate::fields::{SHAPE, text_in};
+use pm_apply::DocChange;
 use pm_attrs::Attrs;
 use pm_auto::TypeId;
 use pm_docjson::{LeafContent, read_attrs, read_mark, read_node_with};
 use pm_head::LineError;
+use pm_list::Listed;
 use pm_marks::Mark;
 use pm_node::Node;
 use pm_schema::{AnyType, Schema};
@@ -42,6 +45,52 @@ fn step_from(alloc: Global, schema: &Schema, json: &Value) -> Result<Step, LineE
 {
     match read_step(alloc, schema, json) {
         Ok(step) => Ok(step),
+        Err(error) => Err(step_fault(error)),
+    }
+}
+
+/// The list of steps at `steps`, read from the front.
+#[tactic(auto, unfolding(crate::specs::Parts::steps_in))]
+pub(crate) fn steps_in(
+    alloc: Global,
+    schema: &Schema,
+    json: &Value,
+) -> Result<Listed<DocChange>, LineError>
+    ensures { Gives (λ l. l) result (steps_in schema.now.spec (view json.now)) }
+{
+    let Some(value) = json.get("steps") else {
+        return Err(LineError::Code(SHAPE));
+    };
+    let Some(items) = value.as_array() else {
+        return Err(LineError::Code(SHAPE));
+    };
+    step_list(alloc, schema, items)
+}
+
+/// The values as steps.
+#[tactic(auto, using(pm_list::specs::Readings::fronts), unfolding(crate::specs::Parts::step_list))]
+fn step_list(
+    alloc: Global,
+    schema: &Schema,
+    items: &[Value],
+) -> Result<Listed<DocChange>, LineError>
+    ensures { Gives (λ l. l) result (step_list schema.now.spec (items_view items.now)) }
+{
+    let mut steps = Listed::new(alloc);
+    for item in items {
+        let step = change_from(alloc, schema, item)?;
+        steps.push(step)?;
+    }
+    Ok(steps)
+}
+
+/// The value as a step that is presented.
+#[tactic(auto, using(crate::proofs::StepLaws::read_changes))]
+fn change_from(alloc: Global, schema: &Schema, json: &Value) -> Result<DocChange, LineError>
+    ensures { Gives (λ c. c) result (coded (step_read schema.now.spec (view json.now))) }
+{
+    match read_step(alloc, schema, json) {
+        Ok(step) => Ok(DocChange::new(step)),
         Err(error) => Err(step_fault(error)),
     }
 }

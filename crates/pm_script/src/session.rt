@@ -8,6 +8,7 @@ ghost use Rattle.pm_script.specs.Sessions.{at_line, ops_of, behind, SessionOf, S
 use crate::earlier::Earlier;
 use crate::fault::SessionError;
 use crate::lines::op_line;
+use pm_apply::DocChange;
 use pm_head::{ClientEntry, Head, HeadError, LineError, after_head, first_line, read_head};
 use pm_list::Listed;
 use pm_ops::Op;
@@ -24,7 +25,7 @@ pub struct Session {
     /// The schema, the first document and the clients.
     pub head: Head,
     /// The op lines in file order, the first of which is line 4.
-    pub lines: Listed<Line<Op>>,
+    pub lines: Listed<Line<Op, DocChange>>,
 }
 
 /// The session that an input is; else its least faulty line with the code of that line's first fault. Codes 1 to 19 are those
@@ -32,8 +33,8 @@ pub struct Session {
 /// or no JSON; 6 a field is absent or of another kind than it must be; 7 a name is that of no client, op, kind of steps, node
 /// type or mark type; 12 an attribute is missing, unknown, or its value is none; 13 a text node is empty; 14 marks are no set; 15 a
 /// side of a slice is deeper than its content, or a list has more than 4,294,967,295 tokens; 17 a message or an answer is named
-/// that no earlier line of the client composed or got; 18 the op is none of the client's, or it is the client's 65th cursor.
-/// Line 0 with code 1 is an input of more than 67,108,864 bytes. Code 99 stands at line 3 for raw clients, which aren't built yet.
+/// that no earlier line of the client composed or got; 18 the op is not of the client's kind, an editor or a raw client, or it is
+/// the client's 65th cursor. Line 0 with code 1 is an input of more than 67,108,864 bytes.
 pub fn read_session(alloc: Global, input: &[u8]) -> Result<Session, SessionError>
     ensures read { Reads (SessionIs input.now) result }
     ensures holds { IfOk result Holds }
@@ -55,44 +56,15 @@ fn session_of(alloc: Global, input: &[u8]) -> Result<Session, SessionError>
 }
 
 /// The session of a head and the op lines behind it.
-#[tactic(auto, using(crate::proofs::Raws::raws))]
 fn behind(alloc: Global, head: Head, input: &[u8]) -> Result<Session, SessionError>
     requires { length head.clients ≤ 32 }
     ensures { Gives (λ s. s) result (behind head (lines_of input.now)) }
-{
-    if has_raw(&head) {
-        return Err(SessionError::Refused { line: 3, code: 99 });
-    }
-    with_ops(alloc, head, input)
-}
-
-ghost use Rattle.pm_script.specs.Sessions.{with_ops};
-
-/// The session of a head and the op lines behind it, where no client is raw.
-fn with_ops(alloc: Global, head: Head, input: &[u8]) -> Result<Session, SessionError>
-    requires { length head.clients ≤ 32 }
-    ensures { Gives (λ s. s) result (with_ops head (ops_of head.schema.spec head.clients [] 4 (lines_of input.now))) }
 {
     let lines = ops_from(alloc, &head.schema, head.clients.as_slice(), input)?;
     Ok(Session {
         head,
         lines: Listed::from_vec(lines),
     })
-}
-
-ghost use Rattle.std.specs.List.{list_any};
-
-/// Whether one of the clients is raw.
-fn has_raw(head: &Head) -> bool
-    ensures { result ≡ list_any (λ c. c.raw) head.now.clients }
-{
-    any_raw(head.clients.as_slice())
-}
-
-fn any_raw(clients: &[ClientEntry]) -> bool
-    ensures { result ≡ list_any (λ c. c.raw) clients.now }
-{
-    clients.iter().any(|c| c.raw)
 }
 
 /// The op lines.
@@ -102,7 +74,7 @@ fn ops_from(
     schema: &Schema,
     clients: &[ClientEntry],
     input: &[u8],
-) -> Result<Vec<Line<Op>>, SessionError>
+) -> Result<Vec<Line<Op, DocChange>>, SessionError>
     requires { length clients.now ≤ 32 }
     ensures { Gives (λ v. v.items) result (ops_of schema.now.spec clients.now [] 4 (lines_of input.now)) }
 {
@@ -138,7 +110,7 @@ fn numbered(
     earlier: &Earlier,
     number: u32,
     line: &[u8],
-) -> Result<Line<Op>, SessionError>
+) -> Result<Line<Op, DocChange>, SessionError>
     requires composed { vec_len earlier.now.composed ≡ length clients.now }
     requires answered { vec_len earlier.now.answered ≡ length clients.now }
     requires cursors { vec_len earlier.now.cursors ≡ length clients.now }

@@ -42,13 +42,14 @@ impl Word {
         }
     }
 
-    /// Whether an editor's line may say the word, where so many earlier lines of the client set cursors.
-    pub(crate) fn may_be_said(self, cursors: u64) -> bool
-        ensures { result ≡ may_say cursors self }
+    /// Whether a line of an editor, or of a raw client, may say the word, where so many earlier lines of the client set
+    /// cursors.
+    pub(crate) fn may_be_said(self, raw: bool, cursors: u64) -> bool
+        ensures { result ≡ may_say raw cursors self }
     {
         match self {
-            Word::Cursor => cursors < MAX_CURSORS,
-            Word::Forge => false,
+            Word::Cursor => !raw && cursors < MAX_CURSORS,
+            Word::Forge => raw,
             Word::Edit(_)
             | Word::Undo
             | Word::Redo
@@ -57,7 +58,7 @@ impl Word {
             | Word::Present
             | Word::Take
             | Word::Push
-            | Word::Pull => true,
+            | Word::Pull => !raw,
         }
     }
 }
