@@ -1,3 +1,4 @@
 pub mod Reports
 pub mod TooLong
 pub mod Answered
+pub mod Cases

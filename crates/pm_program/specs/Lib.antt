@@ -5,3 +5,4 @@ pub mod Playing
 pub mod Sounds
 pub mod Output
 pub mod Headline
+pub mod Cases

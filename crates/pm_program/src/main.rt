@@ -3,6 +3,7 @@
 
 mod answer;
 mod call;
+mod laws;
 mod making;
 mod replaying;
 #[cfg(test)]

@@ -1,13 +1,12 @@
 -- Two meanings of an input agree.
 use Rattle.std.proofs.Common.{◌≡◌, ℕ, Bool, true, false, List, length, refl, sym, subst}
 use Rattle.std.specs.Prelude.{[], drop, nat_lt, Option, Some, None, Result, Ok, Err, MatchBool}
-use Rattle.pm_list.specs.Readings.{◌>>=◌, or_fault}
 use Rattle.pm_head.specs.declared.reading.Head.{Head}
-use Rattle.pm_head.specs.Clients.{editors}
 use Rattle.pm_head.specs.Heads.{HeadIs}
 use Rattle.pm_head.specs.Lines.{lines_of}
 use Rattle.pm_head.specs.OneMeaning.{SameHead}
 use Rattle.pm_head.proofs.OneHead.{head-apart, one-fault, one-head}
+use Rattle.pm_meaning.specs.Steps.{Step}
 use Rattle.pm_ops.specs.declared.op.Op.{Op}
 use Rattle.pm_session.specs.declared.line.Line.{Line}
 use Rattle.pm_script.specs.declared.session.Session.{Session}
@@ -25,19 +24,15 @@ Sessions (Err fault) (Err other) = fault ≡ other
 these : (r r' q q' : Result Session (ℕ × ℕ)) → r ≡ r' → q ≡ q' → Sessions r' q' → Sessions r q
 these r r' q q' e f a = subst (λ z. Sessions z q) (sym e) (subst (Sessions r') (sym f) a)
 
-with-alike : (g h : Head) → SameHead g h → (o : Result (List (Line Op)) (ℕ × ℕ)) → Sessions (with_ops g o) (with_ops h o)
+with-alike : (g h : Head) → SameHead g h → (o : Result (List (Line Op Step)) (ℕ × ℕ)) → Sessions (with_ops g o) (with_ops h o)
 with-alike g h e (Ok ops) = record { head = e; lines = refl }
 with-alike g h e (Err fault) = refl
 
 behind-alike : (g h : Head) → SameHead g h → (lines : List (List ℕ)) → Sessions (behind g lines) (behind h lines)
-behind-alike g h e lines = subst (λ z. Sessions (behind g lines) (or_fault (3, 99) (editors z) >>= (λ names. with_ops h (ops_of h.schema.spec z [] 4 lines)))) e.clients (at (editors g.clients))
-  where
-    same : ops_of g.schema.spec g.clients [] 4 lines ≡ ops_of h.schema.spec g.clients [] 4 lines
-    same = ops-alike g.schema.spec h.schema.spec e.types g.clients [] 4 lines
-
-    at : (o : Option (List (List ℕ))) → Sessions (or_fault (3, 99) o >>= (λ names. with_ops g (ops_of g.schema.spec g.clients [] 4 lines))) (or_fault (3, 99) o >>= (λ names. with_ops h (ops_of h.schema.spec g.clients [] 4 lines)))
-    at None = refl
-    at (Some names) = subst (λ z. Sessions (with_ops g (ops_of g.schema.spec g.clients [] 4 lines)) (with_ops h z)) same (with-alike g h e (ops_of g.schema.spec g.clients [] 4 lines))
+behind-alike g h e lines =
+    let same = ops-alike g.schema.spec h.schema.spec e.types g.clients [] 4 lines in
+    let ops = ops_of g.schema.spec g.clients [] 4 lines in
+    subst (λ z. Sessions (with_ops g ops) (with_ops h (ops_of h.schema.spec z [] 4 lines))) e.clients (subst (λ z. Sessions (with_ops g ops) (with_ops h z)) same (with-alike g h e ops))
 
 of-lines : (lines : List (List ℕ)) (x y : Result Head (ℕ × ℕ)) → HeadIs lines x → HeadIs lines y → (rest : List (List ℕ)) → Sessions (behind_head x rest) (behind_head y rest)
 of-lines lines (Ok g) (Ok h) f k rest = behind-alike g h (one-head lines g h f k) rest

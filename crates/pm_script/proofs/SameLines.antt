@@ -1,8 +1,8 @@
 -- What an op line says by a spec, it says by each spec with the same types.
 use Rattle.std.proofs.Common.{◌≡◌, ℕ, ◌+◌, List, [], ◌∷◌, ◌++◌, refl}
 use Rattle.std.specs.Prelude.{codes, nat_lt, Ok, Err, if◌then◌else◌}
-use Rattle.serde_json.specs.Data.{Data}
-use Rattle.serde_json.specs.Find.{get}
+use Rattle.serde_json.specs.Data.{Data, Items, no_items, item}
+use Rattle.serde_json.specs.Find.{get, as_array}
 use Rattle.pm_list.specs.Readings.{◌>>=◌, or_fault}
 use Rattle.pm_schema.specs.declared.spec.SchemaSpec.{SchemaSpec}
 use Rattle.pm_schema.specs.Names.{place_of}
@@ -15,6 +15,7 @@ use Rattle.pm_head.proofs.SameNodes.{names-alike, node-attrs-alike, mark-of-alik
 use Rattle.pm_ops.specs.declared.op.Op.{Op}
 use Rattle.pm_ops.specs.declared.op.Op.TheVariants as op
 use Rattle.pm_session.specs.declared.line.Act.TheVariants as act
+use Rattle.pm_meaning.specs.Steps.{Step}
 use Rattle.pm_session.specs.declared.line.Line.{Line}
 use Rattle.pm_script.specs.declared.kinds.EditKind.{EditKind}
 use Rattle.pm_script.specs.declared.kinds.EditKind.TheVariants as kind
@@ -22,9 +23,9 @@ use Rattle.pm_script.specs.declared.word.Word.{Word}
 use Rattle.pm_script.specs.declared.word.Word.TheVariants as word
 use Rattle.pm_script.specs.Codes.{coded, node_coded}
 use Rattle.pm_script.specs.Fields.{text_in, number_in, event_in}
-use Rattle.pm_script.specs.Parts.{as_step, step_in, slice_in, node_in, mark_in, type_in, attrs_in}
+use Rattle.pm_script.specs.Parts.{as_step, step_in, step_list, steps_in, slice_in, node_in, mark_in, type_in, attrs_in}
 use Rattle.pm_script.specs.Ops.{step_op, paste_op, insert_op, wrap_op, set_type_op, add_mark_op, remove_mark_op, op_of}
-use Rattle.pm_script.specs.Acts.{edit_in, act_in}
+use Rattle.pm_script.specs.Acts.{edit_in, forge_in, act_in}
 use Rattle.pm_script.specs.Lines.{last_line, client_in, word_in, said, named, op_in, op_line}
 use Rattle.pm_script.specs.Sessions.{at_line, ops_of}
 use Rattle.pm_script.proofs.SameSteps.{slice-alike, step-alike}
@@ -34,6 +35,15 @@ module _ (s t : SchemaSpec) (h : HaveSameTypes s t) where
 
   step-in-alike : (d : Data) → step_in s d ≡ step_in t d
   step-in-alike d = λ i. or_fault 6 (get (codes "step") d) >>= (λ v. coded (step-alike s t h v i) >>= (λ read. Ok (as_step read)))
+
+  step-list-alike : (ds : Items) → step_list s ds ≡ step_list t ds
+  unfolding step_list
+  step-list-alike no_items = refl
+  step-list-alike (item d ds) = λ i. coded (step-alike s t h d i) >>= (λ first. step-list-alike ds i >>= (λ rest. Ok (first ∷ rest)))
+
+  steps-in-alike : (d : Data) → steps_in s d ≡ steps_in t d
+  unfolding steps_in
+  steps-in-alike d = λ i. or_fault 6 (get (codes "steps") d) >>= (λ value. or_fault 6 (as_array value) >>= (λ items. step-list-alike items i))
 
   slice-in-alike : (d : Data) → slice_in s d ≡ slice_in t d
   slice-in-alike d = λ i. or_fault 6 (get (codes "slice") d) >>= (λ v. node_coded (slice-alike s t h v i))
@@ -100,6 +110,11 @@ module _ (s t : SchemaSpec) (h : HaveSameTypes s t) where
   unfolding edit_in
   edit-alike k d = λ i. op-alike k d i >>= (λ edit. event_in d >>= (λ event. Ok (act.Edit edit event)))
 
+  forge-alike : (d : Data) → forge_in s d ≡ forge_in t d
+  unfolding forge_in
+  forge-alike d = λ i. number_in (codes "version") d >>= (λ version. steps-in-alike d i >>= (λ forged. Ok (act.Forge version forged)))
+
+  -- what the word does
   act-alike : (w : Word) (d : Data) → act_in s w d ≡ act_in t w d
   act-alike (word.Edit k) d = edit-alike k d
   act-alike word.Undo d = refl
@@ -111,17 +126,17 @@ module _ (s t : SchemaSpec) (h : HaveSameTypes s t) where
   act-alike word.Take d = refl
   act-alike word.Push d = refl
   act-alike word.Pull d = refl
-  act-alike word.Forge d = refl
+  act-alike word.Forge d = forge-alike d
 
-  op-in-alike : (clients : List ClientEntry) (earlier : List (Line Op)) (n : ℕ) (d : Data) → op_in s clients earlier n d ≡ op_in t clients earlier n d
+  op-in-alike : (clients : List ClientEntry) (earlier : List (Line Op Step)) (n : ℕ) (d : Data) → op_in s clients earlier n d ≡ op_in t clients earlier n d
   unfolding op_in
-  op-in-alike clients earlier n d = λ i. client_in clients d >>= (λ client. word_in d >>= (λ found. said earlier client found >>= (λ w. act-alike w d i >>= (λ read. named earlier client read >>= (λ done. Ok (record { number = n; client = client; act = done }))))))
+  op-in-alike clients earlier n d = λ i. client_in clients d >>= (λ client. word_in d >>= (λ found. said clients earlier client found >>= (λ w. act-alike w d i >>= (λ read. named earlier client read >>= (λ done. Ok (record { number = n; client = client; act = done }))))))
 
-  op-line-alike : (clients : List ClientEntry) (earlier : List (Line Op)) (n : ℕ) (line : List ℕ) → op_line s clients earlier n line ≡ op_line t clients earlier n line
+  op-line-alike : (clients : List ClientEntry) (earlier : List (Line Op Step)) (n : ℕ) (line : List ℕ) → op_line s clients earlier n line ≡ op_line t clients earlier n line
   unfolding op_line
   op-line-alike clients earlier n line = λ i. if nat_lt last_line n then Err 4 else (json_line line >>= (λ d. op-in-alike clients earlier n d i))
 
-  pub ops-alike : (clients : List ClientEntry) (earlier : List (Line Op)) (n : ℕ) (lines : List (List ℕ)) → ops_of s clients earlier n lines ≡ ops_of t clients earlier n lines
+  pub ops-alike : (clients : List ClientEntry) (earlier : List (Line Op Step)) (n : ℕ) (lines : List (List ℕ)) → ops_of s clients earlier n lines ≡ ops_of t clients earlier n lines
   unfolding ops_of
   ops-alike clients earlier n [] = refl
   ops-alike clients earlier n (line ∷ rest) = λ i. at_line n (op-line-alike clients earlier n line i) >>= (λ done. ops-alike clients (earlier ++ done ∷ []) (n + 1) rest i >>= (λ later. Ok (done ∷ later)))

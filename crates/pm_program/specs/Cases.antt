@@ -1,0 +1,16 @@
+-- Which status an input has, by what it is, where no read and no write failed.
+use Rattle.std.specs.Prelude.{◌≡◌, ◌⊎◌, ℕ, List, Ok, Err}
+use Rattle.pm_script.specs.declared.session.Session.{Session}
+use Rattle.pm_script.specs.Sessions.{SessionIs}
+use Rattle.pm_program.specs.declared.call.Status.{Status}
+use Rattle.pm_program.specs.declared.call.Status.TheVariants.{Done, SessionRefused, NoMemory}
+
+-- Done for a session, and SessionRefused for an input that is none; or memory ran out
+pub record IsByCase (input : List ℕ) (status : Status) : Type 0 where
+  pub session : (s : Session) → SessionIs input (Ok s) → (status ≡ Done) ⊎ (status ≡ NoMemory)
+  pub refused : (fault : ℕ × ℕ) → SessionIs input (Err fault) → (status ≡ SessionRefused) ⊎ (status ≡ NoMemory)
+
+-- status 1 is that of no session, and status 0 that of no other input
+pub record Tells (input : List ℕ) (status : Status) : Type 0 where
+  pub session : (s : Session) → SessionIs input (Ok s) → status ≡ SessionRefused → ⊥
+  pub refused : (fault : ℕ × ℕ) → SessionIs input (Err fault) → status ≡ Done → ⊥
