@@ -1,2 +1,3 @@
+pub mod RunFolds
 pub mod RunSteps
 pub mod Presented

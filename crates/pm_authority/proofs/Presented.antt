@@ -4,7 +4,7 @@ use Rattle.std.specs.declared.alloc.AllocError.{AllocError}
 use Rattle.std.proofs.Common.{ap, sym, subst, ◌∙◌, inl, inr, arith}
 use Rattle.std.proofs.lemmas.Bool.{eq-eqb, eqb-true}
 use Rattle.pm_change.specs.Changes.{Meaning}
-use Rattle.pm_change.specs.Folds.{fold-cons}
+use Rattle.pm_change.proofs.Folds.{fold-cons}
 use Rattle.pm_authority.specs.declared.named.Named.{Named}
 use Rattle.pm_authority.specs.declared.running.Refusal.{Refusal}
 use Rattle.pm_authority.specs.declared.message.Message.{Message}
@@ -13,7 +13,7 @@ use Rattle.pm_authority.specs.declared.message.Answer.{Answer}
 use Rattle.pm_authority.specs.declared.message.Answer.TheVariants.{Accepted, WrongVersion, StepRefused, Entries}
 use Rattle.pm_authority.specs.declared.authority.Authority.{Authority}
 use Rattle.pm_authority.specs.Runs.{run, then_run, changes_of, StopsAt}
-use Rattle.pm_authority.specs.RunFolds.{run-fold, fold-run}
+use Rattle.pm_authority.proofs.RunFolds.{run-fold, fold-run}
 use Rattle.pm_authority.specs.Presents.{tried, submitted, presented}
 use Rattle.pm_authority.specs.Causes.{IsAnswer, IsNext}
 

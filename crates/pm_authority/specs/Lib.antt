@@ -3,4 +3,3 @@ pub mod Presents
 pub mod Kept
 pub mod Causes
 pub mod Requests
-pub mod RunFolds

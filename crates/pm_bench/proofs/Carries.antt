@@ -8,7 +8,7 @@ use Rattle.pm_map.specs.Moves.{inverted_ranges}
 use Rattle.pm_map.specs.Through.{through, ArePaired}
 use Rattle.pm_map.specs.Mirrors.{pushed, fronted, enclosed, gap_for}
 use Rattle.pm_map.specs.Fits.{FitsSizes, FitBetween}
-use Rattle.pm_map.specs.Sizes.{inverted-fits, fit-front, fit-behind, position-fits}
+use Rattle.pm_map.proofs.Sizes.{inverted-fits, fit-front, fit-behind, position-fits}
 
 -- a map of one range fits the size in which the range lies
 pub one-fits : (r : Span) (n : ℕ) → r.start + r.old_size ≤ n → FitsSizes (r ∷ []) n ((n - r.old_size) + r.new_size)

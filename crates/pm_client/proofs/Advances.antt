@@ -4,7 +4,7 @@ use Rattle.std.proofs.lemmas.List.{take-append-drop}
 use Rattle.std.proofs.lemmas.List.Elements.{All-from_recursion}
 use Rattle.std.proofs.Math.Seq.{drop-append_seam}
 use Rattle.pm_change.specs.Changes.{Meaning, Laws, fold}
-use Rattle.pm_change.specs.Folds.{fold-append}
+use Rattle.pm_change.proofs.Folds.{fold-append}
 use Rattle.pm_change.specs.Failing.{Answers}
 use Rattle.pm_change.specs.declared.failed.Failed.{Failed}
 use Rattle.pm_change.specs.declared.failed.Failed.TheVariants.{Reason as FailedFor}
@@ -12,17 +12,17 @@ use Rattle.pm_authority.specs.declared.named.Named.{Named}
 use Rattle.pm_authority.specs.declared.running.Refusal.{Refusal}
 use Rattle.pm_authority.specs.declared.message.Answer.TheVariants.{Accepted, Entries}
 use Rattle.pm_authority.specs.Runs.{run, changes_of, AllApply}
-use Rattle.pm_authority.specs.RunFolds.{changes-append, fold-run, run-fold}
+use Rattle.pm_authority.proofs.RunFolds.{changes-append, fold-run, run-fold}
 use Rattle.pm_client.specs.declared.client.Client.{Client}
-use Rattle.pm_client.specs.Takings.{rest-of}
+use Rattle.pm_client.proofs.Takings.{rest-of}
 use Rattle.pm_client.specs.Plans.{Meets, MayConfirm, Fits}
-use Rattle.pm_client.specs.Prefixes.{front-applies}
+use Rattle.pm_client.proofs.Prefixes.{front-applies}
 use Rattle.pm_client.specs.Clients.{own_run, carried}
-use Rattle.pm_client.specs.Keeps.{base-good}
+use Rattle.pm_client.proofs.Keeps.{base-good}
 use Rattle.pm_client.specs.Cursors.{AreWithin, HasRoomIn}
 use Rattle.pm_client.specs.Rebases.{maps_of}
 use Rattle.pm_client.specs.Rebasables.{NamedHasMap, CanRebaseOver}
-use Rattle.pm_client.specs.RebaseLaws.{Fork, fork, can-over, over-can, maps-fit, plain-paired, cursors-room}
+use Rattle.pm_client.proofs.RebaseLaws.{Fork, fork, can-over, over-can, maps-fit, plain-paired, cursors-room}
 
 module _ {Rules Doc Reason C : Type 0} (m : Meaning Rules Doc Reason C) (rules : Rules) where
   no-refusal : (doc : Doc) (ns : List (Named C)) (r : Refusal Reason) → (end : Doc) × AllApply m rules doc ns end → run m rules doc 0 ns ≡ Err r → ⊥

@@ -14,9 +14,9 @@ use Rattle.pm_client.specs.declared.taken.Taken.{Taken}
 use Rattle.pm_client.specs.declared.taken.Taken.TheVariants.{Confirmed, Rebased, Stale, Refused}
 use Rattle.pm_client.specs.Clients.{own_run, given, confirmed, brought, carried, confirmed_first, others_taken, rest_taken, taken, taken_if, taken_at, answer_at}
 use Rattle.pm_client.specs.Kins.{IsOwn, IsForeign, Stands}
-use Rattle.pm_client.specs.Lists.{Each-front}
+use Rattle.pm_client.proofs.Lists.{Each-front}
 use Rattle.pm_client.specs.Plans.{Meets}
-use Rattle.pm_client.specs.Takings.{own_run-is, rest-of}
+use Rattle.pm_client.proofs.Takings.{own_run-is, rest-of}
 use Rattle.pm_client.specs.Causes.{PastVersion, AreLost, IsTaken}
 use Rattle.pm_client.proofs.Advances.{confirm-applies, accepted-may, entries-fit}
 use Rattle.pm_client.proofs.Plannings.{meets-found}

@@ -2,11 +2,11 @@
 use Rattle.std.specs.Prelude.{◌≡◌, ℕ, ◌+◌, true, List, Option, Result, Ok, Err, refl}
 use Rattle.std.proofs.Common.{subst}
 use Rattle.pm_change.specs.Changes.{Meaning, Laws}
-use Rattle.pm_change.specs.Folds.{fold-good}
+use Rattle.pm_change.proofs.Folds.{fold-good}
 use Rattle.pm_authority.specs.declared.named.Named.{Named}
 use Rattle.pm_authority.specs.declared.running.Refusal.{Refusal}
 use Rattle.pm_authority.specs.Runs.{run, changes_of, AllApply}
-use Rattle.pm_authority.specs.RunFolds.{run-fold}
+use Rattle.pm_authority.proofs.RunFolds.{run-fold}
 use Rattle.pm_history.specs.declared.branches.Side.TheVariants.{Edit}
 use Rattle.pm_history.specs.Histories.{noted_all}
 use Rattle.pm_history.specs.Timelines.{items_from}
@@ -14,7 +14,7 @@ use Rattle.pm_client.specs.declared.client.Client.{Client}
 use Rattle.pm_client.specs.Clients.{named, gone_on, tried, edited}
 use Rattle.pm_client.specs.Cursors.{AreWithin}
 use Rattle.pm_client.specs.Rebases.{maps_of}
-use Rattle.pm_client.specs.RebaseLaws.{maps-fit, plain-paired, cursors-move}
+use Rattle.pm_client.proofs.RebaseLaws.{maps-fit, plain-paired, cursors-move}
 use Rattle.pm_client.specs.Timelines.{edit_steps}
 
 module _ {Rules Doc Reason C : Type 0} (m : Meaning Rules Doc Reason C) (rules : Rules) (laws : Laws m) (c next : Client C Rules Doc Reason) where

@@ -9,7 +9,7 @@ use Rattle.pm_map.specs.Moves.{moved_from, kept_at, inverted_from, inverted_rang
 use Rattle.pm_map.specs.Through.{start_from, result_start, new_at, through, through_from, joined, at_pos, partner, stepped, skipped, IsPairedAt, ArePaired}
 use Rattle.pm_map.specs.Mirrors.{entry, fronted, enclosed, gap_for}
 use Rattle.pm_map.specs.Fits.{FitsFrom, FitsSizes, new_size_of}
-use Rattle.pm_map.specs.Rooms.{zero-sums}
+use Rattle.pm_map.proofs.Rooms.{zero-sums}
 use Rattle.pm_client.specs.TokenNames.{Token, tokens_from, spliced_from, spliced, Unpinched, Has}
 use Rattle.pm_client.proofs.Tokens.{Survives, length-fresh, get-front, get-back, length-take, moved_sum, fits-end, stands-moved}
 use Rattle.pm_client.proofs.Origins.{place_of, get-fresh, Origin, Old, New, origin}

@@ -1,3 +1,16 @@
+pub mod Lists
+pub mod Prefixes
+pub mod RebaseLaws
+pub mod SerialLists
+pub mod Partings
+pub mod DropLaws
+pub mod TimelineLaws
+pub mod Carryings
+pub mod Pasts
+pub mod Keeps
+pub mod Takings
+pub mod Answering
+pub mod LogNames
 mod Names
 mod Advances
 mod Plannings

@@ -19,7 +19,7 @@ use Rattle.pm_client.specs.Clients.{answer_at}
 use Rattle.pm_client.specs.Rebases.{maps_of, ranges_of, start, rebased}
 use Rattle.pm_client.specs.Kins.{Stands}
 use Rattle.pm_client.specs.Plans.{Meets, carried_out}
-use Rattle.pm_client.specs.Takings.{index-get, answer-stands}
+use Rattle.pm_client.proofs.Takings.{index-get, answer-stands}
 
 -- the answer that was read is that of the number
 pub found : {Rules Doc Reason C : Type 0} (c : Client C Rules Doc Reason) (i : ℕ) (xs : List (Answer C Rules Doc Reason)) (a : Answer C Rules Doc Reason)

@@ -6,7 +6,7 @@ use Rattle.pm_authority.specs.declared.named.Named.{Named}
 use Rattle.pm_client.specs.declared.rebasing.Rebasing.{Rebasing}
 use Rattle.pm_client.specs.Rebases.{rebased, rebased_one}
 use Rattle.pm_client.specs.Rebasables.{CanRebase, MayRebase}
-use Rattle.pm_client.specs.RebaseLaws.{can-one, can-more}
+use Rattle.pm_client.proofs.RebaseLaws.{can-one, can-more}
 
 module _ {Rules Doc Reason C : Type 0} (m : Meaning Rules Doc Reason C) (rules : Rules) where
   -- what is still to be gone through leads to where the whole leads

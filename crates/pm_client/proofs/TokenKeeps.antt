@@ -5,28 +5,28 @@ use Rattle.std.proofs.Common.{true, arith, sym, ap, ◌∙◌, subst, append_ass
 use Rattle.std.proofs.Math.Seq.{drop-append_seam}
 use Rattle.pm_map.specs.Through.{through}
 use Rattle.pm_change.specs.Changes.{Meaning, Laws, fold}
-use Rattle.pm_change.specs.Folds.{fold-cons}
+use Rattle.pm_change.proofs.Folds.{fold-cons}
 use Rattle.pm_authority.specs.declared.named.Named.{Named}
 use Rattle.pm_authority.specs.declared.running.Refusal.{Refusal}
 use Rattle.pm_authority.specs.Runs.{run, changes_of, AllApply}
-use Rattle.pm_authority.specs.RunFolds.{run-fold}
+use Rattle.pm_authority.proofs.RunFolds.{run-fold}
 use Rattle.pm_history.specs.declared.branches.Branches.{Branches}
 use Rattle.pm_history.specs.declared.branches.Side.TheVariants.{Edit}
 use Rattle.pm_history.specs.Histories.{noted_all}
 use Rattle.pm_history.specs.Timelines.{items_from}
 use Rattle.pm_client.specs.declared.client.Client.{Client}
 use Rattle.pm_client.specs.declared.rebasing.Rebasing.{Rebasing}
-use Rattle.pm_client.specs.Lists.{Each-front, Each-back, take-seam}
+use Rattle.pm_client.proofs.Lists.{Each-front, Each-back, take-seam}
 use Rattle.pm_client.specs.Serials.{serials_of, own_serials, Rises}
 use Rattle.pm_client.specs.Rebases.{maps_of, start, rebased}
-use Rattle.pm_client.specs.RebaseLaws.{fork, maps-fit, plain-paired}
+use Rattle.pm_client.proofs.RebaseLaws.{fork, maps-fit, plain-paired}
 use Rattle.pm_client.specs.Cursors.{moved_cursor}
 use Rattle.pm_client.specs.Timelines.{edit_steps}
 use Rattle.pm_client.specs.Clients.{named, own_run, gone_on, edited, tried, confirmed, brought, taken_if, taken_at, answer_at}
-use Rattle.pm_client.specs.Takings.{own_run-is, one-taken, answer-stands}
+use Rattle.pm_client.proofs.Takings.{own_run-is, one-taken, answer-stands}
 use Rattle.pm_authority.specs.declared.message.Answer.{Answer}
 use Rattle.pm_client.specs.Kins.{IsOwn, IsForeign, Kin}
-use Rattle.pm_client.specs.Keeps.{base-good, kin-edited}
+use Rattle.pm_client.proofs.Keeps.{base-good, kin-edited}
 use Rattle.pm_client.specs.TokenNames.{Token, Unpinched, Has, names_after, NoneBy, AllDiffer, AllUnpinched, passed, over_others, gone_over, KeepsTokens}
 use Rattle.pm_client.proofs.Leads.{Leads}
 use Rattle.pm_client.proofs.TokenRuns.{none-spliced}

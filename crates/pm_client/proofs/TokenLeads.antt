@@ -8,17 +8,17 @@ use Rattle.pm_map.specs.declared.step_map.Moved.{Moved}
 use Rattle.pm_map.specs.Moves.{moved_from, kept_at, inverted_ranges}
 use Rattle.pm_map.specs.Through.{joined}
 use Rattle.pm_map.specs.Fits.{FitsSizes}
-use Rattle.pm_map.specs.Rooms.{zero-sums}
+use Rattle.pm_map.proofs.Rooms.{zero-sums}
 use Rattle.pm_change.specs.declared.name.Name.{Name}
 use Rattle.pm_change.specs.Changes.{Meaning, Laws}
-use Rattle.pm_change.specs.Folds.{fold-cons}
+use Rattle.pm_change.proofs.Folds.{fold-cons}
 use Rattle.pm_authority.specs.declared.named.Named.{Named}
 use Rattle.pm_authority.specs.Runs.{changes_of, AllApply}
 use Rattle.pm_client.specs.declared.rebasing.Rebasing.{Rebasing}
-use Rattle.pm_client.specs.Lists.{Each-front, Each-back}
+use Rattle.pm_client.proofs.Lists.{Each-front, Each-back}
 use Rattle.pm_client.specs.Rebases.{maps_of, ended, led, rebased_one, rebased}
 use Rattle.pm_client.specs.Rebasables.{CanRebase}
-use Rattle.pm_client.specs.RebaseLaws.{one-can}
+use Rattle.pm_client.proofs.RebaseLaws.{one-can}
 use Rattle.pm_client.specs.TokenNames.{Token, Put, spliced, Unpinched, Has, names_after, Once, NotBy, NoneBy, AllDiffer, AllUnpinched}
 use Rattle.pm_client.proofs.Tokens.{Survives, stands-moved}
 use Rattle.pm_client.proofs.Origins.{Origin, Old, New, origin, place_of}

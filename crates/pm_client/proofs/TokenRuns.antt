@@ -4,10 +4,10 @@ use Rattle.std.specs.List.{AllByRecursion as Each}
 use Rattle.std.proofs.Common.{arith, sym, ap, subst, length-append, length-drop}
 use Rattle.pm_map.specs.declared.step_map.Span.{Span}
 use Rattle.pm_map.specs.Fits.{FitsFrom, FitsSizes}
-use Rattle.pm_map.specs.Rooms.{zero-sums}
+use Rattle.pm_map.proofs.Rooms.{zero-sums}
 use Rattle.pm_change.specs.declared.name.Name.{Name}
 use Rattle.pm_authority.specs.declared.named.Named.{Named}
-use Rattle.pm_client.specs.Lists.{Each-append}
+use Rattle.pm_client.proofs.Lists.{Each-append}
 use Rattle.pm_client.specs.TokenNames.{Token, Put, tokens_from, spliced_from, spliced, Once, NotBy, NoneBy}
 use Rattle.pm_client.proofs.Tokens.{length-fresh, length-take, moved_sum, fits-end}
 use Rattle.pm_client.proofs.Leads.{Distinct, Unseen}

@@ -18,19 +18,19 @@ use Rattle.pm_history.specs.Tidy.{NoRangeUndoes, IsTidy}
 use Rattle.pm_history.specs.Unchanged.{NothingSince}
 use Rattle.pm_history.specs.Remembers.{live_names, Remembers}
 use Rattle.pm_history.specs.Standing.{IsHistoryOf}
-use Rattle.pm_history.specs.Grows.{undo-remembers, redo-remembers, history-shows}
-use Rattle.pm_history.specs.Turned.{IsLast, history-undone}
+use Rattle.pm_history.proofs.Grows.{undo-remembers, redo-remembers, history-shows}
+use Rattle.pm_history.proofs.Turned.{IsLast, history-undone}
 use Rattle.pm_history.proofs.Mades.{made-event}
 use Rattle.pm_history.proofs.Agrees.{undo-restores, undo-remembered}
 use Rattle.pm_client.specs.declared.client.Client.{Client}
 use Rattle.pm_client.specs.Clients.{named, turned, event_turned, last_turned}
 use Rattle.pm_client.specs.Cursors.{HasRoomIn}
 use Rattle.pm_client.specs.Kins.{Kin}
-use Rattle.pm_client.specs.Keeps.{doc-good, timeline-applies, kin-gone_on}
+use Rattle.pm_client.proofs.Keeps.{doc-good, timeline-applies, kin-gone_on}
 use Rattle.pm_client.specs.Rebases.{maps_of}
 use Rattle.pm_client.specs.Rebasables.{NamedHasMap}
-use Rattle.pm_client.specs.RebaseLaws.{maps-fit, plain-paired, cursors-room}
-use Rattle.pm_client.specs.TimelineLaws.{made-timeline, named-changes}
+use Rattle.pm_client.proofs.RebaseLaws.{maps-fit, plain-paired, cursors-room}
+use Rattle.pm_client.proofs.TimelineLaws.{made-timeline, named-changes}
 use Rattle.pm_client.specs.TokenNames.{KeepsTokens}
 use Rattle.pm_client.specs.Undoings.{GivesBack, TurnsOver}
 use Rattle.pm_client.proofs.TokenKeeps.{gone_on-keeps}

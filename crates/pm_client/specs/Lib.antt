@@ -9,17 +9,4 @@ pub mod Rebasables
 pub mod Plans
 pub mod Makes
 pub mod Undoings
-pub mod Lists
-pub mod Prefixes
-pub mod RebaseLaws
-pub mod SerialLists
-pub mod Partings
-pub mod DropLaws
-pub mod TimelineLaws
-pub mod Carryings
-pub mod Pasts
-pub mod Keeps
-pub mod Takings
-pub mod Answering
-pub mod LogNames
 pub mod TokenNames

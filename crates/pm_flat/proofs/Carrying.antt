@@ -4,7 +4,7 @@ use Rattle.pm_map.specs.declared.mapping.Mirrored.{Mirrored}
 use Rattle.pm_map.specs.Moves.{is_before, kept_at}
 use Rattle.pm_map.specs.Through.{ArePaired, HasRoom, through}
 use Rattle.pm_map.specs.Fits.{FitBetween}
-use Rattle.pm_map.specs.Sizes.{position-fits}
+use Rattle.pm_map.proofs.Sizes.{position-fits}
 
 last-small : (ms : List Mirrored) (n k : ℕ) → FitBetween ms n k → k < 2 ^ 32
 last-small [] n k h = omega (arith, h.0, h.1)

@@ -10,7 +10,7 @@ use Rattle.pm_map.specs.Through.{through}
 use Rattle.pm_map.specs.Fits.{FitsSizes, new_size_of}
 use Rattle.pm_map.specs.Stills.{MovesNothing}
 use Rattle.pm_change.specs.Changes.{Laws, HasInverseMap, fold}
-use Rattle.pm_change.specs.Folds.{fold-cons}
+use Rattle.pm_change.proofs.Folds.{fold-cons}
 use Rattle.pm_flat.specs.declared.flat.Replace.{Replace}
 use Rattle.pm_flat.specs.declared.flat.Reason.TheVariants.{Range, Depth, Large, Content}
 use Rattle.pm_flat.specs.Flat.{meaning, outcome, size, max_size, is_inside, is_empty, same, spliced, back_step, range_of, raised, carried, is_within}

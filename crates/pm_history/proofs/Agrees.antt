@@ -7,7 +7,7 @@ use Rattle.pm_map.specs.declared.step_map.Span.{Span}
 use Rattle.pm_map.specs.Mirrors.{fit}
 use Rattle.pm_change.specs.declared.name.Name.{Name}
 use Rattle.pm_change.specs.Changes.{Meaning, Laws}
-use Rattle.pm_change.specs.Folds.{fold-good}
+use Rattle.pm_change.proofs.Folds.{fold-good}
 use Rattle.pm_history.specs.declared.item.Item.{Item}
 use Rattle.pm_history.specs.declared.undoing.Undone.{Undone}
 use Rattle.pm_history.specs.Items.{one_step}
@@ -17,7 +17,7 @@ use Rattle.pm_history.specs.Timelines.{Step, changes_of, items_from}
 use Rattle.pm_history.specs.Unchanged.{NothingSince}
 use Rattle.pm_history.specs.Undos.{find, then_made, own_item, tried, put, undo_steps, undo_found, undo_event}
 use Rattle.pm_history.specs.Remembers.{Lacks, StandsFor, StandFor, Remembers}
-use Rattle.pm_history.specs.Folding.{items-append}
+use Rattle.pm_history.proofs.Folding.{items-append}
 use Rattle.pm_history.proofs.Since.{event-unchanged}
 
 -- the changes that undo the step of a live name are kept

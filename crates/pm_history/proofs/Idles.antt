@@ -5,14 +5,14 @@ use Rattle.std.proofs.Common.{sym, ap, subst, ◌∙◌, ⊎_elim, inl, inr}
 use Rattle.std.proofs.lemmas.List.Elements.{recursion_from_All}
 use Rattle.pm_map.specs.declared.step_map.Span.{Span}
 use Rattle.pm_change.specs.Changes.{Meaning, Laws, fold, HasInverseMap}
-use Rattle.pm_change.specs.Folds.{fold-append}
+use Rattle.pm_change.proofs.Folds.{fold-append}
 use Rattle.pm_history.specs.declared.item.Item.{Item}
 use Rattle.pm_change.specs.declared.name.Name.{Name}
 use Rattle.pm_history.specs.Items.{one_step}
 use Rattle.pm_history.specs.Tidy.{NoRangeUndoes, Once}
 use Rattle.pm_history.specs.Timelines.{Step, changes_of, Ties, item_at, next_items, items_from, Idle, nothing, both, undone}
 use Rattle.pm_history.proofs.Passes.{NoneOver, MoveBack, IsEmpty, Passes, passes-both, passes-empties, passes-undone}
-use Rattle.pm_history.specs.Folding.{changes-append, fold-first, fold-split, items-append, own-at, next-none, some-same}
+use Rattle.pm_history.proofs.Folding.{changes-append, fold-first, fold-split, items-append, own-at, next-none, some-same}
 use Rattle.pm_history.proofs.Restores.{same-self, not-empty}
 
 module _ {C : Type 0} where

@@ -6,7 +6,7 @@ use Rattle.pm_change.specs.declared.name.Name.{Name}
 use Rattle.pm_map.specs.declared.step_map.Span.{Span}
 use Rattle.pm_map.specs.declared.mapping.Mirrored.{Mirrored}
 use Rattle.pm_map.specs.Mirrors.{fit}
-use Rattle.pm_map.specs.Growths.{fit-shape}
+use Rattle.pm_map.proofs.Growths.{fit-shape}
 use Rattle.pm_map.specs.Through.{ArePaired, IsPairedAt}
 use Rattle.pm_history.specs.declared.item.Item.{Item}
 use Rattle.pm_history.specs.declared.lane.Lane.{Lane}

@@ -1,3 +1,14 @@
+pub mod Folding
+pub mod Keeps
+pub mod Grows
+pub mod Edited
+pub mod Calls
+pub mod Thins
+pub mod Rebased
+pub mod Ties
+pub mod Numbers
+pub mod Turned
+pub mod TiedLaws
 pub mod Lanes
 pub mod Tables
 pub mod Starts

@@ -3,14 +3,14 @@ use Rattle.std.specs.Prelude.{◌≡◌, ℕ, suc, ◌+◌, true, List, [], ◌�
 use Rattle.std.proofs.Common.{sym, ap, subst, ◌∙◌, arith, length-append}
 use Rattle.pm_change.specs.declared.name.Name.{Name}
 use Rattle.pm_change.specs.Changes.{Meaning, fold}
-use Rattle.pm_change.specs.Folds.{fold-append}
+use Rattle.pm_change.proofs.Folds.{fold-append}
 use Rattle.pm_history.specs.declared.item.Item.{Item}
 use Rattle.pm_history.specs.declared.undoing.Undone.{Undone}
 use Rattle.pm_history.specs.Timelines.{Step, changes_of, next_items, items_from}
 use Rattle.pm_history.specs.Undos.{find, none_made, then_made, own_item, where_applies, tried, put, undo_steps, undo_found, undo_event}
 use Rattle.pm_history.specs.Pairs.{paired}
 use Rattle.pm_history.specs.Made.{made_steps, IsMade}
-use Rattle.pm_history.specs.Folding.{fold-first, items-append}
+use Rattle.pm_history.proofs.Folding.{fold-first, items-append}
 
 module _ {C : Type 0} (client : ℕ) where
   steps-append : (serial : ℕ) (cs ds : List C) (is js : List (Item C)) → length is ≡ length cs

@@ -13,7 +13,7 @@ use Rattle.pm_map.specs.Mirrors.{fit, fit_all}
 use Rattle.pm_history.specs.declared.item.Item.{Item}
 use Rattle.pm_change.specs.declared.name.Name.{Name}
 use Rattle.pm_map.specs.Stills.{AreApart}
-use Rattle.pm_map.specs.Backs.{GoesBack, IsBack, goes-back}
+use Rattle.pm_map.proofs.Backs.{GoesBack, IsBack, goes-back}
 use Rattle.pm_history.specs.Items.{one_step}
 use Rattle.pm_history.specs.Pairs.{paired, later_in, one_more}
 use Rattle.pm_history.specs.Tidy.{NoRangeUndoes}

@@ -10,7 +10,7 @@ use Rattle.pm_map.specs.Moves.{kept_at, inverted_ranges}
 use Rattle.pm_map.specs.Through.{through_from}
 use Rattle.pm_map.specs.Stills.{MovesNothing, AreApart}
 use Rattle.pm_change.specs.Changes.{Meaning, Laws, fold, HasInverseMap}
-use Rattle.pm_change.specs.Folds.{fold-cons}
+use Rattle.pm_change.proofs.Folds.{fold-cons}
 use Rattle.pm_history.specs.declared.item.Item.{Item}
 use Rattle.pm_change.specs.declared.name.Name.{Name}
 use Rattle.pm_history.specs.Items.{same_name}
@@ -18,7 +18,7 @@ use Rattle.pm_history.specs.Pairs.{paired}
 use Rattle.pm_history.specs.Tidy.{NoRangeUndoes}
 use Rattle.pm_history.proofs.Passes.{NoneOver, MoveBack, IsEmpty, Passes, passes-both, passes-empty, passes-empties, passes-undone}
 use Rattle.pm_history.specs.declared.undoing.Undone.{Undone}
-use Rattle.pm_history.specs.Folding.{some-same}
+use Rattle.pm_history.proofs.Folding.{some-same}
 use Rattle.pm_history.specs.Undos.{find, none_made, own_item, where_applies, tried, put, undo_steps, undo_found, undo_event}
 
 module _ {Rules Doc Reason C : Type 0} (m : Meaning Rules Doc Reason C) (rules : Rules) where

@@ -12,7 +12,7 @@ use Rattle.pm_history.specs.Items.{one_step}
 use Rattle.pm_history.specs.Pairs.{paired}
 use Rattle.pm_history.specs.Shows.{Shows}
 use Rattle.pm_history.specs.Tries.{MayUndo, put_one}
-use Rattle.pm_history.specs.Keeps.{shows-append}
+use Rattle.pm_history.proofs.Keeps.{shows-append}
 use Rattle.pm_history.specs.Undos.{find, then_made, own_item, where_applies, tried, put}
 
 module _ {Rules Doc Reason C : Type 0} (m : Meaning Rules Doc Reason C) (rules : Rules) where

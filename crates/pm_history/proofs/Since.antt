@@ -12,7 +12,7 @@ use Rattle.pm_history.specs.Tidy.{NoRangeUndoes, NotNamed, NamesDiffer, Once, Di
 use Rattle.pm_history.specs.Undos.{find, undo_event}
 use Rattle.pm_history.specs.Timelines.{Step, changes_of, item_at, items_from, next_items}
 use Rattle.pm_history.specs.Unchanged.{Reads, MayGoBack}
-use Rattle.pm_history.specs.Folding.{fold-split, fold-first, items-append, own-at, changes-append, some-same}
+use Rattle.pm_history.proofs.Folding.{fold-split, fold-first, items-append, own-at, changes-append, some-same}
 use Rattle.pm_history.proofs.Restores.{Turns, event-restored}
 use Rattle.pm_history.proofs.Idles.{idle-still, idle-passes, once-front, once-back}
 

@@ -15,7 +15,7 @@ use Rattle.pm_history.proofs.Mades.{made-at}
 use Rattle.pm_history.proofs.Agrees.{undo-restores, undo-remembered}
 use Rattle.pm_history.proofs.Lanes.{drop-next}
 use Rattle.pm_history.specs.Undos.{undo_steps, undo_found, undo_event, find, put, own_item, where_applies, then_made, tried}
-use Rattle.pm_history.specs.Keeps.{shows-good, shows-append}
+use Rattle.pm_history.proofs.Keeps.{shows-good, shows-append}
 use Rattle.pm_history.proofs.Showing.{may-carry, may-found, put-shows, put-then}
 
 module _ {Rules Doc Reason C : Type 0} (m : Meaning Rules Doc Reason C) (rules : Rules) (laws : Laws m) where

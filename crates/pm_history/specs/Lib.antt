@@ -15,16 +15,5 @@ pub mod Undoers
 pub mod Starts
 pub mod Tries
 pub mod Drops
-pub mod Folding
-pub mod Keeps
-pub mod Grows
-pub mod Edited
-pub mod Calls
-pub mod Thins
-pub mod Rebased
-pub mod Ties
-pub mod Numbers
-pub mod Turned
 pub mod Tied
-pub mod TiedLaws
 pub mod EventLaws

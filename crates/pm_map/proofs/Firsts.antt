@@ -7,7 +7,7 @@ use Rattle.pm_map.specs.Moves.{moved_from, at_range, kept_at, AreInOrder}
 use Rattle.pm_map.specs.Through.{start_from}
 use Rattle.pm_map.specs.Stills.{IsOutside}
 use Rattle.pm_map.specs.Firsts.{FirstHolds, put_before, taken_before}
-use Rattle.pm_map.specs.Backs.{decided-before, decided-past, decided-in}
+use Rattle.pm_map.proofs.Backs.{decided-before, decided-past, decided-in}
 
 pub record Decides (rs : List Span) (i j from g l p : ℕ) (r : Span) (b : Bool) : Type 0 where
   pub far : from ≤ p

@@ -8,7 +8,7 @@ use Rattle.pm_map.specs.declared.mapping.Mirrored.{Mirrored}
 use Rattle.pm_map.specs.Moves.{moved_from, kept_at}
 use Rattle.pm_map.specs.Through.{through_from, stepped, skipped, joined, at_pos, result_start, ArePaired, IsPairedAt}
 use Rattle.pm_map.specs.Mirrors.{entry, pushed, fronted}
-use Rattle.pm_map.specs.Growths.{partner-append}
+use Rattle.pm_map.proofs.Growths.{partner-append}
 
 stepped-append : (ranges : List Span) (es fs : List Mirrored) (so m : Moved) (later : Option ℕ) (found : Option Recover) → IsPairedAt ranges later es
     → stepped so m later found (es ++ fs) ≡ stepped so m later found es

@@ -1,3 +1,8 @@
+pub mod Recovers
+pub mod Growths
+pub mod Rooms
+pub mod Sizes
+pub mod Backs
 pub mod Pairs
 pub mod Orders
 pub mod Joins

@@ -5,7 +5,7 @@ use Rattle.std.proofs.lemmas.Bool.{cases_lt, eqb-true, eqb-false, eq-eqb, true�
 use Rattle.pm_map.specs.declared.step_map.Span.{Span}
 use Rattle.pm_map.specs.Moves.{moved_from, at_range, kept_at, goes_before, inverted_from, inverted_range, AreInOrder}
 use Rattle.pm_map.specs.Stills.{IsOutside}
-use Rattle.pm_map.specs.Backs.{decided-before, decided-past, decided-in, range-pos}
+use Rattle.pm_map.proofs.Backs.{decided-before, decided-past, decided-in, range-pos}
 
 -- the map back of the map back
 pub twice : (rs : List Span) (from g l : ℕ) → AreInOrder rs from g l → l ≤ from → inverted_from (inverted_from rs g l) l g ≡ rs

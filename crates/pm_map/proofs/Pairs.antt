@@ -5,7 +5,7 @@ use Rattle.std.proofs.lemmas.List.{take_all}
 use Rattle.std.proofs.Math.Seq.{drop-cons, drop-nil}
 use Rattle.std.specs.Prelude.{slice_set}
 use Rattle.pm_map.specs.Mirrors.{entry, gap_for, pushed, paired_with}
-use Rattle.pm_map.specs.Growths.{partner-append}
+use Rattle.pm_map.proofs.Growths.{partner-append}
 use Rattle.pm_map.specs.Moves.{moved_from}
 use Rattle.pm_map.specs.declared.step_map.Span.{Span}
 use Rattle.pm_map.specs.declared.step_map.Moved.{Moved}

@@ -9,7 +9,7 @@ use Rattle.pm_map.specs.Moves.{moved_from, at_range, kept_at, inverted_ranges, i
 use Rattle.pm_map.specs.Through.{through_from, stepped, skipped}
 use Rattle.pm_map.specs.Mirrors.{entry}
 use Rattle.pm_map.specs.Stills.{AreApart, IsStart, there_and_back}
-use Rattle.pm_map.specs.Backs.{goes-back, decided-before, decided-past, decided-in, at-start-pos, not-gone}
+use Rattle.pm_map.proofs.Backs.{goes-back, decided-before, decided-past, decided-in, at-start-pos, not-gone}
 
 no-start : (rs : List Span) (from p : ℕ) → AreApart rs from → p < from → IsStart rs p → ⊥
 no-start [] from p h l s = s

@@ -9,8 +9,8 @@ use Rattle.pm_map.specs.Moves.{moved_from, kept_at, inverted_ranges}
 use Rattle.pm_map.specs.Through.{through_from, stepped, skipped, joined, at_pos, partner, result_start, ArePaired}
 use Rattle.pm_map.specs.Mirrors.{entry, enclosed, pushed}
 use Rattle.pm_map.specs.Stills.{MovesNothing, AreApart}
-use Rattle.pm_map.specs.Growths.{last-partner}
-use Rattle.pm_map.specs.Backs.{GoesBack, IsBack, goes-back}
+use Rattle.pm_map.proofs.Growths.{last-partner}
+use Rattle.pm_map.proofs.Backs.{GoesBack, IsBack, goes-back}
 use Rattle.pm_map.proofs.Joins.{through-append, through-joined, through-none, goes-on, one-behind, one-in-front}
 
 -- it stays where it is, without a flag but `after` by side -1

@@ -5,8 +5,3 @@ pub mod Fits
 pub mod Stills
 pub mod Firsts
 pub mod Laws
-pub mod Recovers
-pub mod Growths
-pub mod Rooms
-pub mod Sizes
-pub mod Backs

@@ -5,7 +5,7 @@ use Rattle.std.proofs.lemmas.List.Elements.{All-from_recursion}
 use Rattle.std.proofs.Common.{suc, refl, ap, sym, ◌∙◌, subst, arith}
 use Rattle.pm_map.specs.Fits.{FitsSizes}
 use Rattle.pm_change.specs.Changes.{HasInverseMap, fold}
-use Rattle.pm_change.specs.Folds.{fold-cons}
+use Rattle.pm_change.proofs.Folds.{fold-cons}
 use Rattle.pm_meaning.proofs.MapLaws as maps
 use Rattle.pm_attrs.specs.Attrs.{same_attrs}
 use Rattle.pm_marks.specs.Sets.{same_marks, has}

@@ -12,7 +12,7 @@ use Rattle.pm_apply.specs.Laws.{laws}
 use Rattle.pm_head.specs.Clients.{raw_flags}
 use Rattle.pm_session.specs.Sessions.{settled}
 use Rattle.pm_session.specs.Sounds.{Sound}
-use Rattle.pm_session.specs.Openings.{opened-suits}
+use Rattle.pm_session.proofs.Openings.{opened-suits}
 use Rattle.pm_session.proofs.Opening.{opened-sound}
 use Rattle.pm_session.proofs.Playing.{session-sound, suit-front}
 use Rattle.pm_session.proofs.Turns.{settled-sound}

@@ -13,7 +13,7 @@ use Rattle.pm_client.specs.declared.taken.Kind.{Kind}
 use Rattle.pm_client.specs.declared.taken.Taken.{Taken}
 use Rattle.pm_client.specs.Clients.{message_of, message_at, composed, kept, taken, taken_at}
 use Rattle.pm_client.specs.Kins.{MessageStands, Kin}
-use Rattle.pm_client.specs.Answering.{never-refused}
+use Rattle.pm_client.proofs.Answering.{never-refused}
 use Rattle.pm_session.specs.declared.outcome.Told.{Told}
 use Rattle.pm_session.specs.declared.outcome.Outcome.TheVariants.{Exchanged}
 use Rattle.pm_session.specs.Events.{told, exchanges}

@@ -14,16 +14,16 @@ use Rattle.pm_authority.specs.declared.authority.Authority.{Authority}
 use Rattle.pm_authority.specs.Kept.{IsKept}
 use Rattle.pm_authority.specs.Requests.{NamedBy}
 use Rattle.pm_authority.specs.Runs.{run}
-use Rattle.pm_authority.specs.RunFolds.{kept-append}
+use Rattle.pm_authority.proofs.RunFolds.{kept-append}
 use Rattle.pm_authority.specs.Presents.{tried, presented}
 use Rattle.pm_client.specs.declared.client.Client.{Client}
 use Rattle.pm_client.specs.Clients.{named}
-use Rattle.pm_client.specs.Keeps.{kin-foreign}
+use Rattle.pm_client.proofs.Keeps.{kin-foreign}
 use Rattle.pm_client.specs.Kins.{IsOwn, IsForeign, Kin}
-use Rattle.pm_client.specs.Lists.{Each-append}
-use Rattle.pm_client.specs.LogNames.{LogOf}
+use Rattle.pm_client.proofs.Lists.{Each-append}
+use Rattle.pm_client.proofs.LogNames.{LogOf}
 use Rattle.pm_client.specs.Serials.{times, own_serials, serials_of, Rises}
-use Rattle.pm_client.specs.SerialLists.{own_serials-append, own_serials-own, rises-append}
+use Rattle.pm_client.proofs.SerialLists.{own_serials-append, own_serials-own, rises-append}
 use Rattle.pm_session.specs.declared.member.Member.{Member}
 use Rattle.pm_session.specs.declared.member.Member.TheVariants.{Editor, Raw}
 use Rattle.pm_session.specs.declared.outcome.Outcome.{Outcome}

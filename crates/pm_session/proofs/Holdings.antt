@@ -4,7 +4,7 @@ use Rattle.std.specs.declared.alloc.AllocError.{AllocError}
 use Rattle.std.proofs.Common.{sym, ap, ◌∙◌, subst, arith, add-one, length-append}
 use Rattle.std.proofs.Math.Seq.{take-append_seam}
 use Rattle.pm_change.specs.Changes.{Meaning, Laws}
-use Rattle.pm_change.specs.Folds.{fold-good}
+use Rattle.pm_change.proofs.Folds.{fold-good}
 use Rattle.pm_authority.specs.Presents.{presented}
 use Rattle.pm_authority.specs.Runs.{AllApply, changes_of}
 use Rattle.pm_authority.specs.declared.authority.Authority.{Authority}
@@ -16,7 +16,7 @@ use Rattle.pm_client.specs.declared.client.Client.{Client}
 use Rattle.pm_client.specs.declared.taken.Kind.{Kind}
 use Rattle.pm_client.specs.declared.taken.Kind.TheVariants.{Submit as Submission, Ask as Asking}
 use Rattle.pm_client.specs.Clients.{named, message_of, message_at, composed, kept, taken}
-use Rattle.pm_client.specs.Keeps.{kin-composed}
+use Rattle.pm_client.proofs.Keeps.{kin-composed}
 use Rattle.pm_client.specs.Kins.{Kin}
 use Rattle.pm_client.specs.Serials.{Parted}
 use Rattle.pm_session.specs.declared.line.Act.{Act}

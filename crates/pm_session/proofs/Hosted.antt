@@ -3,7 +3,7 @@ use Rattle.std.specs.List.{AllByRecursion as Each}
 use Rattle.std.specs.Prelude.{◌≡◌, ℕ, zero, suc, ◌-◌, List, [], ◌∷◌, ◌++◌, slice_get, Some}
 use Rattle.std.proofs.Common.{sym, ◌∙◌, subst}
 use Rattle.pm_change.specs.Changes.{Meaning, Laws, fold}
-use Rattle.pm_change.specs.Folds.{fold-good}
+use Rattle.pm_change.proofs.Folds.{fold-good}
 use Rattle.pm_authority.specs.declared.named.Named.{Named}
 use Rattle.pm_authority.specs.declared.message.Message.{Message}
 use Rattle.pm_authority.specs.declared.message.Answer.{Answer}
@@ -15,10 +15,10 @@ use Rattle.pm_authority.specs.Runs.{changes_of}
 use Rattle.pm_client.specs.declared.client.Client.{Client}
 use Rattle.pm_client.specs.declared.taken.Kind.{Kind}
 use Rattle.pm_client.specs.Clients.{message_of, message_at, composed, kept, taken_at}
-use Rattle.pm_client.specs.Keeps.{kin-foreign, kin-composed}
-use Rattle.pm_client.specs.Lists.{Each-append}
+use Rattle.pm_client.proofs.Keeps.{kin-foreign, kin-composed}
+use Rattle.pm_client.proofs.Lists.{Each-append}
 use Rattle.pm_client.specs.Kins.{MessageStands, Kin}
-use Rattle.pm_client.specs.Takings.{kin-taken_at}
+use Rattle.pm_client.proofs.Takings.{kin-taken_at}
 use Rattle.pm_session.specs.Hosts.{IsLog, IsAnswered}
 use Rattle.pm_session.specs.Refusals.{RefusesNoStep}
 use Rattle.pm_session.specs.Sounds.{EditorStands}

@@ -1,3 +1,4 @@
+pub mod Openings
 pub mod Keeping
 pub mod SoundLaws
 pub mod Editors

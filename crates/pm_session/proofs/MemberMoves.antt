@@ -10,11 +10,11 @@ use Rattle.pm_authority.specs.Kept.{IsKept}
 use Rattle.pm_client.specs.declared.client.Client.{Client}
 use Rattle.pm_client.specs.declared.taken.Kind.{Kind}
 use Rattle.pm_client.specs.Kins.{IsOwn, Kin}
-use Rattle.pm_client.specs.Lists.{Each-append}
-use Rattle.pm_client.specs.LogNames.{LogOf, kin-log}
+use Rattle.pm_client.proofs.Lists.{Each-append}
+use Rattle.pm_client.proofs.LogNames.{LogOf, kin-log}
 use Rattle.pm_client.specs.Serials.{own_serials}
-use Rattle.pm_client.specs.SerialLists.{own_serials-append, own_serials-foreign}
-use Rattle.pm_client.specs.Takings.{get-index}
+use Rattle.pm_client.proofs.SerialLists.{own_serials-append, own_serials-foreign}
+use Rattle.pm_client.proofs.Takings.{get-index}
 use Rattle.pm_session.specs.declared.line.Act.{Act}
 use Rattle.pm_session.specs.declared.line.Act.TheVariants.{Edit, Undo, Redo, Cursor, Submit, Ask, Present, Take, Push, Pull, Forge}
 use Rattle.pm_session.specs.declared.member.Member.{Member}

@@ -4,7 +4,7 @@ use Rattle.std.specs.Prelude.{if◌then◌else◌, nat_lt, ◌≡◌, ℕ, ℤ, 
 use Rattle.std.proofs.Common.{cond, sym, ap, ◌∙◌, subst, arith, append-nil, length-append}
 use Rattle.std.proofs.lemmas.Bool.{ltb-false}
 use Rattle.std.proofs.lemmas.List.Elements.{All-from_recursion}
-use Rattle.pm_client.specs.Lists.{Each-append}
+use Rattle.pm_client.proofs.Lists.{Each-append}
 use Rattle.pm_map.specs.Moves.{IsSide}
 use Rattle.pm_change.specs.Changes.{Meaning, Laws}
 use Rattle.pm_history.specs.declared.branch.Event.{Event}
@@ -21,10 +21,10 @@ use Rattle.pm_client.specs.declared.taken.Kind.{Kind}
 use Rattle.pm_client.specs.declared.taken.Kind.TheVariants.{Submit as Submission, Ask as Asking}
 use Rattle.pm_client.specs.Clients.{edited, event_turned, last_turned, cursor_set, message_of, composed, kept, taken, taken_at, message_at}
 use Rattle.pm_client.specs.Kins.{IsOwn, MessageStands, Kin}
-use Rattle.pm_client.specs.Takings.{kin-taken_at}
-use Rattle.pm_client.specs.Keeps.{kin-edited, kin-cursor, kin-composed}
+use Rattle.pm_client.proofs.Takings.{kin-taken_at}
+use Rattle.pm_client.proofs.Keeps.{kin-edited, kin-cursor, kin-composed}
 use Rattle.pm_client.proofs.Turns.{kin-turned}
-use Rattle.pm_client.specs.Answering.{After, presented-kept, presented-only}
+use Rattle.pm_client.proofs.Answering.{After, presented-kept, presented-only}
 use Rattle.pm_session.specs.declared.line.Act.{Act}
 use Rattle.pm_session.specs.declared.line.Act.TheVariants.{Edit, Undo, Redo, Cursor, Submit, Ask, Present, Take, Push, Pull, Forge}
 use Rattle.pm_session.specs.declared.maker.NoSteps.{NoSteps}

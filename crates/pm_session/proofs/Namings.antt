@@ -5,11 +5,11 @@ use Rattle.std.proofs.Common.{sym, ap, ◌∙◌, subst, arith}
 use Rattle.std.proofs.lemmas.Bool.{eq-eqb}
 use Rattle.pm_change.specs.declared.name.Name.{Name}
 use Rattle.pm_change.specs.Changes.{Meaning, Laws}
-use Rattle.pm_change.specs.Folds.{fold-cons}
+use Rattle.pm_change.proofs.Folds.{fold-cons}
 use Rattle.pm_authority.specs.declared.named.Named.{Named}
 use Rattle.pm_authority.specs.Runs.{changes_of, AllApply}
 use Rattle.pm_client.specs.Kins.{IsOwn}
-use Rattle.pm_client.specs.Lists.{Each-append, Each-front, Each-back}
+use Rattle.pm_client.proofs.Lists.{Each-append, Each-front, Each-back}
 use Rattle.pm_client.specs.Serials.{serials_of, own_serials, Rises}
 use Rattle.pm_client.specs.TokenNames.{Token, First, Put, tokens_from, spliced, names_after, Once, NotBy, NoneBy, AllDiffer}
 use Rattle.pm_client.proofs.TokenRuns.{once-spliced, none-spliced, spliced-size}

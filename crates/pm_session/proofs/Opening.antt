@@ -3,11 +3,11 @@ use Rattle.std.specs.Prelude.{◌≡◌, ℕ, zero, suc, ◌+◌, ◌≤◌, Boo
 use Rattle.std.proofs.Common.{sym, ◌∙◌, subst, arith, append_assoc, append-nil}
 use Rattle.pm_change.specs.Changes.{Meaning}
 use Rattle.pm_authority.specs.declared.authority.Authority.{Authority}
-use Rattle.pm_client.specs.Keeps.{kin-new}
+use Rattle.pm_client.proofs.Keeps.{kin-new}
 use Rattle.pm_session.specs.declared.member.Member.{Member}
 use Rattle.pm_session.specs.Members.{name_of}
 use Rattle.pm_session.specs.Sessions.{new_member, new_members, opened}
-use Rattle.pm_session.specs.Openings.{new-at}
+use Rattle.pm_session.proofs.Openings.{new-at}
 use Rattle.pm_session.specs.Sounds.{MemberStands, Sound}
 
 -- nothing stands past the end

@@ -4,23 +4,23 @@ use Rattle.std.proofs.Common.{sym, ap, ◌∙◌, arith, length-append, length-d
 use Rattle.std.proofs.Math.Seq.{drop-append_seam}
 use Rattle.std.proofs.lemmas.Bool.{eq-eqb, eqb-true, leb-true}
 use Rattle.pm_change.specs.Changes.{Meaning, Laws, fold}
-use Rattle.pm_change.specs.Folds.{fold-append}
+use Rattle.pm_change.proofs.Folds.{fold-append}
 use Rattle.pm_authority.specs.declared.named.Named.{Named}
 use Rattle.pm_authority.specs.declared.authority.Authority.{Authority}
 use Rattle.pm_authority.specs.declared.message.Answer.TheVariants.{Accepted, Entries}
 use Rattle.pm_authority.specs.Kept.{IsKept}
 use Rattle.pm_authority.specs.Runs.{changes_of, AllApply}
-use Rattle.pm_authority.specs.RunFolds.{changes-append, fold-run}
+use Rattle.pm_authority.proofs.RunFolds.{changes-append, fold-run}
 use Rattle.pm_client.specs.declared.client.Client.{Client}
 use Rattle.pm_client.specs.declared.taken.Kind.{Kind}
 use Rattle.pm_client.specs.declared.taken.Kind.TheVariants.{Submit as Submission, Ask as Asking}
 use Rattle.pm_client.specs.declared.taken.Taken.TheVariants.{Stale}
 use Rattle.pm_client.specs.Clients.{own_run, composed, kept, confirmed_first, others_taken, rest_taken, taken}
 use Rattle.pm_client.specs.Kins.{Kin}
-use Rattle.pm_client.specs.Lists.{nothing}
-use Rattle.pm_client.specs.Prefixes.{front-applies}
-use Rattle.pm_client.specs.Takings.{get-index}
-use Rattle.pm_client.specs.Answering.{submission-applies, base-is-doc}
+use Rattle.pm_client.proofs.Lists.{nothing}
+use Rattle.pm_client.proofs.Prefixes.{front-applies}
+use Rattle.pm_client.proofs.Takings.{get-index}
+use Rattle.pm_client.proofs.Answering.{submission-applies, base-is-doc}
 use Rattle.pm_session.specs.declared.member.Member.{Member}
 use Rattle.pm_session.specs.declared.member.Member.TheVariants.{Editor, Raw}
 use Rattle.pm_session.specs.Events.{State, by_some, member_exchanges}

@@ -17,9 +17,9 @@ use Rattle.pm_client.specs.declared.taken.Kind.{Kind}
 use Rattle.pm_client.specs.declared.taken.Kind.TheVariants.{Submit as Submission, Ask as Asking}
 use Rattle.pm_client.specs.Clients.{message_of, message_at}
 use Rattle.pm_client.specs.Kins.{IsOwn, MessageStands, Kin}
-use Rattle.pm_client.specs.Lists.{Each-front}
-use Rattle.pm_client.specs.Takings.{get-index}
-use Rattle.pm_client.specs.Keeps.{doc-good}
+use Rattle.pm_client.proofs.Lists.{Each-front}
+use Rattle.pm_client.proofs.Takings.{get-index}
+use Rattle.pm_client.proofs.Keeps.{doc-good}
 use Rattle.pm_session.specs.Sounds.{IsOfOne}
 
 -- a list with another item at i: it is that item there, and the old one elsewhere

@@ -6,7 +6,7 @@ use Rattle.std.proofs.lemmas.List.{take-append-drop}
 use Rattle.pm_change.specs.Changes.{Meaning, Laws}
 use Rattle.pm_history.specs.declared.branch.Event.{Event}
 use Rattle.pm_history.specs.Histories.{last_of}
-use Rattle.pm_change.specs.Folds.{fold-good}
+use Rattle.pm_change.proofs.Folds.{fold-good}
 use Rattle.pm_authority.specs.declared.named.Named.{Named}
 use Rattle.pm_authority.specs.declared.authority.Authority.{Authority}
 use Rattle.pm_authority.specs.declared.running.Refusal.{Refusal}

@@ -13,7 +13,7 @@ use Rattle.pm_client.specs.declared.taken.Kind.{Kind}
 use Rattle.pm_client.specs.declared.taken.Kind.TheVariants.{Submit as Submission, Ask as Asking}
 use Rattle.pm_client.specs.Clients.{edited, undone_last, redone_last, cursor_set, message_of, message_at, composed, kept}
 use Rattle.pm_client.specs.Kins.{Kin}
-use Rattle.pm_client.specs.Keeps.{kin-composed}
+use Rattle.pm_client.proofs.Keeps.{kin-composed}
 use Rattle.pm_session.specs.declared.line.Line.{Line}
 use Rattle.pm_session.specs.declared.line.Act.{Act}
 use Rattle.pm_session.specs.declared.line.Act.TheVariants.{Edit, Undo, Redo, Cursor, Submit, Ask, Present, Take, Push, Pull, Forge}

@@ -9,6 +9,5 @@ pub mod Suits
 pub mod Sounds
 pub mod Standing
 pub mod Restoring
-pub mod Openings
 pub mod Holding
 pub mod Answers

@@ -9,7 +9,7 @@ use Rattle.pm_map.specs.Through.{through}
 use Rattle.pm_map.specs.Fits.{FitsSizes, new_size_of}
 use Rattle.pm_map.specs.Stills.{MovesNothing}
 use Rattle.pm_change.specs.Changes.{Laws, HasInverseMap, fold, then_some}
-use Rattle.pm_change.specs.Folds.{fold-cons}
+use Rattle.pm_change.proofs.Folds.{fold-cons}
 use Rattle.pm_sheet.specs.declared.Rules.{Rules}
 use Rattle.pm_sheet.specs.declared.Edit.{Edit}
 use Rattle.pm_sheet.specs.declared.Edit.TheVariants.{Insert, Delete}

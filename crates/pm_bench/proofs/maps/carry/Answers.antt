@@ -1,5 +1,5 @@
 use Rattle.std.proofs.Common.{arith, ◌+◌, pos, negsuc}
-use Rattle.pm_map.specs.Sizes.{position-fits}
+use Rattle.pm_map.proofs.Sizes.{position-fits}
 use Rattle.pm_bench.proofs.Carries.{around, lands, reaches}
 use Rattle.pm_bench.proofs.maps.carry.Goals as goal
 

@@ -1,5 +1,5 @@
 use Rattle.std.proofs.Common.{arith}
-use Rattle.pm_map.specs.Sizes.{position-fits}
+use Rattle.pm_map.proofs.Sizes.{position-fits}
 use Rattle.pm_bench.proofs.maps.map_all.Goals as goal
 
 pub map-sum-requires-clause-room : goal.map-sum-requires-clause-room

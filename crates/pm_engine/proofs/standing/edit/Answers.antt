@@ -1,5 +1,5 @@
 use Rattle.std.specs.Prelude.{None}
-use Rattle.pm_client.specs.Keeps.{doc-good}
+use Rattle.pm_client.proofs.Keeps.{doc-good}
 use Rattle.pm_engine.proofs.Exchanged.{edit-name}
 use Rattle.pm_engine.proofs.standing.edit.Goals as goal
 

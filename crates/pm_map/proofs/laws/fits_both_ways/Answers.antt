@@ -1,7 +1,7 @@
 use Rattle.std.proofs.Common.{arith}
 use Rattle.pm_map.specs.Moves.{is_before}
-use Rattle.pm_map.specs.Rooms.{moved-fits, zero-sums}
-use Rattle.pm_map.specs.Sizes.{inverted-fits}
+use Rattle.pm_map.proofs.Rooms.{moved-fits, zero-sums}
+use Rattle.pm_map.proofs.Sizes.{inverted-fits}
 use Rattle.pm_map.proofs.laws.fits_both_ways.Goals as goal
 
 pub returns : goal.returns

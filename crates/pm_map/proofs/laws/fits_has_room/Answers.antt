@@ -1,4 +1,4 @@
-use Rattle.pm_map.specs.Sizes.{all-fit}
+use Rattle.pm_map.proofs.Sizes.{all-fit}
 use Rattle.pm_map.proofs.laws.fits_has_room.Goals as goal
 
 pub returns : goal.returns

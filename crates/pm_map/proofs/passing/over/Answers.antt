@@ -1,4 +1,4 @@
-use Rattle.pm_map.specs.Recovers.{partner-fits}
+use Rattle.pm_map.proofs.Recovers.{partner-fits}
 use Rattle.pm_map.proofs.passing.over.Goals as goal
 
 pub place_after-requires-clause-range_in : goal.place_after-requires-clause-range_in

@@ -4,7 +4,7 @@ use Rattle.pm_schema.specs.declared.schema.Schema.{Schema}
 use Rattle.pm_meaning.specs.Steps.{Step}
 use Rattle.pm_meaning.specs.declared.reason.Reason.{Reason}
 use Rattle.pm_head.specs.Clients.{raw_flags}
-use Rattle.pm_session.specs.Openings.{opened-suits}
+use Rattle.pm_session.proofs.Openings.{opened-suits}
 use Rattle.pm_program.proofs.replaying.replay.Goals as goal
 
 pub play_all-requires-clause-suit : goal.play_all-requires-clause-suit

@@ -1,5 +1,5 @@
 use Rattle.std.proofs.Common.{◌≡◌, ℕ, ◌≤◌, ◌<◌, pos, arith, subst}
-use Rattle.pm_map.specs.Sizes.{position-fits}
+use Rattle.pm_map.proofs.Sizes.{position-fits}
 use Rattle.pm_sheet.specs.declared.Edit.{Edit}
 use Rattle.pm_sheet.specs.declared.Edit.TheVariants.{Insert, Delete}
 use Rattle.pm_sheet.specs.Edits.{is_within}

@@ -1,6 +1,6 @@
 use Rattle.std.proofs.Common.{◌∙◌, length, sym, subst, inl}
 use Rattle.pm_history.specs.declared.item.Item.{Item}
-use Rattle.pm_history.specs.Keeps.{shows-more, shows-end}
+use Rattle.pm_history.proofs.Keeps.{shows-more, shows-end}
 use Rattle.pm_history.specs.Shows.{ShowsTo}
 use Rattle.pm_sheet.specs.declared.Edit.{Edit}
 use Rattle.pm_sheet.specs.Edits.{meaning}

@@ -1,5 +1,5 @@
 use Rattle.std.proofs.Common.{negsuc}
-use Rattle.pm_map.specs.Sizes.{position-fits}
+use Rattle.pm_map.proofs.Sizes.{position-fits}
 use Rattle.pm_step.proofs.carrying.back.Goals as goal
 
 pub map-requires-clause-room : goal.map-requires-clause-room

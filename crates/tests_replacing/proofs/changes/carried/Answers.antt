@@ -1,7 +1,7 @@
 use Rattle.std.specs.Prelude.{[], ◌∷◌}
 use Rattle.std.proofs.Common.{refl, sym, subst}
 use Rattle.pm_map.specs.Fits.{FitsSizes}
-use Rattle.pm_map.specs.Sizes.{fit-behind}
+use Rattle.pm_map.proofs.Sizes.{fit-behind}
 use Rattle.tests_replacing.proofs.changes.carried.Goals as goal
 
 pub carry-requires : goal.carry-requires

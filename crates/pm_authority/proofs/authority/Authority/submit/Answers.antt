@@ -1,4 +1,4 @@
-use Rattle.pm_authority.specs.RunFolds.{kept-append}
+use Rattle.pm_authority.proofs.RunFolds.{kept-append}
 use Rattle.pm_authority.proofs.authority.Authority.submit.Goals as goal
 
 pub returns-in_ok-append-in-Ok-clause-kept : goal.returns-in_ok-append-in-Ok-clause-kept

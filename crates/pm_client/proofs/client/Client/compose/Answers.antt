@@ -1,5 +1,5 @@
 use Rattle.std.proofs.Common.{rules}
-use Rattle.pm_client.specs.Keeps.{kin-composed}
+use Rattle.pm_client.proofs.Keeps.{kin-composed}
 use Rattle.pm_client.proofs.client.Client.compose.Goals as goal
 
 pub returns-clause-kin : goal.returns-clause-kin

@@ -1,7 +1,7 @@
 use Rattle.std.proofs.Common.{◌≡◌, arith, Ok}
 use Rattle.std.proofs.lemmas.Grind.{common_steps}
 use Rattle.pm_client.specs.Clients.{edited}
-use Rattle.pm_client.specs.Keeps.{kin-edited}
+use Rattle.pm_client.proofs.Keeps.{kin-edited}
 use Rattle.pm_client.specs.Makes.{made_all}
 use Rattle.pm_client.proofs.Advances.{run-maps, run-room}
 use Rattle.pm_client.proofs.Edits.{edited-ready}

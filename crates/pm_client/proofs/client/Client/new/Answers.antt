@@ -1,4 +1,4 @@
-use Rattle.pm_client.specs.Keeps.{kin-new}
+use Rattle.pm_client.proofs.Keeps.{kin-new}
 use Rattle.pm_client.proofs.client.Client.new.Goals as goal
 
 pub returns-clause-kin : goal.returns-clause-kin

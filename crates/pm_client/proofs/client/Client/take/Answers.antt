@@ -3,7 +3,7 @@ use Rattle.pm_authority.specs.declared.named.Named.{Named}
 use Rattle.pm_client.specs.Clients.{taken_at}
 use Rattle.pm_client.specs.Kins.{Kin}
 use Rattle.pm_client.specs.Plans.{carried_out}
-use Rattle.pm_client.specs.Takings.{kin-taken_at}
+use Rattle.pm_client.proofs.Takings.{kin-taken_at}
 use Rattle.pm_client.specs.TokenNames.{KeepsTokens}
 use Rattle.pm_client.proofs.Plannings.{either-way, on-way}
 use Rattle.pm_client.proofs.Causings.{take-causes, carried-through}

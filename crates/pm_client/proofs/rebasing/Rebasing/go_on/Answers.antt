@@ -1,5 +1,5 @@
 use Rattle.std.proofs.Common.{sym, ◌∙◌}
-use Rattle.pm_client.specs.RebaseLaws.{carry-condition, mirrors}
+use Rattle.pm_client.proofs.RebaseLaws.{carry-condition, mirrors}
 use Rattle.pm_client.proofs.rebasing.Rebasing.go_on.Goals as goal
 
 pub carry-requires : goal.carry-requires

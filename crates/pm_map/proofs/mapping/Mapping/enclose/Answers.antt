@@ -1,6 +1,6 @@
 use Rattle.std.proofs.Common.{◌≡◌, rules, length, vec_len}
 use Rattle.pm_map.specs.Mirrors.{pushed}
-use Rattle.pm_map.specs.Growths.{paired-enclosed}
+use Rattle.pm_map.proofs.Growths.{paired-enclosed}
 use Rattle.pm_map.proofs.mapping.Mapping.enclose.Goals as goal
 
 pub invariant_of-self : goal.invariant_of-self

@@ -1,4 +1,4 @@
-use Rattle.pm_map.specs.Growths.{paired-append}
+use Rattle.pm_map.proofs.Growths.{paired-append}
 use Rattle.pm_map.proofs.mapping.Mapping.push.Goals as goal
 
 pub invariant_of-self-2 : goal.invariant_of-self-2

@@ -1,6 +1,6 @@
 use Rattle.std.proofs.Common.{◌≡◌, ◌-◌, rules, length, vec_len, refl}
 use Rattle.pm_map.specs.Mirrors.{pushed}
-use Rattle.pm_map.specs.Growths.{paired-with}
+use Rattle.pm_map.proofs.Growths.{paired-with}
 use Rattle.pm_map.proofs.Pairs.{noted}
 use Rattle.pm_map.proofs.mapping.Mapping.push_pair.Goals as goal
 

@@ -1,5 +1,5 @@
 use Rattle.std.proofs.Common.{◌≡◌, Some, slice_get, ◌∙◌, ap, sym}
-use Rattle.pm_client.specs.Takings.{index-get}
+use Rattle.pm_client.proofs.Takings.{index-get}
 use Rattle.pm_session.specs.Events.{state_of}
 use Rattle.pm_session.proofs.RoomActs.{exchange-is, exchange-left, exchange-sound, exchange-held}
 use Rattle.pm_session.proofs.room.Room.exchange.Goals as goal

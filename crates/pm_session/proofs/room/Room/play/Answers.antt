@@ -1,5 +1,5 @@
 use Rattle.std.proofs.Common.{◌∙◌}
-use Rattle.pm_client.specs.Takings.{get-index}
+use Rattle.pm_client.proofs.Takings.{get-index}
 use Rattle.pm_session.specs.Events.{state_of}
 use Rattle.pm_session.proofs.RoomActs.{member-suits, member-there, played-is, line-left, line-sound, line-stays, line-restores}
 use Rattle.pm_session.proofs.room.Room.play.Goals as goal

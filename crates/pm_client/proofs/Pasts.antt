@@ -10,19 +10,19 @@ use Rattle.pm_history.specs.declared.item.Item.{Item}
 use Rattle.pm_history.specs.Histories.{foreign_items, last_items, rebased as rebased_last}
 use Rattle.pm_history.specs.Timelines.{Step, changes_of as steps_changes}
 use Rattle.pm_history.specs.Standing.{IsHistoryOf}
-use Rattle.pm_history.specs.Rebased.{none, maps_of as steps_maps, items-length, history-rebased}
+use Rattle.pm_history.proofs.Rebased.{none, maps_of as steps_maps, items-length, history-rebased}
 use Rattle.pm_history.specs.Tied.{tied_as, all_tied}
-use Rattle.pm_history.specs.TiedLaws.{history-ties}
+use Rattle.pm_history.proofs.TiedLaws.{history-ties}
 use Rattle.pm_client.specs.declared.client.Client.{Client}
 use Rattle.pm_client.specs.declared.rebasing.Rebasing.{Rebasing}
 use Rattle.pm_client.specs.Clients.{carried_history}
 use Rattle.pm_client.specs.Kins.{IsOwn, IsForeign, Kin}
-use Rattle.pm_client.specs.Lists.{Each-back}
+use Rattle.pm_client.proofs.Lists.{Each-back}
 use Rattle.pm_client.specs.Rebases.{maps_of, ranges_of, start, rebased}
-use Rattle.pm_client.specs.DropLaws.{rebased-own}
+use Rattle.pm_client.proofs.DropLaws.{rebased-own}
 use Rattle.pm_client.specs.Timelines.{named_of, IsTimeline}
-use Rattle.pm_client.specs.TimelineLaws.{foreign_step, changes-are, timeline-append, timeline-split, all-own, foreign-timeline, own-timeline}
-use Rattle.pm_client.specs.Carryings.{Holds, rebased-holds}
+use Rattle.pm_client.proofs.TimelineLaws.{foreign_step, changes-are, timeline-append, timeline-split, all-own, foreign-timeline, own-timeline}
+use Rattle.pm_client.proofs.Carryings.{Holds, rebased-holds}
 
 foreign-ranges : {Rules Doc Reason C : Type 0} (m : Meaning Rules Doc Reason C) (ns : List (Named C)) → ranges_of m ns ≡ steps_maps m (map foreign_step ns)
 foreign-ranges m [] = refl

@@ -1,10 +1,10 @@
 -- The front of steps that apply applies.
 use Rattle.std.specs.Prelude.{◌≡◌, List, [], ◌∷◌, ◌++◌, Some, refl}
 use Rattle.pm_change.specs.Changes.{Meaning, fold}
-use Rattle.pm_change.specs.Folds.{fold-cons}
+use Rattle.pm_change.proofs.Folds.{fold-cons}
 use Rattle.pm_authority.specs.declared.named.Named.{Named}
 use Rattle.pm_authority.specs.Runs.{changes_of, AllApply}
-use Rattle.pm_authority.specs.RunFolds.{changes-append}
+use Rattle.pm_authority.proofs.RunFolds.{changes-append}
 
 module _ {Rules Doc Reason C : Type 0} (m : Meaning Rules Doc Reason C) (rules : Rules) where
   fold-front : (doc end : Doc) (cs ds : List C) → fold m rules doc (cs ++ ds) ≡ Some end → (mid : Doc) × (fold m rules doc cs ≡ Some mid)

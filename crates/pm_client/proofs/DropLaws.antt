@@ -9,7 +9,7 @@ use Rattle.pm_client.specs.declared.rebasing.Rebasing.{Rebasing}
 use Rattle.pm_client.specs.Rebases.{held, ended, led, rebased_one, rebased}
 use Rattle.pm_client.specs.Kins.{IsOwn}
 use Rattle.pm_client.specs.Serials.{times, serials_of, own_serials, Rises, put, merged, Parted}
-use Rattle.pm_client.specs.SerialLists.{times-append, serials-append, numbers-once}
+use Rattle.pm_client.proofs.SerialLists.{times-append, serials-append, numbers-once}
 
 -- each number is at most all later ones
 abbrev InOrder : List ℕ → Type 0

@@ -2,7 +2,7 @@
 use Rattle.std.specs.Prelude.{◌≡◌, true, List, [], ◌∷◌, ◌++◌, Some, Result, Ok, Err, refl}
 use Rattle.std.proofs.Common.{sym, ap, ◌∙◌}
 use Rattle.pm_change.specs.Changes.{Meaning, fold}
-use Rattle.pm_change.specs.Folds.{fold-cons}
+use Rattle.pm_change.proofs.Folds.{fold-cons}
 use Rattle.pm_history.specs.Timelines.{Step, changes_of, item_at, next_items, items_from}
 
 pub some-same : {A : Type 0} (a b : A) → Some a ≡ Some b → a ≡ b

@@ -7,7 +7,7 @@ use Rattle.pm_map.specs.Moves.{inverted_from, inverted_ranges, is_before, kept_a
 use Rattle.pm_map.specs.Through.{SameShape, ArePaired, HasRoom, through}
 use Rattle.pm_map.specs.Mirrors.{entry}
 use Rattle.pm_map.specs.Fits.{FitsFrom, FitsSizes, FitAll, FitBetween, first_size, last_size, new_size_of}
-use Rattle.pm_map.specs.Rooms.{zero-sums, room, ends-within}
+use Rattle.pm_map.proofs.Rooms.{zero-sums, room, ends-within}
 
 inverted-fits-from : (rs : List Span) (gained lost from n k : ℕ) → FitsFrom rs from n (n + gained) (k + lost) → lost ≤ from
     → FitsFrom (inverted_from rs gained lost) ((from + gained) - lost) k (k + lost) (n + gained)

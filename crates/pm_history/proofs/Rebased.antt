@@ -8,7 +8,7 @@ use Rattle.pm_change.specs.declared.name.Name.{Name}
 use Rattle.pm_map.specs.declared.step_map.Span.{Span}
 use Rattle.pm_map.specs.Fits.{new_size_of}
 use Rattle.pm_change.specs.Changes.{Meaning, fold}
-use Rattle.pm_change.specs.Folds.{fold-cons, fold-append}
+use Rattle.pm_change.proofs.Folds.{fold-cons, fold-append}
 use Rattle.pm_history.specs.declared.item.Item.{Item}
 use Rattle.pm_history.specs.declared.branches.Branches.{Branches}
 use Rattle.pm_history.specs.Items.{one_step, foreign_item}
@@ -17,9 +17,9 @@ use Rattle.pm_history.specs.Timelines.{Step, changes_of, item_at, next_items, it
 use Rattle.pm_history.specs.Tidy.{NoneUndoes, IsTidy}
 use Rattle.pm_history.specs.Remembers.{live_names, Lacks, StandFor, Remembers}
 use Rattle.pm_history.specs.Standing.{HasDrawn, IsHistoryOf}
-use Rattle.pm_history.specs.Folding.{changes-append, items-append, own-at}
-use Rattle.pm_history.specs.Grows.{stands-fewer, kept-fold}
-use Rattle.pm_history.specs.Thins.{ComesFrom, nothing, lost, foreign, held, comes-same, tidy-from, live-from, drawn-from, still-each, rebased-names}
+use Rattle.pm_history.proofs.Folding.{changes-append, items-append, own-at}
+use Rattle.pm_history.proofs.Grows.{stands-fewer, kept-fold}
+use Rattle.pm_history.proofs.Thins.{ComesFrom, nothing, lost, foreign, held, comes-same, tidy-from, live-from, drawn-from, still-each, rebased-names}
 
 module _ {C : Type 0} where
   still-map : (P Q : Name → Type 0) (gone kept : List (Item C)) (ns : List Name) → ((n : Name) → is_dropped gone kept n ≡ false → P n → Q n) → Each P ns → Each Q (still_named gone kept ns)

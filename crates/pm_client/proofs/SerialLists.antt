@@ -5,7 +5,7 @@ use Rattle.std.proofs.Common.{ap, arith}
 use Rattle.std.proofs.lemmas.Bool.{eqb-true, eq-eqb}
 use Rattle.pm_authority.specs.declared.named.Named.{Named}
 use Rattle.pm_client.specs.Kins.{IsOwn, IsForeign}
-use Rattle.pm_client.specs.Lists.{Each-append, Each-front}
+use Rattle.pm_client.proofs.Lists.{Each-append, Each-front}
 use Rattle.pm_client.specs.Serials.{times, serials_of, own_serials, numbers_to, Rises}
 
 pub times-append : (s : ℕ) (xs ys : List ℕ) → times s (xs ++ ys) ≡ times s xs + times s ys

@@ -15,8 +15,8 @@ use Rattle.pm_history.specs.Timelines.{Step, changes_of, item_at, items_from}
 use Rattle.pm_history.specs.Tidy.{NotNamed, NamesDiffer, NoneUndoes, NoRangeUndoes, Once, Differ, IsTidy}
 use Rattle.pm_history.specs.Remembers.{names_of, live_names, Lacks, StandsFor, StandFor, Remembers}
 use Rattle.pm_history.specs.Standing.{IsDrawn, HasDrawn, IsHistoryOf}
-use Rattle.pm_history.specs.Folding.{items-append, next-none, own-at}
-use Rattle.pm_history.specs.Grows.{each-front, each-back, each-append, differ-front, names-append, remembers-fewer, kept-fold}
+use Rattle.pm_history.proofs.Folding.{items-append, next-none, own-at}
+use Rattle.pm_history.proofs.Grows.{each-front, each-back, each-append, differ-front, names-append, remembers-fewer, kept-fold}
 
 one-none : (n : Option Name) → one_step n None ≡ false
 one-none None = refl

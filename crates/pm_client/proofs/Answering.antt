@@ -15,13 +15,13 @@ use Rattle.pm_authority.specs.declared.authority.Authority.{Authority}
 use Rattle.pm_authority.specs.Runs.{run, changes_of, AllApply}
 use Rattle.pm_authority.specs.Kept.{IsKept}
 use Rattle.pm_authority.specs.Presents.{tried, presented}
-use Rattle.pm_authority.specs.RunFolds.{kept-append, fold-run}
+use Rattle.pm_authority.proofs.RunFolds.{kept-append, fold-run}
 use Rattle.pm_client.specs.declared.client.Client.{Client}
 use Rattle.pm_client.specs.Clients.{kept}
 use Rattle.pm_client.specs.Kins.{IsOwn, IsForeign, IsPrefix, MessageStands, AnswerStands, Kin}
-use Rattle.pm_client.specs.Lists.{Each-front, nothing}
-use Rattle.pm_client.specs.Prefixes.{front-applies}
-use Rattle.pm_client.specs.Keeps.{kin-kept, kin-foreign, kin-accepted, kin-accepted-kept}
+use Rattle.pm_client.proofs.Lists.{Each-front, nothing}
+use Rattle.pm_client.proofs.Prefixes.{front-applies}
+use Rattle.pm_client.proofs.Keeps.{kin-kept, kin-foreign, kin-accepted, kin-accepted-kept}
 
 own-foreign : {C : Type 0} (a b : ℕ) (ns : List (Named C)) → (a ≡ b → ⊥) → Each (IsOwn a) ns → Each (IsForeign b) ns
 own-foreign a b [] d o = tt

@@ -17,12 +17,12 @@ use Rattle.pm_history.specs.Remembers.{names_of, live_names, Lacks, StandFor, Re
 use Rattle.pm_history.specs.Standing.{IsDrawn, HasDrawn, IsHistoryOf}
 use Rattle.pm_history.specs.Made.{made_steps, IsMade}
 use Rattle.pm_history.specs.Undos.{undo_event}
-use Rattle.pm_history.specs.Folding.{items-append}
-use Rattle.pm_history.specs.Grows.{each-front, each-back, each-append, none-tied, names-append, kept-fold, history-shows}
-use Rattle.pm_history.specs.Edited.{IsFresh, fresh-other, fresh-none, held-drawn, fresh-names, all-later, holds-more}
-use Rattle.pm_history.specs.Rebased.{stand-both, stand-same}
-use Rattle.pm_history.specs.Ties.{each-map, same-is, once-both, event-ties, event-once}
-use Rattle.pm_history.specs.Numbers.{Numbered, names-both, holds-behind, holds-own, numbered-fresh, numbered-differ, numbered-not, numbered-names, numbered-drawn, made-numbered}
+use Rattle.pm_history.proofs.Folding.{items-append}
+use Rattle.pm_history.proofs.Grows.{each-front, each-back, each-append, none-tied, names-append, kept-fold, history-shows}
+use Rattle.pm_history.proofs.Edited.{IsFresh, fresh-other, fresh-none, held-drawn, fresh-names, all-later, holds-more}
+use Rattle.pm_history.proofs.Rebased.{stand-both, stand-same}
+use Rattle.pm_history.proofs.Ties.{each-map, same-is, once-both, event-ties, event-once}
+use Rattle.pm_history.proofs.Numbers.{Numbered, names-both, holds-behind, holds-own, numbered-fresh, numbered-differ, numbered-not, numbered-names, numbered-drawn, made-numbered}
 
 -- no name of one list is in the other
 abbrev Apart : List Name → List Name → Type 0

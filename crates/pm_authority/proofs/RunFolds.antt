@@ -2,7 +2,7 @@
 use Rattle.std.specs.Prelude.{◌≡◌, ℕ, ◌+◌, List, [], ◌∷◌, ◌++◌, Some, Result, Ok, Err, refl}
 use Rattle.std.proofs.Common.{ap, ◌∙◌}
 use Rattle.pm_change.specs.Changes.{Meaning, Laws}
-use Rattle.pm_change.specs.Folds.{fold-cons, fold-append, fold-good}
+use Rattle.pm_change.proofs.Folds.{fold-cons, fold-append, fold-good}
 use Rattle.pm_authority.specs.declared.named.Named.{Named}
 use Rattle.pm_authority.specs.declared.authority.Authority.{Authority}
 use Rattle.pm_authority.specs.Runs.{run, then_run, changes_of, AllApply}

@@ -8,18 +8,18 @@ use Rattle.pm_map.specs.Moves.{inverted_ranges}
 use Rattle.pm_map.specs.Through.{SameShape, ArePaired}
 use Rattle.pm_map.specs.Mirrors.{entry, gap_for}
 use Rattle.pm_map.specs.Fits.{FitBetween}
-use Rattle.pm_map.specs.Growths.{paired-around, paired-fronted}
-use Rattle.pm_map.specs.Sizes.{fit-front, fit-behind, inverted-fits, position-fits, same-shape}
+use Rattle.pm_map.proofs.Growths.{paired-around, paired-fronted}
+use Rattle.pm_map.proofs.Sizes.{fit-front, fit-behind, inverted-fits, position-fits, same-shape}
 use Rattle.pm_change.specs.Changes.{Meaning, Laws, Applies, MayCarry, fold}
-use Rattle.pm_change.specs.Folds.{fold-cons, fold-append, fold-good}
+use Rattle.pm_change.proofs.Folds.{fold-cons, fold-append, fold-good}
 use Rattle.pm_authority.specs.declared.named.Named.{Named}
 use Rattle.pm_authority.specs.Runs.{changes_of, AllApply}
-use Rattle.pm_authority.specs.RunFolds.{changes-append}
+use Rattle.pm_authority.proofs.RunFolds.{changes-append}
 use Rattle.pm_client.specs.declared.rebasing.Rebasing.{Rebasing}
 use Rattle.pm_client.specs.Rebases.{maps_of, start, lost, held, ended, led, rebased_one, rebased}
 use Rattle.pm_client.specs.Rebasables.{HasMap, NamedHasMap, CanRebase, MayRebase, CanRebaseOver}
 use Rattle.pm_client.specs.Cursors.{AreWithin, HasRoomIn, moved_over}
-use Rattle.pm_client.specs.Prefixes.{front-applies}
+use Rattle.pm_client.proofs.Prefixes.{front-applies}
 
 -- cursors may go over maps that lead from their document, and stand in the one that these lead to
 pub cursors-move : (ms : List Mirrored) (n k : ℕ) → ArePaired ms → FitBetween ms n k → (cs : List (ℕ × ℤ)) → AreWithin n cs

@@ -4,19 +4,19 @@ use Rattle.std.specs.List.{AllByRecursion as Each}
 use Rattle.std.proofs.Common.{sym, ap, subst, ◌∙◌, append_assoc, append-nil}
 use Rattle.std.proofs.lemmas.List.{map-append}
 use Rattle.pm_change.specs.Changes.{Meaning, Laws, fold}
-use Rattle.pm_change.specs.Folds.{fold-append}
+use Rattle.pm_change.proofs.Folds.{fold-append}
 use Rattle.pm_history.specs.declared.item.Item.{Item}
 use Rattle.pm_history.specs.Timelines.{Step, changes_of, items_from}
 use Rattle.pm_history.specs.Undos.{own_item}
-use Rattle.pm_history.specs.Folding.{changes-append}
-use Rattle.pm_history.specs.Edited.{items-more}
-use Rattle.pm_history.specs.Rebased.{KeptOf, none, dropped, kept}
+use Rattle.pm_history.proofs.Folding.{changes-append}
+use Rattle.pm_history.proofs.Edited.{items-more}
+use Rattle.pm_history.proofs.Rebased.{KeptOf, none, dropped, kept}
 use Rattle.pm_history.specs.Tied.{undoes_of, tied_as, all_tied}
-use Rattle.pm_history.specs.TiedLaws.{TiedBy}
+use Rattle.pm_history.proofs.TiedLaws.{TiedBy}
 use Rattle.pm_client.specs.declared.rebasing.Rebasing.{Rebasing}
 use Rattle.pm_client.specs.Rebases.{ended, led, rebased_one, rebased}
 use Rattle.pm_client.specs.Timelines.{named_of}
-use Rattle.pm_client.specs.Lists.{Each-append}
+use Rattle.pm_client.proofs.Lists.{Each-append}
 
 module _ {Rules Doc Reason C : Type 0} (m : Meaning Rules Doc Reason C) where
   kept-append : (gs hs ks ls : List (Step C)) → KeptOf m gs ks → KeptOf m hs ls → KeptOf m (gs ++ hs) (ks ++ ls)

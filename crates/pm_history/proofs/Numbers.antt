@@ -5,7 +5,7 @@ use Rattle.std.proofs.Common.{sym, ap, subst, ◌∙◌, arith}
 use Rattle.std.proofs.lemmas.Bool.{true≢false, eq-eqb}
 use Rattle.pm_change.specs.declared.name.Name.{Name}
 use Rattle.pm_change.specs.Changes.{Meaning, fold}
-use Rattle.pm_change.specs.Folds.{fold-cons}
+use Rattle.pm_change.proofs.Folds.{fold-cons}
 use Rattle.pm_history.specs.declared.item.Item.{Item}
 use Rattle.pm_history.specs.Items.{same_name, one_step}
 use Rattle.pm_history.specs.Histories.{add_name, holds, names_in}
@@ -14,9 +14,9 @@ use Rattle.pm_history.specs.Tidy.{NotNamed, NamesDiffer, Differ}
 use Rattle.pm_history.specs.Remembers.{Lacks}
 use Rattle.pm_history.specs.Standing.{IsDrawn}
 use Rattle.pm_history.specs.Made.{made_steps}
-use Rattle.pm_history.specs.Grows.{each-append}
-use Rattle.pm_history.specs.Edited.{IsFresh, fresh-other}
-use Rattle.pm_history.specs.Ties.{each-map}
+use Rattle.pm_history.proofs.Grows.{each-append}
+use Rattle.pm_history.proofs.Edited.{IsFresh, fresh-other}
+use Rattle.pm_history.proofs.Ties.{each-map}
 
 -- own items of this client with serials from this one on
 abbrev pub Numbered : {C : Type 0} → ℕ → ℕ → List (Item C) → Type 0

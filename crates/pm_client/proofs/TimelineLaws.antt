@@ -9,11 +9,11 @@ use Rattle.pm_authority.specs.Runs.{changes_of as changes_in}
 use Rattle.pm_history.specs.declared.item.Item.{Item}
 use Rattle.pm_history.specs.Timelines.{Step, changes_of}
 use Rattle.pm_history.specs.Made.{made_steps}
-use Rattle.pm_history.specs.Calls.{AreEdits}
+use Rattle.pm_history.proofs.Calls.{AreEdits}
 use Rattle.pm_client.specs.Clients.{named}
 use Rattle.pm_client.specs.Timelines.{named_of, IsTimeline, edit_step, edit_steps}
 use Rattle.pm_client.specs.Kins.{IsOwn, IsForeign}
-use Rattle.pm_client.specs.Lists.{Each-append}
+use Rattle.pm_client.proofs.Lists.{Each-append}
 
 -- a step of another client
 abbrev pub foreign_step : {C : Type 0} → Named C → Step C

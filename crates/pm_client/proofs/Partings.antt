@@ -6,7 +6,7 @@ use Rattle.pm_authority.specs.declared.named.Named.{Named}
 use Rattle.pm_client.specs.Clients.{named}
 use Rattle.pm_client.specs.Kins.{IsOwn, IsForeign}
 use Rattle.pm_client.specs.Serials.{times, serials_of, own_serials, numbers_to, Rises, Parted}
-use Rattle.pm_client.specs.SerialLists.{times-append, serials-append, own_serials-append, own_serials-own, own_serials-foreign, each-bound, rises-append}
+use Rattle.pm_client.proofs.SerialLists.{times-append, serials-append, own_serials-append, own_serials-own, own_serials-foreign, each-bound, rises-append}
 
 times-named : {C : Type 0} (s client d : ℕ) (cs : List C)
     → times s (serials_of (named client (d + 1) cs)) + times s (numbers_to d) ≡ times s (numbers_to (d + length cs))

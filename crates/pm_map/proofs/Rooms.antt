@@ -8,7 +8,7 @@ use Rattle.pm_map.specs.declared.step_map.Recover.{Recover}
 use Rattle.pm_map.specs.declared.mapping.Mirrored.{Mirrored}
 use Rattle.pm_map.specs.Moves.{moved_from, kept_at, or_moved, goes_before}
 use Rattle.pm_map.specs.Through.{through_from, HasRoom, ArePaired, IsPairedAt, partner, stepped, skipped, start_from, new_at, IsIn}
-use Rattle.pm_map.specs.Recovers.{recover-in, partner-fits}
+use Rattle.pm_map.proofs.Recovers.{recover-in, partner-fits}
 use Rattle.pm_map.specs.Fits.{FitsFrom, FitsSizes, FitAll, first_size, last_size}
 
 abbrev put_in : List Span → ℕ

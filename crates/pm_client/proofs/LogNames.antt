@@ -6,9 +6,9 @@ use Rattle.pm_change.specs.Changes.{Meaning}
 use Rattle.pm_authority.specs.declared.named.Named.{Named}
 use Rattle.pm_client.specs.declared.client.Client.{Client}
 use Rattle.pm_client.specs.Kins.{IsOwn, Kin}
-use Rattle.pm_client.specs.Lists.{Each-front}
+use Rattle.pm_client.proofs.Lists.{Each-front}
 use Rattle.pm_client.specs.Serials.{times, serials_of, own_serials, Rises}
-use Rattle.pm_client.specs.SerialLists.{times-append, serials-append, own_serials-append, own_serials-own, own_serials-foreign, numbers-once, rises-front}
+use Rattle.pm_client.proofs.SerialLists.{times-append, serials-append, own_serials-append, own_serials-own, own_serials-foreign, numbers-once, rises-front}
 
 -- a client's entries in the log: their serials rise, and each stands once
 pub record LogOf {C : Type 0} (client : ℕ) (log : List (Named C)) : Type 0 where

@@ -5,7 +5,7 @@ use Rattle.std.proofs.Common.{sym, ap, subst, ◌∙◌, ⊎_elim, inl, inr, app
 use Rattle.std.proofs.lemmas.Bool.{true≢false}
 use Rattle.pm_change.specs.declared.name.Name.{Name}
 use Rattle.pm_change.specs.Changes.{Meaning, Laws, fold}
-use Rattle.pm_change.specs.Folds.{fold-append, fold-good}
+use Rattle.pm_change.proofs.Folds.{fold-append, fold-good}
 use Rattle.pm_history.specs.declared.item.Item.{Item}
 use Rattle.pm_history.specs.declared.branch.Event.{Event}
 use Rattle.pm_history.specs.declared.branches.Branches.{Branches}
@@ -16,8 +16,8 @@ use Rattle.pm_history.specs.Tidy.{NoneUndoes, NoRangeUndoes, Differ, IsTidy}
 use Rattle.pm_history.specs.Remembers.{names_of, live_names, Lacks, StandFor, Remembers}
 use Rattle.pm_history.specs.Shows.{ShowsTo}
 use Rattle.pm_history.specs.Standing.{IsHistoryOf}
-use Rattle.pm_history.specs.Folding.{changes-append}
-use Rattle.pm_history.specs.Keeps.{stand-shows}
+use Rattle.pm_history.proofs.Folding.{changes-append}
+use Rattle.pm_history.proofs.Keeps.{stand-shows}
 
 pub each-front : {A : Type 0} (P : A → Type 0) (xs ys : List A) → Each P (xs ++ ys) → Each P xs
 each-front P [] ys h = tt

@@ -4,7 +4,7 @@ use Rattle.std.specs.List.{AllByRecursion as Each}
 use Rattle.std.proofs.Common.{sym, ap, subst, ◌∙◌}
 use Rattle.pm_change.specs.declared.name.Name.{Name}
 use Rattle.pm_change.specs.Changes.{Meaning, fold}
-use Rattle.pm_change.specs.Folds.{fold-cons}
+use Rattle.pm_change.proofs.Folds.{fold-cons}
 use Rattle.pm_history.specs.declared.item.Item.{Item}
 use Rattle.pm_history.specs.declared.branches.Branches.{Branches}
 use Rattle.pm_history.specs.Items.{same_name, one_step}
@@ -13,12 +13,12 @@ use Rattle.pm_history.specs.Timelines.{Step, changes_of, item_at, items_from}
 use Rattle.pm_history.specs.Tidy.{NotNamed, NamesDiffer}
 use Rattle.pm_history.specs.Remembers.{live_names, StandFor}
 use Rattle.pm_history.specs.Standing.{IsHistoryOf}
-use Rattle.pm_history.specs.Folding.{items-append, own-at}
-use Rattle.pm_history.specs.Rebased.{items-cons, seam}
+use Rattle.pm_history.proofs.Folding.{items-append, own-at}
+use Rattle.pm_history.proofs.Rebased.{items-cons, seam}
 use Rattle.pm_history.specs.Tied.{undoes_of}
-use Rattle.pm_history.specs.Ties.{each-map}
-use Rattle.pm_history.specs.Turned.{same-flip, each-both}
-use Rattle.pm_history.specs.Numbers.{same-self}
+use Rattle.pm_history.proofs.Ties.{each-map}
+use Rattle.pm_history.proofs.Turned.{same-flip, each-both}
+use Rattle.pm_history.proofs.Numbers.{same-self}
 
 -- each of these steps undoes what the item of its name says
 abbrev pub TiedBy : {C : Type 0} → List (Item C) → List (Step C) → Type 0

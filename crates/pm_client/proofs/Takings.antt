@@ -16,8 +16,8 @@ use Rattle.pm_client.specs.declared.taken.Taken.TheVariants.{Confirmed, Rebased,
 use Rattle.pm_client.specs.Clients.{own_run, given, confirmed, brought, carried, confirmed_first, others_taken, rest_taken, taken, taken_if, taken_at, answer_at}
 use Rattle.pm_client.specs.Rebases.{maps_of, start, rebased}
 use Rattle.pm_client.specs.Kins.{IsOwn, IsForeign, AnswerStands, Kin}
-use Rattle.pm_client.specs.Lists.{Each-front, take-seam, part-past, two-parts}
-use Rattle.pm_client.specs.Keeps.{kin-confirmed, kin-brought}
+use Rattle.pm_client.proofs.Lists.{Each-front, take-seam, part-past, two-parts}
+use Rattle.pm_client.proofs.Keeps.{kin-confirmed, kin-brought}
 
 -- the leading own steps of own steps and then others' are the own steps
 pub own_run-is : {C : Type 0} (client : ℕ) (standing front : List (Named C)) → Each (IsOwn client) standing → Each (IsForeign client) front

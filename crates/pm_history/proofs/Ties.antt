@@ -13,8 +13,8 @@ use Rattle.pm_history.specs.Pairs.{paired}
 use Rattle.pm_history.specs.Shows.{Shows, ShowsTo}
 use Rattle.pm_history.specs.Tidy.{NoRangeUndoes, Once, Differ}
 use Rattle.pm_history.specs.Undos.{find, where_applies, tried, put, undo_steps, undo_found, undo_event}
-use Rattle.pm_history.specs.Grows.{each-append, none-tied}
-use Rattle.pm_history.specs.Rebased.{no-range}
+use Rattle.pm_history.proofs.Grows.{each-append, none-tied}
+use Rattle.pm_history.proofs.Rebased.{no-range}
 
 pub each-map : {A : Type 0} (P Q : A → Type 0) (xs : List A) → ((x : A) → P x → Q x) → Each P xs → Each Q xs
 each-map P Q [] f h = tt

@@ -3,7 +3,7 @@ use Rattle.std.specs.Prelude.{◌≡◌, ℕ, suc, ◌+◌, Bool, true, false, L
 use Rattle.std.proofs.Common.{sym, ap, subst, ◌∙◌, append_assoc, append-nil, arith}
 use Rattle.pm_change.specs.declared.name.Name.{Name}
 use Rattle.pm_change.specs.Changes.{Meaning, fold}
-use Rattle.pm_change.specs.Folds.{fold-cons, fold-append}
+use Rattle.pm_change.proofs.Folds.{fold-cons, fold-append}
 use Rattle.pm_history.specs.declared.item.Item.{Item}
 use Rattle.pm_history.specs.declared.branch.Event.{Event}
 use Rattle.pm_history.specs.declared.branches.Side.TheVariants.{Edit}
@@ -11,8 +11,8 @@ use Rattle.pm_history.specs.declared.branches.Branches.{Branches}
 use Rattle.pm_history.specs.Histories.{event_of, extended, put_event, add_name, opens, names_in, recorded_where, noted_all, noted_own}
 use Rattle.pm_history.specs.Timelines.{Step, changes_of, item_at, next_items, items_from}
 use Rattle.pm_history.specs.Standing.{IsHistoryOf}
-use Rattle.pm_history.specs.Folding.{changes-append, own-at}
-use Rattle.pm_history.specs.Edited.{IsFresh, history-edited}
+use Rattle.pm_history.proofs.Folding.{changes-append, own-at}
+use Rattle.pm_history.proofs.Edited.{IsFresh, history-edited}
 
 -- own steps of an edit: they undo none, and have serials one after another from this one on
 abbrev pub AreEdits : {C : Type 0} → ℕ → ℕ → List (Step C) → Type 0

@@ -7,7 +7,7 @@ use Rattle.std.proofs.lemmas.Bool.{ltb-true, ltb-false}
 use Rattle.std.specs.List.{AllByRecursion as Each}
 use Rattle.pm_map.specs.Moves.{IsSide}
 use Rattle.pm_change.specs.Changes.{Meaning, Laws, fold}
-use Rattle.pm_change.specs.Folds.{fold-append, fold-good}
+use Rattle.pm_change.proofs.Folds.{fold-append, fold-good}
 use Rattle.pm_authority.specs.declared.named.Named.{Named}
 use Rattle.pm_authority.specs.declared.running.Refusal.{Refusal}
 use Rattle.pm_authority.specs.declared.message.Message.{Message}
@@ -15,31 +15,31 @@ use Rattle.pm_authority.specs.declared.message.Message.TheVariants.{Submit, Ask}
 use Rattle.pm_authority.specs.declared.message.Answer.{Answer}
 use Rattle.pm_authority.specs.declared.message.Answer.TheVariants.{Accepted, WrongVersion, StepRefused, Entries}
 use Rattle.pm_authority.specs.Runs.{run, changes_of, AllApply}
-use Rattle.pm_authority.specs.RunFolds.{changes-append, run-fold}
+use Rattle.pm_authority.proofs.RunFolds.{changes-append, run-fold}
 use Rattle.pm_history.specs.declared.branches.Branches.{Branches}
 use Rattle.pm_history.specs.declared.branches.Side.TheVariants.{Edit}
 use Rattle.pm_history.specs.Histories.{noted_all}
 use Rattle.pm_history.specs.Timelines.{Step, changes_of as steps_changes, items_from}
 use Rattle.pm_history.specs.Standing.{IsHistoryOf}
-use Rattle.pm_history.specs.Grows.{history-new}
-use Rattle.pm_history.specs.Rebased.{items-length}
-use Rattle.pm_history.specs.Calls.{history-call}
+use Rattle.pm_history.proofs.Grows.{history-new}
+use Rattle.pm_history.proofs.Rebased.{items-length}
+use Rattle.pm_history.proofs.Calls.{history-call}
 use Rattle.pm_client.specs.declared.client.Client.{Client}
 use Rattle.pm_client.specs.declared.taken.Kind.{Kind}
 use Rattle.pm_client.specs.declared.taken.Kind.TheVariants.{Submit as ToSubmit, Ask as ToAsk}
 use Rattle.pm_client.specs.Clients.{named, new_client, gone_on, tried, edited, message_of, composed, kept, confirmed, brought, cursor_set}
 use Rattle.pm_client.specs.Kins.{IsOwn, IsForeign, IsPrefix, IsPart, MessageStands, AnswerStands, Past, Kin}
-use Rattle.pm_client.specs.Lists.{All-more, All-push, Each-append, Each-front, Each-back, nothing}
+use Rattle.pm_client.proofs.Lists.{All-more, All-push, Each-append, Each-front, Each-back, nothing}
 use Rattle.pm_client.specs.Serials.{Parted, Rises, own_serials, serials_of, merged}
 use Rattle.pm_client.specs.Rebases.{maps_of, start, rebased}
 use Rattle.pm_client.specs.Cursors.{IsWithin}
-use Rattle.pm_client.specs.RebaseLaws.{maps-fit, plain-paired, cursors-move, fork, over-can, rebased-applied}
+use Rattle.pm_client.proofs.RebaseLaws.{maps-fit, plain-paired, cursors-move, fork, over-can, rebased-applied}
 use Rattle.pm_client.specs.declared.rebasing.Rebasing.{Rebasing}
 use Rattle.pm_client.specs.Timelines.{IsTimeline, edit_steps}
-use Rattle.pm_client.specs.TimelineLaws.{changes-are, timeline-append, edits-timeline, named-length, edits-length}
-use Rattle.pm_client.specs.Pasts.{past-carried}
-use Rattle.pm_client.specs.Partings.{parted-edited, parted-confirmed, parted-foreign}
-use Rattle.pm_client.specs.DropLaws.{parted-dropped, rebased-times, rebased-order, rebased-own}
+use Rattle.pm_client.proofs.TimelineLaws.{changes-are, timeline-append, edits-timeline, named-length, edits-length}
+use Rattle.pm_client.proofs.Pasts.{past-carried}
+use Rattle.pm_client.proofs.Partings.{parted-edited, parted-confirmed, parted-foreign}
+use Rattle.pm_client.proofs.DropLaws.{parted-dropped, rebased-times, rebased-order, rebased-own}
 
 named-own : {C : Type 0} (client serial : ℕ) (cs : List C) → Each (IsOwn client) (named client serial cs)
 named-own client serial [] = tt
