@@ -1,19 +1,18 @@
 -- What the tests of a replaceAround, in their order, say of its outcome.
 use Rattle.std.specs.Prelude.{◌≡◌, ℕ, ◌≤◌, Bool, true, false, ◌&&◌, nat_le, List, [], ◌∷◌, length, take, drop, Result, Ok, Err}
 use Rattle.std.proofs.Common.{refl, ap, sym, ◌∙◌}
-use Rattle.std.proofs.lemmas.Bool.{leb-true}
+use Rattle.std.proofs.lemmas.Bool.{leb-true, and_parts}
 use Rattle.pm_tokens.specs.Tokens.{Token, Doc}
 use Rattle.pm_tokens.specs.Scan.{closes_then_opens, is_whole, part}
 use Rattle.pm_tokens.specs.Schemas.{Schema}
 use Rattle.pm_tokens.specs.Slices.{Slice, is_slice, slice_size, slice_tokens, spliced_around, depths_fit}
-use Rattle.pm_tokens.proofs.ScanLaws.{and-both}
 use Rattle.pm_meaning.specs.declared.reason.Reason.{Reason}
 use Rattle.pm_meaning.specs.declared.reason.Reason.TheVariants.{Range, Structure, Gap, Depth, Pair}
 use Rattle.pm_meaning.specs.Steps.{ReplaceAround}
 use Rattle.pm_meaning.specs.Outcomes.{in_order, keeps_structure, parts_no_pair, outcome}
 use Rattle.pm_replace.specs.Splices.{spliced_outcome}
 use Rattle.pm_apply.specs.declared.around.Ends.{Ends}
-use Rattle.pm_apply.proofs.MarkOutcomes.{passes, fails}
+use Rattle.pm_replace.proofs.OutcomeAnswers.{passes, fails}
 
 -- positions in order, and what is inserted within the slice
 pub record IsOrdered (ends : Ends) (sl : Slice) (n : ℕ) : Type 0 where
@@ -28,10 +27,10 @@ are_ordered ends sl n = in_order (ends.from ∷ ends.gap_from ∷ ends.gap_to �
 
 pub is-ordered : (ends : Ends) (sl : Slice) (n : ℕ) → are_ordered ends sl n ≡ true → IsOrdered ends sl n
 is-ordered ends sl n h =
-    let a = and-both (in_order (ends.from ∷ ends.gap_from ∷ ends.gap_to ∷ ends.to ∷ []) n) (nat_le ends.insert (slice_size sl)) h in
-    let b = and-both (nat_le ends.from ends.gap_from) (in_order (ends.gap_from ∷ ends.gap_to ∷ ends.to ∷ []) n) a.0 in
-    let c = and-both (nat_le ends.gap_from ends.gap_to) (in_order (ends.gap_to ∷ ends.to ∷ []) n) b.1 in
-    let d = and-both (nat_le ends.gap_to ends.to) (nat_le ends.to n) c.1 in
+    let a = and_parts (in_order (ends.from ∷ ends.gap_from ∷ ends.gap_to ∷ ends.to ∷ []) n) (nat_le ends.insert (slice_size sl)) h in
+    let b = and_parts (nat_le ends.from ends.gap_from) (in_order (ends.gap_from ∷ ends.gap_to ∷ ends.to ∷ []) n) a.0 in
+    let c = and_parts (nat_le ends.gap_from ends.gap_to) (in_order (ends.gap_to ∷ ends.to ∷ []) n) b.1 in
+    let d = and_parts (nat_le ends.gap_to ends.to) (nat_le ends.to n) c.1 in
     record {
       before = leb-true ends.from ends.gap_from b.0;
       gap = leb-true ends.gap_from ends.gap_to c.0;

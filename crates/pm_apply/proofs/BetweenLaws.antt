@@ -37,12 +37,6 @@ module _ {Z : Type 0} (xs : List (Arc Node Z)) (i : ℕ) where
   pub front-all : length (front xs i) ≤ length (list_tokens xs)
   front-all = omega (arith, ap length front-rest, length-append (front xs i) (rest xs i))
 
--- whole nodes
-pub front-whole : {Z : Type 0} (xs : List (Arc Node Z)) (i : ℕ) → EachWhole xs → Balanced (front xs i)
-front-whole xs zero w = none
-front-whole [] (suc i) w = none
-front-whole (x ∷ xs) (suc i) w = balanced-append (whole-node (arc_value x) w.0) (front-whole xs i w.1)
-
 -- where no child from i on has a token in the range, there is none left, or the range ends before
 pub behind-range : {Z : Type 0} (xs : List (Arc Node Z)) (i from to : ℕ) → from ≤ to → (i < length xs → to ≤ length (front xs i)) → (to - length (front xs i) ≤ from - length (front xs i)) ⊎ (rest xs i ≡ [])
 behind-range xs i from to h stop = elim (cases_lt i (length xs)) [

@@ -7,11 +7,11 @@ use Rattle.pm_tokens.specs.Tokens.{Marks, Token, CodeUnit, marks_of}
 use Rattle.pm_tokens.specs.Kids.{text_tokens}
 use Rattle.pm_tokens.specs.Schemas.{Schema}
 use Rattle.pm_tokens.proofs.MarkLaws.{marks-equal, marks-itself}
-use Rattle.pm_tokens.proofs.ScanLaws.{and-true}
 use Rattle.pm_meaning.specs.Steps.{Step}
 use Rattle.pm_meaning.specs.Marked.{takes_marks}
 use Rattle.pm_meaning.specs.Runs.{Run, close_run, continues, due, next_run, run_steps}
 use Rattle.pm_apply.specs.Walks.{due_all, run_after}
+use Rattle.std.proofs.lemmas.Bool.{and_from}
 
 abbrev pub differ : Marks → Marks → Bool
 differ old new = not (same_marks same_attrs old new)
@@ -100,7 +100,7 @@ module _ (s : Schema) where
     after-on p run (u ∷ us) d c = rw (d, c) (after-on (p + 1) run us d c)
 
     own : (p : ℕ) → continues (Some (record { start = p; old = m; new = g })) m g ≡ true
-    own p = and-true (same_marks same_attrs m m) (same_marks same_attrs g g) (marks-itself m) (marks-itself g)
+    own p = and_from (same_marks same_attrs m m) (same_marks same_attrs g g) (marks-itself m) (marks-itself g)
 
     same-if : differ m g ≡ false → m ≡ g
     same-if d = by (same_marks same_attrs m g) refl d

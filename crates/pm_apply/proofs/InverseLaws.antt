@@ -5,7 +5,6 @@ use Rattle.pm_tokens.specs.Tokens.{Marks, Token, Open, Close, Leaf, CodeUnit, Do
 use Rattle.pm_tokens.specs.Schemas.{Schema}
 use Rattle.pm_tokens.specs.Scan.{parts_pair}
 use Rattle.pm_tokens.specs.Slices.{Slice}
-use Rattle.pm_tokens.proofs.ScanLaws.{and-both}
 use Rattle.pm_tokens.proofs.PartLaws.{is-slice}
 use Rattle.pm_meaning.specs.Steps.{Step, Replace, ReplaceAround}
 use Rattle.pm_meaning.specs.declared.reason.Reason.TheVariants.{Range, Pair, NoNode}
@@ -21,6 +20,7 @@ use Rattle.pm_apply.specs.declared.marking.Marking.TheVariants.{Add, Remove}
 use Rattle.pm_apply.specs.Around.{IsPlaced}
 use Rattle.pm_apply.specs.Markings.{range_step, node_step}
 use Rattle.pm_apply.specs.Nodes.{marks_first}
+use Rattle.std.proofs.lemmas.Bool.{and_parts}
 
 pub replace-order : (s : Schema) (from to : ℕ) (sl : Slice) (structure : Bool) (d next : Doc) → outcome s (Replace from to sl structure) d ≡ Ok next → (from ≤ to) × (to ≤ length d.tokens)
 replace-order s from to sl structure d next h = let r = replaced s from to sl structure d next h in (r.ordered, r.within)
@@ -52,8 +52,8 @@ range-facts s f from to d next h =
     let o = range-order s f from to d next h in
     let u₁ = unless-ok (in_order (from ∷ to ∷ []) (length d.tokens)) Range _ next h in
     let u₂ = unless-ok (parts_no_pair d.tokens (from ∷ to ∷ [])) Pair (checked s (marked f from to d)) next u₁.1 in
-    let p = and-both (not (parts_pair d.tokens from)) (parts_no_pair d.tokens (to ∷ [])) u₂.0 in
-    let q = and-both (not (parts_pair d.tokens to)) true p.1 in
+    let p = and_parts (not (parts_pair d.tokens from)) (parts_no_pair d.tokens (to ∷ [])) u₂.0 in
+    let q = and_parts (not (parts_pair d.tokens to)) true p.1 in
     record { order = o.0; within = o.1; start = not-true _ p.0; end = not-true _ q.0 }
 
 pub range-is : (s : Schema) (m : Marking) (from to : ℕ) (d next : Doc) → outcome s (range_step m from to) d ≡ Ok next → IsRange d.tokens from to
@@ -77,7 +77,7 @@ node-facts : (s : Schema) (f : Marks → Marks) (pos : ℕ) (d next : Doc) → n
 node-facts s f pos d next h =
     let u₁ = unless-ok (in_order (pos ∷ []) (length d.tokens)) Range _ next h in
     let u₂ = unless-ok (parts_no_pair d.tokens (pos ∷ [])) Pair (and_unless (starts_node (drop pos d.tokens)) NoNode (checked s (node_marked f pos d))) next u₁.1 in
-    let p = and-both (not (parts_pair d.tokens pos)) true u₂.0 in
+    let p = and_parts (not (parts_pair d.tokens pos)) true u₂.0 in
     record { within = node-order s f pos d next h; whole = not-true _ p.0; there = some-first (drop pos d.tokens) (node-stands s f pos d next h) }
 
 pub node-is : (s : Schema) (m : Marking) (pos : ℕ) (d next : Doc) → outcome s (node_step m pos) d ≡ Ok next → IsNode d.tokens pos

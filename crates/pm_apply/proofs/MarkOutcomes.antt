@@ -1,13 +1,12 @@
 -- What the tests of a mark step, in their order, say of its outcome.
 use Rattle.std.specs.Prelude.{◌≡◌, ℕ, ◌+◌, ◌-◌, ◌≤◌, ◌<◌, Bool, true, false, ◌&&◌, not, nat_le, List, [], ◌∷◌, ◌++◌, length, take, drop, Option, Some, None, IsSome, Result, Ok, Err}
 use Rattle.std.proofs.Common.{zero, suc, refl, ap, sym, ◌∙◌, arith}
-use Rattle.std.proofs.lemmas.Bool.{leb-true, le-leb, lt-leb}
+use Rattle.std.proofs.lemmas.Bool.{leb-true, le-leb, lt-leb, and_from}
 use Rattle.std.proofs.lemmas.List.{take-append-drop}
 use Rattle.pm_tokens.specs.Tokens.{Marks, Token, Open, Close, Leaf, CodeUnit, Doc, with_tokens}
 use Rattle.pm_tokens.specs.Scan.{unclosed, part, parts_pair}
 use Rattle.pm_tokens.specs.Schemas.{Schema}
 use Rattle.pm_tokens.specs.Faults.{Valid}
-use Rattle.pm_tokens.proofs.ScanLaws.{and-true}
 use Rattle.pm_tokens.proofs.ListLaws.{drop-nil}
 use Rattle.pm_meaning.specs.declared.reason.Reason.{Reason}
 use Rattle.pm_meaning.specs.declared.reason.Reason.TheVariants.{Range, Pair, NoNode}
@@ -20,18 +19,11 @@ use Rattle.pm_apply.specs.declared.marking.Marking.TheVariants.{Add, Remove}
 use Rattle.pm_apply.specs.declared.marking.Reach.TheVariants.{Inline, Nodes}
 use Rattle.pm_apply.specs.Markings.{changed, new_marks, marked_in, range_step, node_step}
 use Rattle.pm_apply.specs.Nodes.{marks_first}
-
-pub passes : {A : Type 0} (b : Bool) (r : Reason) (x : Result A Reason) → b ≡ true → unless b r x ≡ x
-passes true r x h = refl
-passes false r x h = absurd (cc)
-
-pub fails : {A : Type 0} (b : Bool) (r : Reason) (x : Result A Reason) → b ≡ false → unless b r x ≡ Err r
-fails true r x h = absurd (cc)
-fails false r x h = refl
+use Rattle.pm_replace.proofs.OutcomeAnswers.{passes, fails}
 
 -- two positions in order, or not
 pub ordered : (from to n : ℕ) → from ≤ to → to ≤ n → in_order (from ∷ to ∷ []) n ≡ true
-ordered from to n h i = and-true (nat_le from to) (nat_le to n) (le-leb from to h) (le-leb to n i)
+ordered from to n h i = and_from (nat_le from to) (nat_le to n) (le-leb from to h) (le-leb to n i)
 
 pub not-ordered : (from to n : ℕ) → (from ≤ to → to ≤ n → ⊥) → in_order (from ∷ to ∷ []) n ≡ false
 not-ordered from to n h = by (nat_le from to) (nat_le to n) refl refl

@@ -9,12 +9,7 @@ use Rattle.pm_tokens.proofs.ListLaws.{drop-nil, take-nil}
 use Rattle.pm_tokens.proofs.BalanceLaws.{unclosed-balanced}
 use Rattle.pm_meaning.specs.Marked.{with_marks}
 use Rattle.pm_apply.specs.Markings.{marked_in}
-
-pub unclosed-more : (ps : List ℕ) (t : Token) (ts : List Token) → unclosed ps (t ∷ ts) ≡ unclosed (under ps t) ts
-unclosed-more ps (Open k a m) ts = refl
-unclosed-more ps Close ts = refl
-unclosed-more ps (Leaf k a m) ts = refl
-unclosed-more ps (CodeUnit u m) ts = refl
+use Rattle.pm_tokens.proofs.ValidLaws.{under-is}
 
 module _ (f : ℕ → Token → Marks → Marks) where
   -- a token with its marks changed
@@ -74,7 +69,7 @@ module _ (f : ℕ → Token → Marks → Marks) where
       let g : suc from - 1 ≡ from = omega arith in
       let i = read-is (under ps t) from to ts (omega (arith, h)) in
       rw (e, d, g)
-      (ap (λ z. t ∷ (take from ts ++ (with_marks f z (part from to ts) ++ drop to ts))) (unclosed-more ps t (take from ts)) ∙ ap (λ z. t ∷ z) i)
+      (ap (λ z. t ∷ (take from ts ++ (with_marks f z (part from to ts) ++ drop to ts))) (under-is ps t (take from ts)) ∙ ap (λ z. t ∷ z) i)
 
   -- one after another
   pub read-append : (ps : List ℕ) (from to : ℕ) (xs ys : List Token) → read ps from to (xs ++ ys) ≡ read ps from to xs ++ read (unclosed ps xs) (from - length xs) (to - length xs) ys
@@ -89,7 +84,7 @@ module _ (f : ℕ → Token → Marks → Marks) where
       (read-append (under ps t) (from - 1) (to - 1) xs ys
       ∙ (ap (λ n. read (under ps t) (from - 1) (to - 1) xs ++ read (unclosed (under ps t) xs) n (to - 1 - length xs) ys) d
       ∙ (ap (λ n. read (under ps t) (from - 1) (to - 1) xs ++ read (unclosed (under ps t) xs) (from - suc (length xs)) n ys) e
-      ∙ ap (λ s. read (under ps t) (from - 1) (to - 1) xs ++ read s (from - suc (length xs)) (to - suc (length xs)) ys) (sym (unclosed-more ps t xs)))))
+      ∙ ap (λ s. read (under ps t) (from - 1) (to - 1) xs ++ read s (from - suc (length xs)) (to - suc (length xs)) ys) (sym (under-is ps t xs)))))
 
   pub read-nodes : (ps : List ℕ) (from to : ℕ) (xs ys : List Token) → Balanced xs → read ps from to (xs ++ ys) ≡ read ps from to xs ++ read ps (from - length xs) (to - length xs) ys
   read-nodes ps from to xs ys b = read-append ps from to xs ys ∙ ap (λ s. read ps from to xs ++ read s (from - length xs) (to - length xs) ys) (unclosed-balanced ps b)

@@ -10,8 +10,9 @@ use Rattle.pm_node.specs.declared.node.Node.{Node}
 use Rattle.pm_node.specs.Trees.{node_tokens, list_tokens, EachWhole}
 use Rattle.pm_node.proofs.WalkLaws.{front, rest, front-more, list-split}
 use Rattle.pm_apply.specs.Markings.{marked_in}
-use Rattle.pm_apply.proofs.BetweenLaws.{front-is, rest-is, front-rest, front-whole, behind-range}
+use Rattle.pm_apply.proofs.BetweenLaws.{front-is, rest-is, front-rest, behind-range}
 use Rattle.pm_apply.proofs.MarkedLaws.{read, read-is, read-none, read-past, read-nodes, read-length}
+use Rattle.pm_build.proofs.SpanLaws.{front-whole}
 
 module _ (f : ℕ → Token → Marks → Marks) (parent : ℕ) where
   -- the walk after i children: m is what was made, and start and end are where the range lies in the rest

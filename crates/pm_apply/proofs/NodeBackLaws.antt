@@ -1,7 +1,7 @@
 -- The inverse of a step that changes the marks of one node: the one step, or the steps that give the marks back.
 use Rattle.std.specs.Prelude.{◌≡◌, ℕ, ◌≤◌, Bool, true, false, cond, ◌&&◌, not, nat_le, List, [], ◌∷◌, ◌++◌, length, take, drop, Some, Result, Ok, Err}
 use Rattle.std.proofs.Common.{refl, ap, sym, ◌∙◌, subst, arith, length-append, length-take}
-use Rattle.std.proofs.lemmas.Bool.{le-leb}
+use Rattle.std.proofs.lemmas.Bool.{le-leb, and_from}
 use Rattle.std.proofs.lemmas.List.{take_at, drop_at, take-append-drop}
 use Rattle.pm_attrs.specs.Attrs.{same_attrs}
 use Rattle.pm_marks.specs.Sets.{same_marks}
@@ -9,7 +9,6 @@ use Rattle.pm_tokens.specs.Tokens.{Marks, Token, Open, Close, Leaf, CodeUnit, Do
 use Rattle.pm_tokens.specs.Schemas.{Schema}
 use Rattle.pm_tokens.specs.Faults.{Valid}
 use Rattle.pm_tokens.specs.Scan.{ends_high, starts_low, parts_pair}
-use Rattle.pm_tokens.proofs.ScanLaws.{and-true}
 use Rattle.pm_meaning.specs.declared.reason.Reason.{Reason}
 use Rattle.pm_meaning.specs.declared.reason.Reason.TheVariants.{Range, Pair, NoNode}
 use Rattle.pm_meaning.specs.Steps.{Step}
@@ -22,8 +21,8 @@ use Rattle.pm_apply.specs.declared.marking.Marking.TheVariants.{Add, Remove}
 use Rattle.pm_apply.specs.Markings.{changed, node_step}
 use Rattle.pm_apply.specs.Nodes.{marks_first}
 use Rattle.pm_apply.specs.Backs.{back_step}
-use Rattle.pm_apply.proofs.MarkOutcomes.{passes}
 use Rattle.pm_apply.proofs.SameTokens.{and-yes-right, open-same, leaf-same, tokens-itself, same-append, checked-gives}
+use Rattle.pm_replace.proofs.OutcomeAnswers.{passes}
 
 -- ---- the node that stands first
 
@@ -114,7 +113,7 @@ module _ (s : Schema) (m b : Marking) (pos : ℕ) (d : Doc) (old : Marks) (v : V
   unparted =
       let e : parts_pair after pos ≡ false =
       ap (λ z. ends_high z && starts_low (drop pos after)) take-after ∙ (ap (λ z. ends_high a && starts_low z) drop-after ∙ (ap (λ z. ends_high a && z) (first-low f r) ∙ p)) in
-      and-true (not (parts_pair after pos)) true (ap not e) refl
+      and_from (not (parts_pair after pos)) true (ap not e) refl
 
   stands : starts_node (drop pos after) ≡ true
   stands = ap starts_node drop-after ∙ first-starts f old r n

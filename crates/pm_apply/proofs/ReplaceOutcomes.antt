@@ -10,7 +10,8 @@ use Rattle.pm_meaning.specs.declared.reason.Reason.TheVariants.{Range, Structure
 use Rattle.pm_meaning.specs.Steps.{Replace}
 use Rattle.pm_meaning.specs.Outcomes.{in_order, keeps_structure, parts_no_pair, outcome}
 use Rattle.pm_replace.specs.Splices.{spliced_outcome}
-use Rattle.pm_apply.proofs.MarkOutcomes.{passes, fails, ordered, not-ordered, no-pairs, a-pair}
+use Rattle.pm_apply.proofs.MarkOutcomes.{ordered, not-ordered, no-pairs, a-pair}
+use Rattle.pm_replace.proofs.OutcomeAnswers.{passes, fails}
 
 module _ (s : Schema) (d : Doc) (from to : ℕ) (sl : Slice) (structure : Bool) (slice : is_slice sl ≡ true) where
   abbrev pub made : Result Doc Reason

@@ -21,11 +21,12 @@ use Rattle.pm_apply.specs.declared.marking.Sort.{Sort}
 use Rattle.pm_apply.specs.declared.marking.Reach.TheVariants.{Inline}
 use Rattle.pm_apply.specs.Markings.{new_marks, sort_marks}
 use Rattle.pm_apply.specs.Backs.{marked_twice, twice}
-use Rattle.pm_apply.proofs.BetweenLaws.{front-rest, front-whole, behind-range}
+use Rattle.pm_apply.proofs.BetweenLaws.{front-rest, behind-range}
 use Rattle.pm_apply.proofs.MarkedLaws.{read-none, read-past}
 use Rattle.pm_apply.proofs.MarkedNodes.{sort-is}
 use Rattle.pm_apply.proofs.SameTokens.{tokens-itself}
 use Rattle.pm_apply.proofs.TwiceLaws.{twice-is, kept, kept-more, lost-part, kept-leaf, kept-node, lost-node, kept-text}
+use Rattle.pm_build.proofs.SpanLaws.{front-whole}
 
 module _ (s : Schema) (m b : Marking) where
   -- the tokens are the old ones

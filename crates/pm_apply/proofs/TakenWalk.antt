@@ -24,10 +24,11 @@ use Rattle.pm_apply.specs.declared.marking.Marking.{Marking}
 use Rattle.pm_apply.specs.declared.marking.Reach.TheVariants.{Inline}
 use Rattle.pm_apply.specs.Markings.{marked_in, new_marks}
 use Rattle.pm_apply.specs.Walks.{Took, run_of}
-use Rattle.pm_apply.proofs.BetweenLaws.{front-rest, front-whole, behind-range}
+use Rattle.pm_apply.proofs.BetweenLaws.{front-rest, behind-range}
 use Rattle.pm_apply.proofs.MarkedLaws.{read, read-is, read-none, read-past, read-nodes, read-node, read-length, in_range}
 use Rattle.pm_apply.proofs.MarkedNodes.{marked-none, marked-past, marked-text, marked-leaf}
 use Rattle.pm_apply.proofs.DueLaws.{differ, due-same, after-same, Due, due-start, due-both, due-units, due-token}
+use Rattle.pm_build.proofs.SpanLaws.{front-whole}
 
 -- two facts on an Ok value, together
 pub on-both : {T E P Q R : Type 0} (r : Result T E) → (P → Q → R) → OnOk r P → OnOk r Q → OnOk r R

@@ -9,14 +9,15 @@ use Rattle.pm_tokens.specs.Faults.{under}
 use Rattle.pm_tokens.specs.Scan.{Balanced, head_of, is_high, ends_high, starts_low, parts_pair}
 use Rattle.pm_tokens.specs.Schemas.{Schema}
 use Rattle.pm_tokens.proofs.MarkLaws.{marks-equal, marks-itself}
-use Rattle.pm_tokens.proofs.ScanLaws.{and-true}
 use Rattle.pm_meaning.specs.Inverses.{same_token, same_tokens}
 use Rattle.pm_apply.specs.declared.marking.Marking.{Marking}
 use Rattle.pm_apply.specs.declared.marking.Reach.TheVariants.{Inline}
 use Rattle.pm_apply.specs.Markings.{marked_in, new_marks}
 use Rattle.pm_apply.specs.Backs.{marked_twice, twice}
 use Rattle.pm_apply.proofs.MarkedLaws.{read, read-is, read-nodes, read-node, read-length, in_range, remarked}
-use Rattle.pm_apply.proofs.SameTokens.{and-no, and-yes-right, open-same, leaf-same, unit-same, token-itself, tokens-itself, same-append}
+use Rattle.pm_apply.proofs.SameTokens.{and-yes-right, open-same, leaf-same, unit-same, token-itself, tokens-itself, same-append}
+use Rattle.pm_tokens.proofs.PairLaws.{and-right}
+use Rattle.std.proofs.lemmas.Bool.{and_from}
 
 -- ---- what a change of marks keeps
 
@@ -114,7 +115,7 @@ module _ (h : ℕ → Token → Marks → Marks) (ps : List ℕ) where
   kept-more from to xs ys b p q =
       ap (λ z. same_tokens z (xs ++ ys)) (read-nodes h ps from to xs ys b)
       ∙ (same-append (read h ps from to xs) xs (read h ps (from - length xs) (to - length xs) ys) ys (read-length h ps from to xs)
-      ∙ and-true (kept from to xs) (kept (from - length xs) (to - length xs) ys) p q)
+      ∙ and_from (kept from to xs) (kept (from - length xs) (to - length xs) ys) p q)
 
   kept-front : (from to : ℕ) (xs ys : List Token) → Balanced xs → kept from to (xs ++ ys) ≡ (kept from to xs && kept (from - length xs) (to - length xs) ys)
   kept-front from to xs ys b =
@@ -127,7 +128,7 @@ module _ (h : ℕ → Token → Marks → Marks) (ps : List ℕ) where
       let t = to - length xs in
       kept-front from to xs (ys ++ zs) b
       ∙ (ap (λ z. kept from to xs && z) (kept-front f t ys zs c ∙ ap (λ z. z && kept (f - length ys) (t - length ys) zs) q)
-      ∙ and-no (kept from to xs))
+      ∙ and-right (kept from to xs))
 
   pub kept-leaf : (from to k : ℕ) (a : Attrs) (m : Marks) → from < to → from < 1 → kept from to (Leaf k a m ∷ []) ≡ same_marks same_attrs (h (head_of ps) (Leaf k a m) m) m
   kept-leaf zero zero k a m i j = absurd (omega (arith, i))

@@ -19,7 +19,7 @@ pub mod TreeLaws
 pub mod AcceptLaws
 mod FewLaws
 pub mod TwinLaws
-mod SearchLaws
+pub mod SearchLaws
 mod ShareLaws
-mod GraphLaws
-mod ReachLaws
+pub mod GraphLaws
+pub mod ReachLaws

@@ -19,16 +19,8 @@ use Rattle.pm_build.specs.declared.refused.Refused.TheVariants.{Join, NoMemory}
 use Rattle.pm_tokens.proofs.ScanLaws.{plain-append, joins-append, plain-owned, length-owned, unclosed-append}
 use Rattle.pm_tokens.proofs.BalanceLaws.{owned-balanced, owned-inner, joins-balanced}
 use Rattle.pm_tokens.proofs.ListLaws.{part-append, part_past, part_none}
-
-pub length-plain : (xs : List Owned) → length (plain xs) ≡ length xs
-length-plain [] = refl
-length-plain (Opening k a m ∷ xs) = ap suc (length-plain xs)
-length-plain (Closing o ∷ xs) = ap suc (length-plain xs)
-length-plain (Single k a m ∷ xs) = ap suc (length-plain xs)
-length-plain (Piece u m ∷ xs) = ap suc (length-plain xs)
-
-pub length-part : {A : Type 0} (f t : ℕ) (xs : List A) → length (part f t xs) ≡ min (t - f) (length xs - f)
-length-part f t xs = length-take (t - f) (drop f xs) ∙ ap (λ n. min (t - f) n) (length-drop f xs)
+use Rattle.pm_tokens.proofs.SpliceLaws.{length-plain}
+use Rattle.pm_tokens.proofs.OwnedParts.{length-part, part_min, owned-text, pieces-take, pieces-drop, joins-pieces, plain-pieces, part-text, part-one, open-joins}
 
 module _ (c : ℕ → ℕ → Bool) where
   -- nothing was appended
@@ -52,12 +44,6 @@ module _ (c : ℕ → ℕ → Bool) where
 
   pub refused-first : (b : List Token) (p q : List Owned) → joins c (unclosed [] b) p ≡ false → joins c (unclosed [] b) (p ++ q) ≡ false
   refused-first b p q x = joins-append c (unclosed [] b) p q ∙ ap (λ z. z && joins c (unclosed (unclosed [] b) (plain p)) q) x
-
--- a part ends with its list
-pub part_min : {A : Type 0} (f t : ℕ) (xs : List A) → part f (min (length xs) t) xs ≡ part f t xs
-part_min f t xs =
-    let e : min (length xs) t - f ≡ min (t - f) (length (drop f xs)) = omega (arith, length-drop f xs) in
-    ap (λ n. take n (drop f xs)) e ∙ take_min (t - f) (drop f xs)
 
 -- the part of a node with content
 pub part_node : (f t k : ℕ) (a : Attrs) (m : Marks) (inner : List Token) → Balanced inner → f < t → part f t (owned [] (Open k a m ∷ (inner ++ (Close ∷ [])))) ≡ (part f t (Opening k a m ∷ []) ++ part (f - 1) (t - 1) (owned [] inner)) ++ part (f - 1 - length inner) (t - 1 - length inner) (Closing k ∷ [])
@@ -89,31 +75,6 @@ abbrev pieces : Marks → List ℕ → List Owned
 pieces m [] = []
 pieces m (u ∷ us) = Piece u m ∷ pieces m us
 
-owned-text : (s : List ℕ) (m : Marks) (us : List ℕ) → owned s (text_tokens m us) ≡ pieces m us
-owned-text s m [] = refl
-owned-text s m (u ∷ us) = ap (λ z. Piece u m ∷ z) (owned-text s m us)
-
-pieces-take : (n : ℕ) (m : Marks) (us : List ℕ) → take n (pieces m us) ≡ pieces m (take n us)
-pieces-take zero m us = refl
-pieces-take (suc n) m [] = refl
-pieces-take (suc n) m (u ∷ us) = ap (λ z. Piece u m ∷ z) (pieces-take n m us)
-
-pieces-drop : (n : ℕ) (m : Marks) (us : List ℕ) → drop n (pieces m us) ≡ pieces m (drop n us)
-pieces-drop zero m us = refl
-pieces-drop (suc n) m [] = refl
-pieces-drop (suc n) m (u ∷ us) = pieces-drop n m us
-
-joins-pieces : (c : ℕ → ℕ → Bool) (s : List ℕ) (m : Marks) (us : List ℕ) → joins c s (pieces m us) ≡ true
-joins-pieces c s m [] = refl
-joins-pieces c s m (u ∷ us) = joins-pieces c s m us
-
-plain-pieces : (m : Marks) (us : List ℕ) → plain (pieces m us) ≡ text_tokens m us
-plain-pieces m [] = refl
-plain-pieces m (u ∷ us) = ap (λ z. CodeUnit u m ∷ z) (plain-pieces m us)
-
-part-text : (f t : ℕ) (m : Marks) (us : List ℕ) → part f t (owned [] (text_tokens m us)) ≡ pieces m (part f t us)
-part-text f t m us = ap (part f t) (owned-text [] m us) ∙ (ap (take (t - f)) (pieces-drop f m us) ∙ pieces-take (t - f) m (drop f us))
-
 pub appended-text : (c : ℕ → ℕ → Bool) (b a : List Token) (f t : ℕ) (m : Marks) (us : List ℕ) → a ≡ b ++ text_tokens m (part f t us) → Appended c b (part f t (owned [] (text_tokens m us))) a
 appended-text c b a f t m us e = rw part-text (record { tokens = rw plain-pieces e; joined = joins-pieces c (unclosed [] b) m (part f t us) })
 
@@ -123,16 +84,6 @@ part_clip f t xs h = elim (cases_lt (length xs) f) [
   | inl p ↦ part_none (min (min (length xs) t) f) (min (length xs) t) xs (omega arith) ∙ sym (part_past f t xs (omega arith))
   | inr p ↦ (let e : min (min (length xs) t) f ≡ f = omega arith in ap (λ n. part n (min (length xs) t) xs) e ∙ part_min f t xs)
 ]
-
--- the open of a node
-part-one : {A : Type 0} (f t : ℕ) (x : A) → f < t → part f t (x ∷ []) ≡ part f (f + 1) (x ∷ [])
-part-one f t x h =
-    let e : min (length (x ∷ [])) t ≡ min (length (x ∷ [])) (f + 1) = omega arith in
-    sym (part_min f t (x ∷ [])) ∙ (ap (λ n. part f n (x ∷ [])) e ∙ part_min f (f + 1) (x ∷ []))
-
-open-joins : (c : ℕ → ℕ → Bool) (s : List ℕ) (f k : ℕ) (at : Attrs) (m : Marks) → joins c s (part f (f + 1) (Opening k at m ∷ [])) ≡ true
-open-joins c s zero k at m = refl
-open-joins c s (suc f) k at m = ap (joins c s) (part_past (suc f) (suc f + 1) (Opening k at m ∷ []) (omega arith))
 
 pub appended-open : (c : ℕ → ℕ → Bool) (b a : List Token) (f t k : ℕ) (at : Attrs) (m : Marks) → f < t → a ≡ b ++ plain (part f (f + 1) (Opening k at m ∷ [])) → Appended c b (part f t (Opening k at m ∷ [])) a
 appended-open c b a f t k at m h e = subst (λ p. Appended c b p a) (sym (part-one f t (Opening k at m) h)) (record { tokens = e; joined = open-joins c (unclosed [] b) f k at m })
@@ -160,6 +111,3 @@ module _ (c : ℕ → ℕ → Bool) (b m₁ : List Token) (f t : ℕ) (n : Node)
       let p = part f (f + 1) (Opening n.kind n.attrs n.marks ∷ []) in
       let q = part s e (owned [] inner) in
       omega (arith, es, ee, es₂, ee₂, l, ap length o, length-append b (plain p), length-plain p, length-part f (f + 1) (Opening n.kind n.attrs n.marks ∷ []), ap length x.tokens, length-append m₁ (plain q), length-plain q, length-part s e (owned [] inner), length-owned [] inner)
-
-pub compatible-refl : (s : Schema) (k : ℕ) → compatible s k k ≡ true
-compatible-refl s k = ap (λ z. z || share (s.starts k) (s.starts k)) (eq-eqb k k refl)

@@ -13,7 +13,9 @@ use Rattle.pm_node.proofs.WalkLaws.{rest}
 use Rattle.pm_build.specs.Fed.{Appended, Fed}
 use Rattle.pm_build.specs.declared.refused.Refused.{Refused}
 use Rattle.pm_build.proofs.SpanLaws.{run-whole, run-first, run-rest, run-length, run-holds, across, across-whole, across-cut}
-use Rattle.pm_build.proofs.FedLaws.{appended-more, appended-whole, fed-more, refused-first, length-plain, length-part}
+use Rattle.pm_build.proofs.FedLaws.{appended-more, appended-whole, fed-more, refused-first}
+use Rattle.pm_tokens.proofs.SpliceLaws.{length-plain}
+use Rattle.pm_tokens.proofs.OwnedParts.{length-part}
 
 -- a run of nodes after the first one: m is what the builder has behind the rest of the first one
 module _ {Z : Type 0} (c : ℕ → ℕ → Bool) (b m : List Token) (xs : List (Arc Node Z)) (i j r : ℕ) (x : Arc Node Z) (n : IsNormal xs) (w : EachWhole xs) (l : i < j) (h : i < length xs) (e : x ≡ get_or xs i x) (k : r ≤ length (node_tokens (arc_value x))) where

@@ -14,7 +14,8 @@ use Rattle.pm_node.specs.Trees.{node_tokens, list_tokens, EachWhole}
 use Rattle.pm_node.proofs.WalkLaws.{front, list-split, rest}
 use Rattle.pm_build.specs.Positions.{first_unit, unit_at, path}
 use Rattle.pm_build.proofs.PositionLaws.{around-balanced, depth-behind, path-behind, unit-behind, depth-first, path-first, unit-first}
-use Rattle.pm_build.proofs.SpanLaws.{whole-list, front-whole}
+use Rattle.pm_build.proofs.SpanLaws.{front-whole}
+use Rattle.pm_node.proofs.ChangeLaws.{whole-list}
 
 -- in a node
 module _ {Z : Type 0} (xs : List (Arc Node Z)) (pos i r : ℕ) (x : Arc Node Z) (w : EachWhole xs) (s : Stands xs pos i r) (h : i < length xs) (e : x ≡ get_or xs i x) where

@@ -17,6 +17,7 @@ use Rattle.pm_node.specs.declared.node.Body.TheVariants.{Text, Leaf as Childless
 use Rattle.pm_node.specs.Trees.{node_tokens, body_tokens}
 use Rattle.pm_node.proofs.TreeLaws.{node_tokens_at}
 use Rattle.pm_build.specs.Positions.{first_unit, unit_at, path, high_unit, low_unit}
+use Rattle.pm_tokens.proofs.PairLaws.{and-right}
 
 -- ---- behind whole nodes
 
@@ -153,17 +154,13 @@ is-high-is Close ts = refl
 is-high-is (Leaf k a m) ts = refl
 is-high-is (CodeUnit u m) ts = refl
 
-and-none : (b : Bool) → (b && false) ≡ false
-and-none true = refl
-and-none false = refl
-
 -- the token before a position within the list, and past its end
 both-are : (ts : List Token) (p : ℕ) → (ends_high (take (suc p) ts) && starts_low (drop (suc p) ts)) ≡ (high_unit (unit_at ts p) && low_unit (unit_at ts (suc p)))
 both-are [] zero = refl
 both-are [] (suc p) = refl
 both-are (t ∷ ts) zero =
     ap (λ z. z && starts_low ts) (is-high-is t ts) ∙ ap (λ z. high_unit (first_unit (t ∷ ts)) && z) (starts-low-is ts)
-both-are (t ∷ []) (suc p) = and-none (is_high t) ∙ sym (and-none (high_unit (first_unit (drop p []))))
+both-are (t ∷ []) (suc p) = and-right (is_high t) ∙ sym (and-right (high_unit (first_unit (drop p []))))
 both-are (t ∷ (u ∷ ts)) (suc p) = both-are (u ∷ ts) p
 
 pub parts-is : (ts : List Token) (p : ℕ) → 0 < p → parts_pair ts p ≡ (high_unit (unit_at ts (p - 1)) && low_unit (unit_at ts p))

@@ -19,22 +19,9 @@ use Rattle.pm_node.specs.Trees.{node_tokens, list_tokens, IsNormal, EachWhole}
 use Rattle.pm_node.proofs.TreeLaws.{list_tokens-append}
 use Rattle.pm_node.proofs.WalkLaws.{front, front-more, list-split, rest, child-at, whole-node}
 use Rattle.pm_node.proofs.RunLaws.{part-at, part-one}
+use Rattle.pm_node.proofs.ChangeLaws.{whole-list, each-take, each-drop}
 
 -- ---- runs of whole nodes
-
-pub whole-list : {Z : Type 0} (xs : List (Arc Node Z)) → EachWhole xs → Balanced (list_tokens xs)
-whole-list [] w = none
-whole-list (x ∷ xs) w = balanced-append (whole-node (arc_value x) w.0) (whole-list xs w.1)
-
-each-take : {Z : Type 0} (n : ℕ) (xs : List (Arc Node Z)) → EachWhole xs → EachWhole (take n xs)
-each-take zero xs w = tt
-each-take (suc n) [] w = tt
-each-take (suc n) (x ∷ xs) w = (w.0, each-take n xs w.1)
-
-each-drop : {Z : Type 0} (n : ℕ) (xs : List (Arc Node Z)) → EachWhole xs → EachWhole (drop n xs)
-each-drop zero xs w = w
-each-drop (suc n) [] w = tt
-each-drop (suc n) (x ∷ xs) w = each-drop n xs w.1
 
 pub front-whole : {Z : Type 0} (xs : List (Arc Node Z)) (i : ℕ) → EachWhole xs → Balanced (front xs i)
 front-whole xs i w = whole-list (take i xs) (each-take i xs w)

@@ -9,7 +9,6 @@ use Rattle.pm_tokens.specs.Tokens.{Marks, Token, Doc}
 use Rattle.pm_tokens.specs.Marks.{is_set}
 use Rattle.pm_tokens.specs.Kids.{text_tokens}
 use Rattle.pm_tokens.specs.Faults.{Valid}
-use Rattle.pm_tokens.proofs.ScanLaws.{and-both}
 use Rattle.pm_schema.specs.declared.spec.SchemaSpec.{SchemaSpec}
 use Rattle.pm_schema.specs.Documents.{documents_of}
 use Rattle.pm_schema.specs.Names.{place_of}
@@ -29,6 +28,7 @@ use Rattle.pm_docjson.proofs.MarksAgain.{MarksAgain, MarksIf, marks-read}
 use Rattle.pm_docjson.proofs.NodeLaws.{units-written}
 use Rattle.pm_docjson.proofs.NodesAgain.{text-again, content-again, branch-again}
 use Rattle.pm_docjson.proofs.Writables.{content-writable}
+use Rattle.std.proofs.lemmas.Bool.{and_parts}
 
 -- the content is read again where it can be written
 abbrev pub ContentAgain : SchemaSpec → List Token → Type 0
@@ -36,14 +36,14 @@ ContentAgain s ts = AreWritable s ts → node_list s Kept (nodes_written s ts) �
 
 set-of : (s : SchemaSpec) (m : Marks) (us : List ℕ) → 0 < length us → are_writable s (text_tokens m us) ≡ true → marks_fit s m ≡ true
 set-of s m [] some h = absurd (omega arith)
-set-of s m (u ∷ us) some h = (and-both (marks_fit s m) (are_writable s (text_tokens m us)) h).0
+set-of s m (u ∷ us) some h = (and_parts (marks_fit s m) (are_writable s (text_tokens m us)) h).0
 
 -- one text
 pub units-again : (s : SchemaSpec) (m : Marks) (us : List ℕ) → place_of (node_at s (documents_of s).text).name (names_of_nodes s) ≡ Some (documents_of s).text → (node_at s (documents_of s).text).attrs ≡ []
     → (HasNoLone us → utf16 (utf8 us) ≡ us) → MarksIf s m → 0 < length us → ContentAgain s (text_tokens m us)
 unfolding node_list
 units-again s m us named plain units marks some w =
-    let set = and-both (list_all (mark_fits s) m) (is_set (documents_of s) m) (set-of s m us some w.tokens) in
+    let set = and_parts (list_all (mark_fits s) m) (is_set (documents_of s) m) (set-of s m us some w.tokens) in
     let one = text-again s Kept us m named plain (units (no-lone m us w.pairs)) some (marks-read s m marks set.0) set.1 in
     rw (units-written s m us some, one) (ap Ok (append-nil (text_tokens m us)))
 
@@ -65,7 +65,7 @@ top-again : (s : SchemaSpec) (top : Node) → ContentAgain s (content_tokens top
 unfolding documents_of
 top-again s top content named attrs v other =
     let ts = content_tokens top.marks top.body in
-    let p = and-both (nat_lt top.kind (length s.nodes)) (fit_attrs (node_at s top.kind).attrs top.attrs) v.top_attrs in
+    let p = and_parts (nat_lt top.kind (length s.nodes)) (fit_attrs (node_at s top.kind).attrs top.attrs) v.top_attrs in
     let marks : MarksAgain s top.marks = subst (MarksAgain s) (sym v.top_marks) tt in
     let set : is_set (documents_of s) top.marks ≡ true = subst (λ ms. is_set (documents_of s) ms ≡ true) (sym v.top_marks) refl in
     let few : length ts < 2 ^ 32 = omega (arith, v.size) in

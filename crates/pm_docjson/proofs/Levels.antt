@@ -19,7 +19,6 @@ use Rattle.pm_tokens.specs.Marks.{is_set}
 use Rattle.pm_tokens.specs.Faults.{Valid}
 use Rattle.pm_tokens.specs.Scan.{unclosed, unmet, is_whole, deepest}
 use Rattle.pm_tokens.proofs.DepthLaws.{depths-bound}
-use Rattle.pm_tokens.proofs.ScanLaws.{and-both}
 use Rattle.pm_schema.specs.declared.spec.SchemaSpec.{SchemaSpec}
 use Rattle.pm_schema.specs.declared.spec.AttrSpec.{AttrSpec}
 use Rattle.pm_schema.specs.Types.{node_at, mark_at, fit_attrs}
@@ -29,6 +28,7 @@ use Rattle.pm_docjson.specs.Values.{keys}
 use Rattle.pm_docjson.specs.Writable.{mark_fits, marks_fit, type_fits, is_writable, are_writable}
 use Rattle.pm_docjson.specs.Writing.{typed, with_attrs, with_content, with_marks, mark_written, marks_written, text_written, branch_written, trees_written, nodes_written, doc_written}
 use Rattle.pm_docjson.proofs.Writables.{content-writable}
+use Rattle.std.proofs.lemmas.Bool.{and_parts}
 
 -- the depth in front is no deeper than the greatest
 deep-low : (d : ℕ) (ts : List Token) → d ≤ deepest d ts
@@ -78,7 +78,7 @@ mutual
 values-low : (vs : List Plain) → list_all (λ v. nat_le (value_depth v) 4) vs ≡ true → plains_depth (plains_of vs) ≤ 4
 values-low [] h = omega arith
 values-low (v ∷ vs) h =
-    let p = and-both (nat_le (value_depth v) 4) (list_all (λ w. nat_le (value_depth w) 4) vs) h in
+    let p = and_parts (nat_le (value_depth v) 4) (list_all (λ w. nat_le (value_depth w) 4) vs) h in
     let low : value_depth v ≤ 4 = at_most (value_depth v) p.0 in
     let rest = values-low vs p.1 in
     omega (arith, low, rest)
@@ -87,7 +87,7 @@ values-low (v ∷ vs) h =
     at_most n e = grind (arith, nat_tests)
 
 attrs-low : (attrs : List AttrSpec) (vs : List Plain) → fit_attrs attrs vs ≡ true → plains_depth (plains_of vs) ≤ 4
-attrs-low attrs vs h = values-low vs (and-both (length vs == length attrs) (list_all (λ v. nat_le (value_depth v) 4) vs) h).1
+attrs-low attrs vs h = values-low vs (and_parts (length vs == length attrs) (list_all (λ v. nat_le (value_depth v) 4) vs) h).1
 
 -- attributes before members that are this deep
 with-attrs : (ks : List (List ℕ)) (vs : List Plain) (ms : Members) (n : ℕ) → plains_depth (plains_of vs) ≤ 4 → members_depth ms ≤ n → 5 ≤ n → members_depth (with_attrs ks vs ms) ≤ n
@@ -100,14 +100,14 @@ module _ (s : SchemaSpec) where
 
   pub mark-low : (m : Mark Attrs) → mark_fits s m ≡ true → depth (mark_written s m) ≤ 6
   mark-low m h =
-      let p = and-both (nat_lt m.kind (length s.marks)) (fit_attrs (mark_at s m.kind).attrs m.attrs) h in
+      let p = and_parts (nat_lt m.kind (length s.marks)) (fit_attrs (mark_at s m.kind).attrs m.attrs) h in
       let w = with-attrs (keys (mark_at s m.kind).attrs) m.attrs (typed (mark_at s m.kind).name) 5 (attrs-low (mark_at s m.kind).attrs m.attrs p.1) (omega arith) (omega arith) in
       omega (arith, w)
 
   marks-low : (ms : Marks) → list_all (mark_fits s) ms ≡ true → items_depth (marks_written s ms) ≤ 6
   marks-low [] h = omega arith
   marks-low (m ∷ ms) h =
-      let p = and-both (mark_fits s m) (list_all (mark_fits s) ms) h in
+      let p = and_parts (mark_fits s m) (list_all (mark_fits s) ms) h in
       let first = mark-low m p.0 in
       let rest = marks-low ms p.1 in
       omega (arith, first, rest)
@@ -117,7 +117,7 @@ module _ (s : SchemaSpec) where
   with-marks (item d ds) ms h low = omega (arith, h, low)
 
   set-low : (ms : Marks) → marks_fit s ms ≡ true → items_depth (marks_written s ms) ≤ 6
-  set-low ms h = marks-low ms (and-both (list_all (mark_fits s) ms) (is_set (documents_of s) ms) h).0
+  set-low ms h = marks-low ms (and_parts (list_all (mark_fits s) ms) (is_set (documents_of s) ms) h).0
 
   -- ---- one node
 
@@ -197,30 +197,30 @@ module _ (s : SchemaSpec) where
 
   type-attrs : (k : ℕ) (a : Attrs) → type_fits s k a ≡ true → fit_attrs (node_at s k).attrs a ≡ true
   type-attrs k a h =
-      let p = and-both (nat_lt k (length s.nodes)) (not (k == (documents_of s).text) && fit_attrs (node_at s k).attrs a) h in
-      (and-both (not (k == (documents_of s).text)) (fit_attrs (node_at s k).attrs a) p.1).1
+      let p = and_parts (nat_lt k (length s.nodes)) (not (k == (documents_of s).text) && fit_attrs (node_at s k).attrs a) h in
+      (and_parts (not (k == (documents_of s).text)) (fit_attrs (node_at s k).attrs a) p.1).1
 
   -- tokens that end the nodes of a stack, read from the last to the first
   levels-fit : (top : ℕ) (stack : List ℕ) (ts : List Token) → are_writable s ts ≡ true → unmet (length stack) ts ≡ 0 → length (unclosed stack ts) ≡ 0 → deepest (length stack) ts ≤ top → Fit top (length stack) (read_back ts (none ∷ []))
   unfolding trees_written
   levels-fit top stack [] h met ends deep = record { count = omega (arith, ends); low = (omega arith, tt) }
   levels-fit top stack (Open k a m ∷ ts) h met ends deep =
-      let p = and-both (is_writable s (Open k a m)) (are_writable s ts) h in
-      let q = and-both (type_fits s k a) (not ((documents_of s).is_leaf k) && marks_fit s m) p.0 in
-      let r = and-both (not ((documents_of s).is_leaf k)) (marks_fit s m) q.1 in
+      let p = and_parts (is_writable s (Open k a m)) (are_writable s ts) h in
+      let q = and_parts (type_fits s k a) (not ((documents_of s).is_leaf k) && marks_fit s m) p.0 in
+      let r = and_parts (not ((documents_of s).is_leaf k)) (marks_fit s m) q.1 in
       let low = deep-low (suc (length stack)) ts in
       open-fits top (length stack) k a m (read_back ts (none ∷ [])) (type-attrs k a q.0) r.1 (omega (arith, low, deep)) (levels-fit top (k ∷ stack) ts p.1 met ends deep)
   levels-fit top [] (Close ∷ ts) h met ends deep = absurd (omega (arith, met))
   levels-fit top (k ∷ stack) (Close ∷ ts) h met ends deep =
-      let p = and-both true (are_writable s ts) h in
+      let p = and_parts true (are_writable s ts) h in
       close-fits top (length stack) (read_back ts (none ∷ [])) (levels-fit top stack ts p.1 met ends (omega (arith, deep)))
   levels-fit top stack (Leaf k a m ∷ ts) h met ends deep =
-      let p = and-both (is_writable s (Leaf k a m)) (are_writable s ts) h in
-      let q = and-both (type_fits s k a) ((documents_of s).is_leaf k && marks_fit s m) p.0 in
-      let r = and-both ((documents_of s).is_leaf k) (marks_fit s m) q.1 in
+      let p = and_parts (is_writable s (Leaf k a m)) (are_writable s ts) h in
+      let q = and_parts (type_fits s k a) ((documents_of s).is_leaf k && marks_fit s m) p.0 in
+      let r = and_parts ((documents_of s).is_leaf k) (marks_fit s m) q.1 in
       leaf-fits top (length stack) k a m (read_back ts (none ∷ [])) (type-attrs k a q.0) r.1 (levels-fit top stack ts p.1 met ends deep)
   levels-fit top stack (CodeUnit u m ∷ ts) h met ends deep =
-      let p = and-both (is_writable s (CodeUnit u m)) (are_writable s ts) h in
+      let p = and_parts (is_writable s (CodeUnit u m)) (are_writable s ts) h in
       unit-fits top (length stack) u m (read_back ts (none ∷ [])) p.0 (levels-fit top stack ts p.1 met ends deep)
 
   first-low : (top : ℕ) (levels : Levels) → Fit top 0 levels → trees_deep (innermost levels) ≤ 2 * top + 8
@@ -234,7 +234,7 @@ module _ (s : SchemaSpec) where
   -- nodes that can be written, where no position is in more than top nodes
   pub nodes-low : (top : ℕ) (ts : List Token) → are_writable s ts ≡ true → is_whole ts ≡ true → deepest 0 ts ≤ top → items_depth (nodes_written s ts) ≤ 2 * top + 8
   nodes-low top ts h whole deep =
-      let w = and-both (unmet 0 ts == 0) (length (unclosed [] ts) == 0) whole in
+      let w = and_parts (unmet 0 ts == 0) (length (unclosed [] ts) == 0) whole in
       first-low top (read_back ts (none ∷ [])) (levels-fit top [] ts h (zero_is (unmet 0 ts) w.0) (zero_is (length (unclosed [] ts)) w.1) deep)
     where
       zero_is : (n : ℕ) → (n == 0) ≡ true → n ≡ 0
@@ -246,6 +246,6 @@ module _ (s : SchemaSpec) where
   valid-low d v =
       let w = content-writable s d v in
       let inner = nodes-low 48 d.tokens w.tokens v.whole (depths-bound 48 d.tokens v.depth) in
-      let p = and-both (nat_lt d.kind (length s.nodes)) (fit_attrs (node_at s d.kind).attrs d.attrs) v.top_attrs in
+      let p = and_parts (nat_lt d.kind (length s.nodes)) (fit_attrs (node_at s d.kind).attrs d.attrs) v.top_attrs in
       let set : marks_fit s d.marks ≡ true = subst (λ ms. marks_fit s ms ≡ true) (sym v.top_marks) refl in
       branch-low d.kind d.attrs d.marks (nodes_written s d.tokens) 105 p.1 set (omega (arith, inner)) (omega arith)

@@ -18,7 +18,6 @@ use Rattle.pm_value.proofs.Shallow.{value-shallow}
 use Rattle.pm_marks.specs.declared.mark.Mark.{Mark}
 use Rattle.pm_tokens.specs.Tokens.{Marks}
 use Rattle.pm_tokens.specs.Marks.{is_set}
-use Rattle.pm_tokens.proofs.ScanLaws.{and-both, and-true}
 use Rattle.pm_schema.specs.declared.spec.SchemaSpec.{SchemaSpec}
 use Rattle.pm_schema.specs.declared.spec.AttrSpec.{AttrSpec}
 use Rattle.pm_schema.specs.declared.spec.NodeSpec.{NodeSpec}
@@ -33,6 +32,7 @@ use Rattle.pm_docjson.specs.Fields.{field, text_at}
 use Rattle.pm_docjson.specs.Reading.{as_attr, given_in, given_at, attrs_read, mark_of, mark_list, as_set, marks_of}
 use Rattle.pm_docjson.specs.Values.{Given, all_values, values_for}
 use Rattle.pm_docjson.specs.Writable.{mark_fits, marks_fit}
+use Rattle.std.proofs.lemmas.Bool.{and_parts, and_from}
 
 -- what was read first, where the whole reading gave something
 pub first-read : {A B E : Type 0} (r : Result A E) (f : A → Result B E) (x : B) → (r >>= f) ≡ Ok x → (a : A) × ((r ≡ Ok a) × (f a ≡ Ok x))
@@ -66,7 +66,7 @@ given-low (member k d ms) given h =
     let b = first-read (given_in ms) (λ rest. Ok ((k, a.0) ∷ rest)) given a.1.1 in
     let same : (k, a.0) ∷ b.0 ≡ given = cc b.1.1 in
     let low = low-is (depth a.0) (value-shallow d 4 a.0 (attr-value (value_of d) a.0 a.1.0)) in
-    subst GivenLow same (and-true (Low a.0) (list_all (λ g. Low g.1) b.0) low (given-low ms b.0 b.1.0))
+    subst GivenLow same (and_from (Low a.0) (list_all (λ g. Low g.1) b.0) low (given-low ms b.0 b.1.0))
 
 given-at : (d : Option Data) (given : Given) → given_at d ≡ Ok given → GivenLow given
 unfolding given_at
@@ -76,7 +76,7 @@ given-at (Some d) given h = let a = first-read (or_fault Shape (as_object d)) gi
 found-low : (name : List ℕ) (given : Given) (v : Plain) → GivenLow given → given_for name given ≡ Some v → Low v ≡ true
 found-low name [] v h e = absurd (cc)
 found-low name (g ∷ given) v h e =
-    let parts = and-both (Low g.1) (list_all (λ x. Low x.1) given) h in
+    let parts = and_parts (Low g.1) (list_all (λ x. Low x.1) given) h in
     pick (bytes_eq name g.0) parts.0 (λ k. found-low name given v parts.1 k) e
   where
     pick : (b : Bool) → Low g.1 ≡ true → (given_for name given ≡ Some v → Low v ≡ true) → cond b (Some g.1) (given_for name given) ≡ Some v → Low v ≡ true
@@ -101,7 +101,7 @@ record AllLow (attrs : List AttrSpec) (vs : List Plain) : Type 0 where
 values-low : (given : Given) (attrs : List AttrSpec) (vs : List Plain) → GivenLow given → are_shallow attrs ≡ true → all_values given attrs ≡ Some vs → AllLow attrs vs
 values-low given [] vs low sh h = let same : [] ≡ vs = cc in subst (AllLow []) same (record { many = refl; low = refl })
 values-low given (a ∷ more) vs low sh h =
-    let parts = and-both (is_shallow a.default) (are_shallow more) sh in
+    let parts = and_parts (is_shallow a.default) (are_shallow more) sh in
     from (value_for given a) (all_values given more) (λ v i. value-low given a v low parts.0 i) (λ ws j. values-low given more ws low parts.1 j) h
   where
     from : (o : Option Plain) (os : Option (List Plain)) → ((v : Plain) → o ≡ Some v → Low v ≡ true) → ((ws : List Plain) → os ≡ Some ws → AllLow more ws) → option_and_then (λ v. option_map (λ ws. v ∷ ws) os) o ≡ Some vs → AllLow (a ∷ more) vs
@@ -110,7 +110,7 @@ values-low given (a ∷ more) vs low sh h =
     from (Some v) (Some ws) i j e =
         let same : v ∷ ws ≡ vs = cc in
         let rest = j ws refl in
-        subst (AllLow (a ∷ more)) same (record { many = ap suc rest.many; low = and-true (Low v) (list_all Low ws) (i v refl) rest.low })
+        subst (AllLow (a ∷ more)) same (record { many = ap suc rest.many; low = and_from (Low v) (list_all Low ws) (i v refl) rest.low })
 
 known : {A : Type 0} (b : Bool) (o : Option A) (x : A) → cond b None o ≡ Some x → o ≡ Some x
 known true o x h = absurd (cc)
@@ -122,7 +122,7 @@ unfolding attrs_read values_for
 attrs-fit attrs d vs sh h =
     let a = first-read (given_at d) (λ given. or_fault Attr (values_for attrs given)) vs h in
     let w = values-low a.0 attrs vs (given-at d a.0 a.1.0) sh (known (list_any (is_unknown attrs) a.0) (all_values a.0 attrs) vs (there Attr (values_for attrs a.0) vs a.1.1)) in
-    and-true (length vs == length attrs) (list_all Low vs) (same_length (length vs) (length attrs) w.many) w.low
+    and_from (length vs == length attrs) (list_all Low vs) (same_length (length vs) (length attrs) w.many) w.low
   where
     same_length : (n m : ℕ) → n ≡ m → (n == m) ≡ true
     same_length n m e = grind (arith, nat_tests)
@@ -131,8 +131,8 @@ attrs-fit attrs d vs sh h =
 
 each : {X : Type 0} (p : X → Bool) (xs : List X) (i : ℕ) (d : X) → p d ≡ true → list_all p xs ≡ true → p (get_or xs i d) ≡ true
 each p [] i d last h = last
-each p (x ∷ xs) zero d last h = (and-both (p x) (list_all p xs) h).0
-each p (x ∷ xs) (suc i) d last h = each p xs i d last (and-both (p x) (list_all p xs) h).1
+each p (x ∷ xs) zero d last h = (and_parts (p x) (list_all p xs) h).0
+each p (x ∷ xs) (suc i) d last h = each p xs i d last (and_parts (p x) (list_all p xs) h).1
 
 pub node-defaults : (s : SchemaSpec) (k : ℕ) → HasShallowDefaults s → are_shallow (node_at s k).attrs ≡ true
 node-defaults s k h = each (λ (n : NodeSpec). are_shallow n.attrs) s.nodes k no_node refl h.nodes
@@ -172,7 +172,7 @@ mark-read s d m sh h =
     let made : Mark (List Plain) = record { kind = b.0; attrs = c.0 } in
     let same : made ≡ m = cc c.1.1 in
     subst (λ x. mark_fits s x ≡ true) same
-    (and-true (nat_lt b.0 (length s.marks)) (fit_attrs (mark_at s b.0).attrs c.0)
+    (and_from (nat_lt b.0 (length s.marks)) (fit_attrs (mark_at s b.0).attrs c.0)
     (mark-inside s a.0 b.0 (there UnknownType (place_of a.0 (names_of_marks s)) b.0 b.1.0))
     (attrs-fit (mark_at s b.0).attrs (field (codes "attrs") d) c.0 (mark-defaults s b.0 sh) c.1.0))
 
@@ -183,7 +183,7 @@ marks-listed s (item d ds) ms sh h =
     let a = first-read (mark_of s d) (λ first. mark_list s ds >>= λ rest. Ok (first ∷ rest)) ms h in
     let b = first-read (mark_list s ds) (λ rest. Ok (a.0 ∷ rest)) ms a.1.1 in
     let same : a.0 ∷ b.0 ≡ ms = cc b.1.1 in
-    subst (λ x. list_all (mark_fits s) x ≡ true) same (and-true (mark_fits s a.0) (list_all (mark_fits s) b.0) (mark-read s d a.0 sh a.1.0) (marks-listed s ds b.0 sh b.1.0))
+    subst (λ x. list_all (mark_fits s) x ≡ true) same (and_from (mark_fits s a.0) (list_all (mark_fits s) b.0) (mark-read s d a.0 sh a.1.0) (marks-listed s ds b.0 sh b.1.0))
 
 set-read : (s : SchemaSpec) (xs ms : Marks) → as_set s xs ≡ Ok ms → (xs ≡ ms) × (is_set (documents_of s) ms ≡ true)
 set-read s xs ms h = from (is_set (documents_of s) xs) refl h
@@ -200,4 +200,4 @@ marks-read-fit s (Some d) ms sh h =
     let a = first-read (or_fault Shape (as_array d)) (λ items. mark_list s items >>= λ marks. as_set s marks) ms h in
     let b = first-read (mark_list s a.0) (as_set s) ms a.1.1 in
     let w = set-read s b.0 ms b.1.1 in
-    and-true (list_all (mark_fits s) ms) (is_set (documents_of s) ms) (subst (λ x. list_all (mark_fits s) x ≡ true) w.0 (marks-listed s a.0 b.0 sh b.1.0)) w.1
+    and_from (list_all (mark_fits s) ms) (is_set (documents_of s) ms) (subst (λ x. list_all (mark_fits s) x ≡ true) w.0 (marks-listed s a.0 b.0 sh b.1.0)) w.1

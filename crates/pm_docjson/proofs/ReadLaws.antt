@@ -4,7 +4,6 @@ use Rattle.std.specs.Prelude.{Ok, Err, None}
 use Rattle.serde_json.specs.Data.{Data, Items}
 use Rattle.pm_tokens.specs.Tokens.{Token, Open, Close, Leaf, CodeUnit}
 use Rattle.pm_tokens.specs.Faults.{first_broken}
-use Rattle.pm_tokens.proofs.ScanLaws.{and-both, and-true}
 use Rattle.pm_schema.specs.declared.spec.SchemaSpec.{SchemaSpec}
 use Rattle.pm_schema.specs.Defaults.{HasShallowDefaults}
 use Rattle.pm_schema.specs.Types.{node_at}
@@ -18,27 +17,28 @@ use Rattle.pm_docjson.specs.Writable.{type_fits, marks_fit, is_writable, are_wri
 use Rattle.pm_docjson.proofs.ReadAttrs.{first-read}
 use Rattle.pm_docjson.proofs.ReadNodes.{fits_by, all_by, node-read, list-read}
 use Rattle.pm_docjson.proofs.ViewTexts.{HasTexts, EachHasTexts}
+use Rattle.std.proofs.lemmas.Bool.{and_parts, and_from}
 
 module _ (s : SchemaSpec) where
   strict : (ts : List Token) → all_by s true ts ≡ true → are_writable s ts ≡ true
   strict [] h = refl
-  strict (Open k a m ∷ ts) h = let p = and-both (is_writable s (Open k a m)) (all_by s true ts) h in and-true (is_writable s (Open k a m)) (are_writable s ts) p.0 (strict ts p.1)
+  strict (Open k a m ∷ ts) h = let p = and_parts (is_writable s (Open k a m)) (all_by s true ts) h in and_from (is_writable s (Open k a m)) (are_writable s ts) p.0 (strict ts p.1)
   strict (Close ∷ ts) h = strict ts h
-  strict (Leaf k a m ∷ ts) h = let p = and-both (is_writable s (Leaf k a m)) (all_by s true ts) h in and-true (is_writable s (Leaf k a m)) (are_writable s ts) p.0 (strict ts p.1)
-  strict (CodeUnit u m ∷ ts) h = let p = and-both (marks_fit s m) (all_by s true ts) h in and-true (marks_fit s m) (are_writable s ts) p.0 (strict ts p.1)
+  strict (Leaf k a m ∷ ts) h = let p = and_parts (is_writable s (Leaf k a m)) (all_by s true ts) h in and_from (is_writable s (Leaf k a m)) (are_writable s ts) p.0 (strict ts p.1)
+  strict (CodeUnit u m ∷ ts) h = let p = and_parts (marks_fit s m) (all_by s true ts) h in and_from (marks_fit s m) (are_writable s ts) p.0 (strict ts p.1)
 
   loose : (ts : List Token) → all_by s false ts ≡ true → has_no_filled_leaf s ts ≡ true → are_writable s ts ≡ true
   loose [] h e = refl
   loose (Open k a m ∷ ts) h e =
-      let p = and-both (fits_by s false (Open k a m)) (all_by s false ts) h in
-      let q = and-both (type_fits s k a) (marks_fit s m) p.0 in
-      let r = and-both (not ((documents_of s).is_leaf k)) (has_no_filled_leaf s ts) e in
-      and-true (is_writable s (Open k a m)) (are_writable s ts)
-      (and-true (type_fits s k a) (not ((documents_of s).is_leaf k) && marks_fit s m) q.0 (and-true (not ((documents_of s).is_leaf k)) (marks_fit s m) r.0 q.1))
+      let p = and_parts (fits_by s false (Open k a m)) (all_by s false ts) h in
+      let q = and_parts (type_fits s k a) (marks_fit s m) p.0 in
+      let r = and_parts (not ((documents_of s).is_leaf k)) (has_no_filled_leaf s ts) e in
+      and_from (is_writable s (Open k a m)) (are_writable s ts)
+      (and_from (type_fits s k a) (not ((documents_of s).is_leaf k) && marks_fit s m) q.0 (and_from (not ((documents_of s).is_leaf k)) (marks_fit s m) r.0 q.1))
       (loose ts p.1 r.1)
   loose (Close ∷ ts) h e = loose ts h e
-  loose (Leaf k a m ∷ ts) h e = let p = and-both (is_writable s (Leaf k a m)) (all_by s false ts) h in and-true (is_writable s (Leaf k a m)) (are_writable s ts) p.0 (loose ts p.1 e)
-  loose (CodeUnit u m ∷ ts) h e = let p = and-both (marks_fit s m) (all_by s false ts) h in and-true (marks_fit s m) (are_writable s ts) p.0 (loose ts p.1 e)
+  loose (Leaf k a m ∷ ts) h e = let p = and_parts (is_writable s (Leaf k a m)) (all_by s false ts) h in and_from (is_writable s (Leaf k a m)) (are_writable s ts) p.0 (loose ts p.1 e)
+  loose (CodeUnit u m ∷ ts) h e = let p = and_parts (marks_fit s m) (all_by s false ts) h in and_from (marks_fit s m) (are_writable s ts) p.0 (loose ts p.1 e)
 
   module _ (sh : HasShallowDefaults s) (plain : (node_at s (documents_of s).text).attrs ≡ []) where
     pub node-back : (d : Data) → HasTexts d → ReadNodeComesBack s d

@@ -13,7 +13,6 @@ use Rattle.pm_list.specs.Readings.{◌>>=◌, or_fault}
 use Rattle.pm_text.specs.Units.{utf16}
 use Rattle.pm_tokens.specs.Tokens.{Attrs, Marks, Token, Open, Close, Leaf, CodeUnit}
 use Rattle.pm_tokens.specs.Kids.{text_tokens}
-use Rattle.pm_tokens.proofs.ScanLaws.{and-both, and-true}
 use Rattle.pm_schema.specs.declared.spec.SchemaSpec.{SchemaSpec}
 use Rattle.pm_schema.specs.declared.spec.AttrSpec.{AttrSpec}
 use Rattle.pm_schema.specs.Defaults.{HasShallowDefaults}
@@ -34,6 +33,7 @@ use Rattle.pm_docjson.proofs.Pairs.{NoBroken, broken-closed}
 use Rattle.pm_docjson.proofs.ReadAttrs.{first-read, there, attrs-fit, node-defaults, node-inside, marks-read-fit}
 use Rattle.pm_docjson.proofs.ReadPairs.{pairs-append, text-pairs, some-units, some-tokens}
 use Rattle.pm_docjson.proofs.ViewTexts.{HasTexts, EachHasTexts, AllHaveTexts, text-found}
+use Rattle.std.proofs.lemmas.Bool.{and_parts, and_from}
 
 module _ (s : SchemaSpec) (strict : Bool) where
   -- a token that can be written, where an open may be of a leaf type if the test is not strict
@@ -60,7 +60,7 @@ module _ (s : SchemaSpec) (strict : Bool) where
 
   all-append : (xs ys : List Token) → all_by xs ≡ true → all_by ys ≡ true → all_by (xs ++ ys) ≡ true
   all-append [] ys h k = k
-  all-append (x ∷ xs) ys h k = let p = and-both (fits_by x) (all_by xs) h in and-true (fits_by x) (all_by (xs ++ ys)) p.0 (all-append xs ys p.1 k)
+  all-append (x ∷ xs) ys h k = let p = and_parts (fits_by x) (all_by xs) h in and_from (fits_by x) (all_by (xs ++ ys)) p.0 (all-append xs ys p.1 k)
 
   none-read : AreRead []
   none-read = record { fits = refl; pairs = λ at. refl }
@@ -72,7 +72,7 @@ module _ (s : SchemaSpec) (strict : Bool) where
 
   units-fit : (m : Marks) (us : List ℕ) → marks_fit s m ≡ true → all_by (text_tokens m us) ≡ true
   units-fit m [] h = refl
-  units-fit m (u ∷ us) h = and-true (marks_fit s m) (all_by (text_tokens m us)) h (units-fit m us h)
+  units-fit m (u ∷ us) h = and_from (marks_fit s m) (all_by (text_tokens m us)) h (units-fit m us h)
 
   -- a text with these bytes, of the type of texts, which has no attributes
   text-made : (a : Attrs) (m : Marks) (bytes : List ℕ) → IsUtf8 bytes → (length bytes == 0) ≡ false → a ≡ [] → marks_fit s m ≡ true
@@ -95,7 +95,7 @@ module _ (s : SchemaSpec) (strict : Bool) where
   no-attrs attrs (v ∷ vs) is h = absurd (none (subst (λ x. fit_attrs x (v ∷ vs) ≡ true) is h))
     where
       none : fit_attrs [] (v ∷ vs) ≡ true → ⊥
-      none e = let p = and-both (length (v ∷ vs) == 0) _ e in grind (arith, nat_tests, p.0)
+      none e = let p = and_parts (length (v ∷ vs) == 0) _ e in grind (arith, nat_tests, p.0)
 
   text-read : (d : Data) (n : Node) → HasShallowDefaults s → (node_at s (documents_of s).text).attrs ≡ [] → HasTexts d → text_from s d ≡ Ok n → IsRead n
   unfolding text_from
@@ -116,13 +116,13 @@ module _ (s : SchemaSpec) (strict : Bool) where
 
   type-is : (k : ℕ) (a : Attrs) → nat_lt k (length s.nodes) ≡ true → (k == (documents_of s).text) ≡ false → fit_attrs (node_at s k).attrs a ≡ true → type_fits s k a ≡ true
   type-is k a inside no_text fits =
-      and-true (nat_lt k (length s.nodes)) (not (k == (documents_of s).text) && fit_attrs (node_at s k).attrs a) inside
-      (and-true (not (k == (documents_of s).text)) (fit_attrs (node_at s k).attrs a) (ap not no_text) fits)
+      and_from (nat_lt k (length s.nodes)) (not (k == (documents_of s).text) && fit_attrs (node_at s k).attrs a) inside
+      (and_from (not (k == (documents_of s).text)) (fit_attrs (node_at s k).attrs a) (ap not no_text) fits)
 
   leaf-made : (k : ℕ) (a : Attrs) (m : Marks) → type_fits s k a ≡ true → (documents_of s).is_leaf k ≡ true → marks_fit s m ≡ true → IsRead (record { kind = k; attrs = a; marks = m; body = Childless })
   leaf-made k a m fits leaf set = record {
     tokens = record {
-      fits = and-true (is_writable s (Leaf k a m)) true (and-true (type_fits s k a) ((documents_of s).is_leaf k && marks_fit s m) fits (and-true ((documents_of s).is_leaf k) (marks_fit s m) leaf set)) refl;
+      fits = and_from (is_writable s (Leaf k a m)) true (and_from (type_fits s k a) ((documents_of s).is_leaf k && marks_fit s m) fits (and_from ((documents_of s).is_leaf k) (marks_fit s m) leaf set)) refl;
       pairs = λ at. refl;
     };
     some = omega arith;
@@ -133,8 +133,8 @@ module _ (s : SchemaSpec) (strict : Bool) where
       → IsRead (record { kind = k; attrs = a; marks = m; body = Children ts })
   branch-made k a m ts fits may set inner = record {
     tokens = record {
-      fits = and-true (fits_by (Open k a m)) (all_by (ts ++ (Close ∷ [])))
-          (and-true (type_fits s k a) (cond strict (not ((documents_of s).is_leaf k)) true && marks_fit s m) fits (and-true (cond strict (not ((documents_of s).is_leaf k)) true) (marks_fit s m) may set))
+      fits = and_from (fits_by (Open k a m)) (all_by (ts ++ (Close ∷ [])))
+          (and_from (type_fits s k a) (cond strict (not ((documents_of s).is_leaf k)) true && marks_fit s m) fits (and_from (cond strict (not ((documents_of s).is_leaf k)) true) (marks_fit s m) may set))
           (all-append ts (Close ∷ []) inner.fits refl);
       pairs = λ at. broken-closed ts (at + 1) None (inner.pairs (at + 1));
     };

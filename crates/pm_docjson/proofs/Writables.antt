@@ -7,7 +7,6 @@ use Rattle.pm_tokens.specs.Scan.{head_of}
 use Rattle.pm_tokens.specs.Marks.{is_set, are_allowed, have_attrs}
 use Rattle.pm_tokens.specs.Kids.{kids}
 use Rattle.pm_tokens.specs.Faults.{attrs_fit, marks_fit as fit_marks, content_fits, high_of, pair_fits, Valid, Fault, Pair, under, first_broken, token_fits, place_from}
-use Rattle.pm_tokens.proofs.ScanLaws.{and-both, and-true}
 use Rattle.pm_tokens.proofs.PairLaws.{first-none}
 use Rattle.pm_tokens.proofs.ValidLaws.{token-fits, valid-tokens}
 use Rattle.pm_schema.specs.declared.spec.SchemaSpec.{SchemaSpec}
@@ -20,42 +19,43 @@ use Rattle.pm_node.specs.declared.node.Body.{Body}
 use Rattle.pm_node.specs.declared.node.Body.TheVariants.{Text, Leaf as Childless, Children}
 use Rattle.pm_docjson.specs.Writable.{mark_fits, marks_fit, type_fits, is_writable, are_writable, IsWritable, AreWritable, is_body_of, has_its_body}
 use Rattle.pm_docjson.proofs.Pairs.{broken-closed}
+use Rattle.std.proofs.lemmas.Bool.{and_parts, and_from}
 
 -- attributes fit by either reading
 marks-fit : (s : SchemaSpec) (ms : Marks) → have_attrs (documents_of s) ms ≡ true → list_all (mark_fits s) ms ≡ true
 unfolding documents_of
 marks-fit s [] h = refl
 marks-fit s (m ∷ ms) h =
-    let p = and-both (nat_lt m.kind (length s.marks) && fit_attrs (mark_at s m.kind).attrs m.attrs) (have_attrs (documents_of s) ms) h in
-    and-true (mark_fits s m) (list_all (mark_fits s) ms) p.0 (marks-fit s ms p.1)
+    let p = and_parts (nat_lt m.kind (length s.marks) && fit_attrs (mark_at s m.kind).attrs m.attrs) (have_attrs (documents_of s) ms) h in
+    and_from (mark_fits s m) (list_all (mark_fits s) ms) p.0 (marks-fit s ms p.1)
 
 type-fits : (s : SchemaSpec) (k : ℕ) (a : Attrs) → (documents_of s).node_attrs k a ≡ true → not (k == (documents_of s).text) ≡ true → type_fits s k a ≡ true
 unfolding documents_of
 type-fits s k a h no_text =
-    let p = and-both (nat_lt k (length s.nodes)) (fit_attrs (node_at s k).attrs a) h in
-    and-true (nat_lt k (length s.nodes)) (not (k == (documents_of s).text) && fit_attrs (node_at s k).attrs a) p.0
-    (and-true (not (k == (documents_of s).text)) (fit_attrs (node_at s k).attrs a) no_text p.1)
+    let p = and_parts (nat_lt k (length s.nodes)) (fit_attrs (node_at s k).attrs a) h in
+    and_from (nat_lt k (length s.nodes)) (not (k == (documents_of s).text) && fit_attrs (node_at s k).attrs a) p.0
+    (and_from (not (k == (documents_of s).text)) (fit_attrs (node_at s k).attrs a) no_text p.1)
 
 set-fits : (s : SchemaSpec) (p : ℕ) (ms : Marks) → have_attrs (documents_of s) ms ≡ true → (is_set (documents_of s) ms && are_allowed (documents_of s) p ms) ≡ true → marks_fit s ms ≡ true
 set-fits s p ms h k =
-    and-true (list_all (mark_fits s) ms) (is_set (documents_of s) ms) (marks-fit s ms h) (and-both (is_set (documents_of s) ms) (are_allowed (documents_of s) p ms) k).0
+    and_from (list_all (mark_fits s) ms) (is_set (documents_of s) ms) (marks-fit s ms h) (and_parts (is_set (documents_of s) ms) (are_allowed (documents_of s) p ms) k).0
 
 -- a token without a fault can be written
 token-writable : (s : SchemaSpec) (p : ℕ) (t : Token) (next : List Token) → attrs_fit (documents_of s) t ≡ true → fit_marks (documents_of s) p t ≡ true → content_fits (documents_of s) t next ≡ true → is_writable s t ≡ true
 token-writable s p (Open k a m) next at mt ct =
     let d = documents_of s in
-    let x = and-both (d.node_attrs k a) (have_attrs d m) at in
-    let y = and-both (not (k == d.text) && not (d.is_leaf k)) (d.accepts k (kids d.text 0 None next)) ct in
-    let z = and-both (not (k == d.text)) (not (d.is_leaf k)) y.0 in
-    and-true (type_fits s k a) (not (d.is_leaf k) && marks_fit s m) (type-fits s k a x.0 z.0)
-    (and-true (not (d.is_leaf k)) (marks_fit s m) z.1 (set-fits s p m x.1 mt))
+    let x = and_parts (d.node_attrs k a) (have_attrs d m) at in
+    let y = and_parts (not (k == d.text) && not (d.is_leaf k)) (d.accepts k (kids d.text 0 None next)) ct in
+    let z = and_parts (not (k == d.text)) (not (d.is_leaf k)) y.0 in
+    and_from (type_fits s k a) (not (d.is_leaf k) && marks_fit s m) (type-fits s k a x.0 z.0)
+    (and_from (not (d.is_leaf k)) (marks_fit s m) z.1 (set-fits s p m x.1 mt))
 token-writable s p Close next at mt ct = refl
 token-writable s p (Leaf k a m) next at mt ct =
     let d = documents_of s in
-    let x = and-both (d.node_attrs k a) (have_attrs d m) at in
-    let y = and-both (not (k == d.text)) (d.is_leaf k) ct in
-    and-true (type_fits s k a) (d.is_leaf k && marks_fit s m) (type-fits s k a x.0 y.0)
-    (and-true (d.is_leaf k) (marks_fit s m) y.1 (set-fits s p m x.1 mt))
+    let x = and_parts (d.node_attrs k a) (have_attrs d m) at in
+    let y = and_parts (not (k == d.text)) (d.is_leaf k) ct in
+    and_from (type_fits s k a) (d.is_leaf k && marks_fit s m) (type-fits s k a x.0 y.0)
+    (and_from (d.is_leaf k) (marks_fit s m) y.1 (set-fits s p m x.1 mt))
 token-writable s p (CodeUnit u m) next at mt ct = set-fits s p m at mt
 
 -- so can tokens without a fault, and none of their units is broken
@@ -70,7 +70,7 @@ tokens-written s ps high (t ∷ ts) h =
     let w = token-fits (documents_of s) (head_of ps) high t ts f.0 in
     let rest = tokens-written s (under ps t) (high_of t) ts f.1 in
     record {
-      fits = and-true (is_writable s t) (are_writable s ts) (token-writable s (head_of ps) t ts w.attrs w.marks w.content) rest.fits;
+      fits = and_from (is_writable s t) (are_writable s ts) (token-writable s (head_of ps) t ts w.attrs w.marks w.content) rest.fits;
       pairs = λ at. joined at (pair_fits high t ts) (first_broken (at + 1) (high_of t) ts) w.pair (rest.pairs (at + 1));
     }
   where
@@ -80,16 +80,16 @@ tokens-written s ps high (t ∷ ts) h =
 closed : (s : SchemaSpec) (ts : List Token) → are_writable s ts ≡ true → are_writable s (ts ++ (Close ∷ [])) ≡ true
 closed s [] h = refl
 closed s (t ∷ ts) h =
-    let p = and-both (is_writable s t) (are_writable s ts) h in
-    and-true (is_writable s t) (are_writable s (ts ++ (Close ∷ []))) p.0 (closed s ts p.1)
+    let p = and_parts (is_writable s t) (are_writable s ts) h in
+    and_from (is_writable s t) (are_writable s (ts ++ (Close ∷ []))) p.0 (closed s ts p.1)
 
 no-marks : (s : SchemaSpec) → marks_fit s [] ≡ true
 no-marks s = refl
 
 top-fits : (s : SchemaSpec) (n : Node) → has_its_body s n ≡ true → Valid (documents_of s) (doc_of n) → type_fits s n.kind n.attrs ≡ true
 top-fits s n h v =
-    let x = and-both (nat_lt n.kind (length s.nodes)) (not (n.kind == (documents_of s).text) && is_body_of s n.kind n.body) h in
-    let y = and-both (not (n.kind == (documents_of s).text)) (is_body_of s n.kind n.body) x.1 in
+    let x = and_parts (nat_lt n.kind (length s.nodes)) (not (n.kind == (documents_of s).text) && is_body_of s n.kind n.body) h in
+    let y = and_parts (not (n.kind == (documents_of s).text)) (is_body_of s n.kind n.body) x.1 in
     type-fits s n.kind n.attrs v.top_attrs y.0
 
 top-marks : (s : SchemaSpec) (n : Node) → Valid (documents_of s) (doc_of n) → marks_fit s n.marks ≡ true
@@ -97,8 +97,8 @@ top-marks s n v = subst (λ ms. marks_fit s ms ≡ true) (sym v.top_marks) (no-m
 
 body-of : (s : SchemaSpec) (n : Node) → has_its_body s n ≡ true → is_body_of s n.kind n.body ≡ true
 body-of s n h =
-    let x = and-both (nat_lt n.kind (length s.nodes)) (not (n.kind == (documents_of s).text) && is_body_of s n.kind n.body) h in
-    (and-both (not (n.kind == (documents_of s).text)) (is_body_of s n.kind n.body) x.1).1
+    let x = and_parts (nat_lt n.kind (length s.nodes)) (not (n.kind == (documents_of s).text) && is_body_of s n.kind n.body) h in
+    (and_parts (not (n.kind == (documents_of s).text)) (is_body_of s n.kind n.body) x.1).1
 
 around : (s : SchemaSpec) (n : Node) (b : Body) → n.body ≡ b → is_body_of s n.kind b ≡ true → type_fits s n.kind n.attrs ≡ true → Valid (documents_of s) (doc_of n) → IsWritable s n
 around s n (Text us) is body fits v = absurd (cc)
@@ -106,9 +106,9 @@ around s n Childless is body fits v =
     let d = documents_of s in
     let all : node_tokens n ≡ Leaf n.kind n.attrs n.marks ∷ [] = ap (λ c. body_tokens n.kind n.attrs n.marks c) is in
     let first : is_writable s (Leaf n.kind n.attrs n.marks) ≡ true =
-    and-true (type_fits s n.kind n.attrs) (d.is_leaf n.kind && marks_fit s n.marks) fits (and-true (d.is_leaf n.kind) (marks_fit s n.marks) body (top-marks s n v)) in
+    and_from (type_fits s n.kind n.attrs) (d.is_leaf n.kind && marks_fit s n.marks) fits (and_from (d.is_leaf n.kind) (marks_fit s n.marks) body (top-marks s n v)) in
     record {
-      tokens = subst (λ l. are_writable s l ≡ true) (sym all) (and-true (is_writable s (Leaf n.kind n.attrs n.marks)) true first refl);
+      tokens = subst (λ l. are_writable s l ≡ true) (sym all) (and_from (is_writable s (Leaf n.kind n.attrs n.marks)) true first refl);
       pairs = subst (λ l. first_broken 1 None l ≡ None) (sym all) refl;
       filled = subst (λ l. 0 < length l) (sym all) (omega arith);
     }
@@ -117,9 +117,9 @@ around s n (Children ts) is body fits v =
     let inner : Written s None ts = subst (λ c. Written s None (content_tokens n.marks c)) is (tokens-written s (n.kind ∷ []) None (doc_of n).tokens (valid-tokens d (doc_of n) v)) in
     let all : node_tokens n ≡ Open n.kind n.attrs n.marks ∷ (ts ++ (Close ∷ [])) = ap (λ c. body_tokens n.kind n.attrs n.marks c) is in
     let first : is_writable s (Open n.kind n.attrs n.marks) ≡ true =
-    and-true (type_fits s n.kind n.attrs) (not (d.is_leaf n.kind) && marks_fit s n.marks) fits (and-true (not (d.is_leaf n.kind)) (marks_fit s n.marks) body (top-marks s n v)) in
+    and_from (type_fits s n.kind n.attrs) (not (d.is_leaf n.kind) && marks_fit s n.marks) fits (and_from (not (d.is_leaf n.kind)) (marks_fit s n.marks) body (top-marks s n v)) in
     record {
-      tokens = subst (λ l. are_writable s l ≡ true) (sym all) (and-true (is_writable s (Open n.kind n.attrs n.marks)) (are_writable s (ts ++ (Close ∷ []))) first (closed s ts inner.fits));
+      tokens = subst (λ l. are_writable s l ≡ true) (sym all) (and_from (is_writable s (Open n.kind n.attrs n.marks)) (are_writable s (ts ++ (Close ∷ []))) first (closed s ts inner.fits));
       pairs = subst (λ l. first_broken 1 None l ≡ None) (sym all) (broken-closed ts 2 None (inner.pairs 2));
       filled = subst (λ l. 0 < length l) (sym all) (omega arith);
     }

@@ -35,6 +35,3 @@ module _ (ts : List Token) (from to : ℕ) (w : is_whole ts ≡ true) (h : from 
 -- of the same document and position
 pub shared-as : (x y : Doc) (p q to : ℕ) → x ≡ y → p ≡ q → shared_depth x.tokens p to ≡ shared_depth y.tokens q to
 shared-as x y p q to e f = ap (λ (z : Doc). shared_depth z.tokens p to) e ∙ ap (λ i. shared_depth y.tokens i to) f
-
-pub depth-as : (x y : Doc) (p q : ℕ) → x ≡ y → p ≡ q → depth_at x.tokens p ≡ depth_at y.tokens q
-depth-as x y p q e f = ap (λ (z : Doc). depth_at z.tokens p) e ∙ ap (depth_at y.tokens) f

@@ -8,16 +8,11 @@ use Rattle.pm_tokens.specs.Scan.{unclosed, unmet, is_whole, part, depth_at, are_
 use Rattle.pm_tokens.proofs.ScanLaws.{unclosed-append, unmet-append, whole-of}
 use Rattle.pm_tokens.proofs.PartLaws.{split-at, split-fronts}
 use Rattle.pm_slice.specs.Sides.{opens_first, closes_first, closes_last}
+use Rattle.pm_auto.proofs.AcceptLaws.{both-ways}
+use Rattle.pm_tokens.proofs.OwnedParts.{unclosed-le}
+use Rattle.pm_slice.proofs.SideLaws.{closes-both, and-swap, closes-reverse}
 
 -- ---- a token opens or closes at most one node
-
-pub deeper : (s : List ℕ) (xs : List Token) → length (unclosed s xs) ≤ length s + length xs
-deeper s [] = omega arith
-deeper s (Open k a m ∷ xs) = omega (arith, deeper (k ∷ s) xs)
-deeper [] (Close ∷ xs) = omega (arith, deeper [] xs)
-deeper (k ∷ s) (Close ∷ xs) = omega (arith, deeper s xs)
-deeper s (Leaf k a m ∷ xs) = omega (arith, deeper s xs)
-deeper s (CodeUnit u m ∷ xs) = omega (arith, deeper s xs)
 
 higher : (s : List ℕ) (xs : List Token) → length s ≤ length (unclosed s xs) + length xs
 higher s [] = omega arith
@@ -29,7 +24,7 @@ higher s (CodeUnit u m ∷ xs) = omega (arith, higher s xs)
 
 -- no more nodes are around a position than tokens before it
 pub depth-bound : (ts : List Token) (p : ℕ) → depth_at ts p ≤ p
-depth-bound ts p = omega (arith, deeper [] (take p ts), length-take p ts)
+depth-bound ts p = omega (arith, unclosed-le [] (take p ts), length-take p ts)
 
 -- ---- opens
 
@@ -37,10 +32,10 @@ all-opens : (s : List ℕ) (d : ℕ) (ts : List Token) → d ≤ length ts → l
 all-opens s zero ts l h = refl
 all-opens s (suc d) [] l h = absurd (omega (arith, l))
 all-opens s (suc d) (Open k a m ∷ ts) l h = all-opens (k ∷ s) d ts (omega (arith, l)) (omega (arith, h))
-all-opens [] (suc d) (Close ∷ ts) l h = absurd (omega (arith, h, deeper [] (take d ts), length-take d ts))
-all-opens (k ∷ s) (suc d) (Close ∷ ts) l h = absurd (omega (arith, h, deeper s (take d ts), length-take d ts))
-all-opens s (suc d) (Leaf k a m ∷ ts) l h = absurd (omega (arith, h, deeper s (take d ts), length-take d ts))
-all-opens s (suc d) (CodeUnit u m ∷ ts) l h = absurd (omega (arith, h, deeper s (take d ts), length-take d ts))
+all-opens [] (suc d) (Close ∷ ts) l h = absurd (omega (arith, h, unclosed-le [] (take d ts), length-take d ts))
+all-opens (k ∷ s) (suc d) (Close ∷ ts) l h = absurd (omega (arith, h, unclosed-le s (take d ts), length-take d ts))
+all-opens s (suc d) (Leaf k a m ∷ ts) l h = absurd (omega (arith, h, unclosed-le s (take d ts), length-take d ts))
+all-opens s (suc d) (CodeUnit u m ∷ ts) l h = absurd (omega (arith, h, unclosed-le s (take d ts), length-take d ts))
 
 opens-all : (s : List ℕ) (d : ℕ) (ts : List Token) → opens_first d ts ≡ true → length (unclosed s (take d ts)) ≡ length s + d
 opens-all s zero ts h = omega arith
@@ -96,38 +91,12 @@ closes-there (suc d) (CodeUnit u m ∷ ts) h = absurd (cc)
 
 -- closes read backwards
 
-closes-both : (xs ys : List Token) → are_closes (xs ++ ys) ≡ (are_closes xs && are_closes ys)
-closes-both [] ys = refl
-closes-both (Open k a m ∷ xs) ys = refl
-closes-both (Close ∷ xs) ys = closes-both xs ys
-closes-both (Leaf k a m ∷ xs) ys = refl
-closes-both (CodeUnit u m ∷ xs) ys = refl
-
-and-swap : (a b : Bool) → (a && b) ≡ (b && a)
-and-swap true true = refl
-and-swap true false = refl
-and-swap false true = refl
-and-swap false false = refl
-
-closes-reverse : (xs : List Token) → are_closes (reverse xs) ≡ are_closes xs
-closes-reverse [] = refl
-closes-reverse (x ∷ xs) =
-    ap are_closes (reverse-append (x ∷ []) xs) ∙ (closes-both (reverse xs) (x ∷ []) ∙ (ap (λ z. z && are_closes (x ∷ [])) (closes-reverse xs)
-    ∙ (and-swap (are_closes xs) (are_closes (x ∷ [])) ∙ sym (closes-both (x ∷ []) xs))))
-
 -- the last d tokens of two lists are the second of them
 closes-back : (d : ℕ) (front xs : List Token) → length xs ≡ d → closes_last d (front ++ xs) ≡ are_closes xs
 closes-back d front xs e =
     ap (closes_first d) (reverse-append front xs) ∙ (closes-front d (reverse xs) (reverse front) (omega (arith, e, length-reverse xs)) ∙ closes-reverse xs)
 
 -- ---- both, at a position
-
--- two answers to one question
-both-ways : (a b : Bool) → (a ≡ true → b ≡ true) → (b ≡ true → a ≡ true) → a ≡ b
-both-ways true true f g = refl
-both-ways true false f g = absurd (let e = f refl in cc)
-both-ways false true f g = absurd (let e = g refl in cc)
-both-ways false false f g = refl
 
 module _ (ts : List Token) (pos d : ℕ) where
   abbrev here : List ℕ

@@ -8,42 +8,13 @@ use Rattle.pm_tokens.specs.Tokens.{Token, Open, Close, Leaf, CodeUnit, Doc}
 use Rattle.pm_tokens.specs.Scan.{tail_of, unclosed, depth_at, open_places, open_at}
 use Rattle.pm_resolve.specs.Places.{up_to_close, first_node, opens_at, node_around, start_at}
 use Rattle.pm_edit.specs.Nodes.{opened_node, node_at, behind}
+use Rattle.pm_tokens.proofs.DepthLaws.{places-append, places-length}
+use Rattle.pm_resolve.proofs.OpenLaws.{places-depth, below-tail, places-below}
 
 -- ---- the places of the opens around a position
 
-places-append : (at : ℕ) (s : List ℕ) (xs ys : List Token) → open_places at s (xs ++ ys) ≡ open_places (at + length xs) (open_places at s xs) ys
-places-append at s [] ys = ap (λ n. open_places n s ys) (let e : at ≡ at + 0 = omega arith in e)
-places-append at s (Open k a m ∷ xs) ys = places-append (at + 1) (at ∷ s) xs ys ∙ ap (λ n. open_places n (open_places (at + 1) (at ∷ s) xs) ys) (let e : (at + 1) + length xs ≡ at + suc (length xs) = omega arith in e)
-places-append at s (Close ∷ xs) ys = places-append (at + 1) (tail_of s) xs ys ∙ ap (λ n. open_places n (open_places (at + 1) (tail_of s) xs) ys) (let e : (at + 1) + length xs ≡ at + suc (length xs) = omega arith in e)
-places-append at s (Leaf k a m ∷ xs) ys = places-append (at + 1) s xs ys ∙ ap (λ n. open_places n (open_places (at + 1) s xs) ys) (let e : (at + 1) + length xs ≡ at + suc (length xs) = omega arith in e)
-places-append at s (CodeUnit u m ∷ xs) ys = places-append (at + 1) s xs ys ∙ ap (λ n. open_places n (open_places (at + 1) s xs) ys) (let e : (at + 1) + length xs ≡ at + suc (length xs) = omega arith in e)
-
-places-length : (at : ℕ) (s r : List ℕ) (ts : List Token) → length s ≡ length r → length (open_places at s ts) ≡ length (unclosed r ts)
-places-length at s r [] h = h
-places-length at s r (Open k a m ∷ ts) h = places-length (at + 1) (at ∷ s) (k ∷ r) ts (ap suc h)
-places-length at [] [] (Close ∷ ts) h = places-length (at + 1) [] [] ts refl
-places-length at [] (k ∷ r) (Close ∷ ts) h = absurd (omega (arith, h))
-places-length at (k ∷ s) [] (Close ∷ ts) h = absurd (omega (arith, h))
-places-length at (j ∷ s) (k ∷ r) (Close ∷ ts) h = places-length (at + 1) s r ts (omega (arith, h))
-places-length at s r (Leaf k a m ∷ ts) h = places-length (at + 1) s r ts h
-places-length at s r (CodeUnit u m ∷ ts) h = places-length (at + 1) s r ts h
-
-places-depth : (ts : List Token) (p : ℕ) → length (open_at ts p) ≡ depth_at ts p
-places-depth ts p = places-length 0 [] [] (take p ts) refl
-
 abbrev AllBelow : ℕ → List ℕ → Type 0
 AllBelow n ps = AllByRecursion (λ p. p < n) ps
-
-below-tail : (n : ℕ) (ps : List ℕ) → AllBelow n ps → AllBelow n (tail_of ps)
-below-tail n [] h = tt
-below-tail n (p ∷ ps) h = h.1
-
-places-below : (n at : ℕ) (s : List ℕ) (ts : List Token) → at + length ts ≤ n → AllBelow n s → AllBelow n (open_places at s ts)
-places-below n at s [] l h = h
-places-below n at s (Open k a m ∷ ts) l h = places-below n (at + 1) (at ∷ s) ts (omega (arith, l)) (omega (arith, l), h)
-places-below n at s (Close ∷ ts) l h = places-below n (at + 1) (tail_of s) ts (omega (arith, l)) (below-tail n s h)
-places-below n at s (Leaf k a m ∷ ts) l h = places-below n (at + 1) s ts (omega (arith, l)) h
-places-below n at s (CodeUnit u m ∷ ts) l h = places-below n (at + 1) s ts (omega (arith, l)) h
 
 -- ---- one token further
 

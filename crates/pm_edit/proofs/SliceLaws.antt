@@ -8,10 +8,11 @@ use Rattle.pm_tokens.specs.Scan.{Balanced, are_opens, are_closes}
 use Rattle.pm_tokens.specs.Slices.{is_slice, slice_size}
 use Rattle.pm_tokens.proofs.ScanLaws.{of-whole}
 use Rattle.pm_tokens.proofs.BalanceLaws.{balanced-whole}
-use Rattle.pm_tokens.proofs.PartLaws.{is-slice}
+use Rattle.pm_tokens.proofs.PartLaws.{is-slice, closes-replicate}
 use Rattle.pm_slice.specs.Sides.{sides, no_slice, or_none}
 use Rattle.pm_resolve.specs.Places.{node_around}
 use Rattle.pm_fit.specs.Candidates.{hollow}
+use Rattle.pm_fit.proofs.HollowLaws.{length-hollow}
 
 -- ---- whole nodes
 
@@ -49,19 +50,12 @@ closes-on : (n : ℕ) → replicate n Close ++ (Close ∷ []) ≡ Close ∷ repl
 closes-on zero = refl
 closes-on (suc n) = ap (λ z. Close ∷ z) (closes-on n)
 
-closes-all : (n : ℕ) → are_closes (replicate n Close) ≡ true
-closes-all zero = refl
-closes-all (suc n) = closes-all n
-
 hollow-is : (d : Doc) (p j count : ℕ) → hollow d p j count ≡ heads d p j count ++ replicate count Close
 hollow-is d p j zero = refl
 hollow-is d p j (suc count) =
     let x = node_around d p (suc j) in
     ap (λ z. Open x.kind x.attrs x.marks ∷ (z ++ (Close ∷ []))) (hollow-is d p (suc j) count)
     ∙ ap (λ z. Open x.kind x.attrs x.marks ∷ z) (append_assoc (heads d p (suc j) count) (replicate count Close) (Close ∷ []) ∙ ap (λ z. heads d p (suc j) count ++ z) (closes-on count))
-
-pub length-hollow : (d : Doc) (p j count : ℕ) → length (hollow d p j count) ≡ 2 * count
-length-hollow d p j count = omega (arith, ap length (hollow-is d p j count), length-append (heads d p j count) (replicate count Close), heads-length d p j count, length-replicate count Close)
 
 module _ (d : Doc) (p j count : ℕ) where
   abbrev one : List Token
@@ -88,7 +82,7 @@ module _ (d : Doc) (p j count : ℕ) where
   back-closes : are_closes (drop (length twice - count) twice) ≡ true
   back-closes =
       let n : length (one ++ heads d p j count) ≡ length twice - count = omega (arith, length-twice, length-append one (heads d p j count), heads-length d p j count, length-hollow d p j count) in
-      ap (λ z. are_closes (drop (length twice - count) z)) from-back ∙ (ap are_closes (drop_at (one ++ heads d p j count) closes (length twice - count) n) ∙ closes-all count)
+      ap (λ z. are_closes (drop (length twice - count) z)) from-back ∙ (ap are_closes (drop_at (one ++ heads d p j count) closes (length twice - count) n) ∙ closes-replicate count)
 
   pub split-is : Balanced twice → is_slice (sides twice count count) ≡ true
   split-is b = is-slice (sides twice count count) (record { whole = of-whole twice (balanced-whole b); within = omega (arith, length-twice); opens = front-opens; closes = back-closes })

@@ -3,13 +3,12 @@ use Rattle.std.specs.Prelude.{◌≡◌, ℕ, ◌+◌, ◌-◌, ◌≤◌, ◌<�
 use Rattle.std.specs.declared.sync.Arc.{Arc}
 use Rattle.std.specs.Arc.{arc_value}
 use Rattle.std.proofs.Common.{suc, refl, ap, sym, ◌∙◌, arith, length-append, eq-eqb}
-use Rattle.std.proofs.lemmas.Bool.{ne_eqb}
+use Rattle.std.proofs.lemmas.Bool.{ne_eqb, and_from}
 use Rattle.std.proofs.lemmas.Bool.Decides.{nat_tests}
 use Rattle.std.proofs.lemmas.List.{append-nil, take-append-le, take_all}
 use Rattle.pm_tokens.specs.Tokens.{Attrs, Marks, Token, Open, Close}
 use Rattle.pm_tokens.specs.Scan.{Balanced, none, leaf, unit, node}
 use Rattle.pm_tokens.specs.Kids.{children}
-use Rattle.pm_tokens.proofs.ScanLaws.{and-true}
 use Rattle.pm_node.specs.declared.node.Node.{Node}
 use Rattle.pm_node.specs.declared.node.Body.{Body}
 use Rattle.pm_node.specs.declared.node.Body.TheVariants.{Text, Leaf as Childless, Children}
@@ -113,7 +112,7 @@ module _ {Z : Type 0} (xs : List (Arc Node Z)) (x : Arc Node Z) (inner : List To
   pub peel-can : (length inner ≡ 0 → ⊥) → can_be_peeled (list_tokens xs) ≡ true
   peel-can z =
       let more : 2 < length (list_tokens xs) = omega (arith, size, z) in
-      and-true _ _ (and-true _ _ (eq-eqb (length (children (list_tokens xs))) 1 (count xs w v ∙ l)) (ap (opens_first 1) (tokens-one xs x inner l e b))) (lt-is 2 (length (list_tokens xs)) more)
+      and_from _ _ (and_from _ _ (eq-eqb (length (children (list_tokens xs))) 1 (count xs w v ∙ l)) (ap (opens_first 1) (tokens-one xs x inner l e b))) (lt-is 2 (length (list_tokens xs)) more)
 
   pub peel-inner : inner ≡ inside (list_tokens xs)
   peel-inner = sym (ap inside (tokens-one xs x inner l e b) ∙ inside-node (arc_value x).kind (arc_value x).attrs (arc_value x).marks inner)

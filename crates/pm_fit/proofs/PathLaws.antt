@@ -13,6 +13,7 @@ use Rattle.pm_auto.specs.Wraps.{wrappers, inner_links, wrap_links, wrap_goals}
 use Rattle.pm_auto.proofs.Orders.{le_or_lt}
 use Rattle.pm_fit.specs.Paths.{first_some, first_of_length, shortest}
 use Rattle.pm_fit.proofs.LengthLaws.{led, lead, sound, found, not-both}
+use Rattle.pm_auto.proofs.SearchLaws.{target-inside}
 
 -- ---- marks
 
@@ -160,16 +161,6 @@ module _ (may : List Bool) (n : ℕ) where
   nodes-inside [] last h (suc node) = tt
   nodes-inside (a ∷ autos) last h zero = wrappers-inside true a.sets (edges_at a.edges 0)
   nodes-inside (a ∷ autos) last h (suc node) = nodes-inside autos last h node
-
-target-inside : (n k t : ℕ) (es : List Edge) → Inside n es → target k es ≡ Some t → t < n
-target-inside n k t [] h e = absurd (cc)
-target-inside n k t (x ∷ es) h e = at (eqb x.kind k) refl (target-inside n k t es h.1)
-  where
-    at : (b : Bool) → eqb x.kind k ≡ b → (target k es ≡ Some t → t < n) → t < n
-    at true q i =
-        let r : Some x.to ≡ Some t = subst (λ (b : Bool). cond b (Some x.to) (target k es) ≡ Some t) q e in
-        let to : x.to ≡ t = cc in subst (λ (z : ℕ). z < n) to h.0
-    at false q i = i (subst (λ (b : Bool). cond b (Some x.to) (target k es) ≡ Some t) q e)
 
 -- the shortest list of wrappers is what the function gives
 module _ (a : Auto) (s to : ℕ) (autos : List Auto) (may : List Bool) where

@@ -6,20 +6,20 @@ use Rattle.std.proofs.lemmas.List.{length-take-le}
 use Rattle.std.proofs.lemmas.Bool.Decides.{nat_tests}
 use Rattle.pm_tokens.specs.Tokens.{Token, Doc}
 use Rattle.pm_tokens.specs.Slices.{Slice}
-use Rattle.pm_tokens.proofs.ScanLaws.{and-both}
 use Rattle.pm_slice.specs.Sides.{sides}
 use Rattle.pm_meaning.specs.Steps.{Step}
 use Rattle.pm_schema.specs.declared.schema.Schema.{Schema}
 use Rattle.pm_fit.specs.Candidates.{Candidate, can_be_peeled, inside, peeled, peelings, falling}
 use Rattle.pm_fit.specs.Firsts.{IsFirst}
 use Rattle.pm_fit.proofs.FirstLaws.{none, found, on}
+use Rattle.std.proofs.lemmas.Bool.{and_parts}
 
 lt-true : (a b : ℕ) → nat_lt a b ≡ true → a < b
 lt-true a b h = grind (arith, nat_tests)
 
 -- what can be peeled has an open, a close and something between
 pub can-more : (ts : List Token) → can_be_peeled ts ≡ true → 2 < length ts
-can-more ts h = lt-true 2 (length ts) (and-both _ (nat_lt 2 (length ts)) h).1
+can-more ts h = lt-true 2 (length ts) (and_parts _ (nat_lt 2 (length ts)) h).1
 
 pub inside-less : (ts : List Token) → 2 < length ts → length (inside ts) + 2 ≡ length ts
 inside-less ts h =

@@ -1,13 +1,12 @@
 -- The nodes around two positions, and the innermost of those around one.
 use Rattle.std.specs.Prelude.{◌≡◌, ℕ, ◌-◌, ◌≤◌, ◌==◌, None, List, [], length, take}
 use Rattle.std.proofs.Common.{ap, ◌∙◌, arith}
-use Rattle.std.proofs.lemmas.Bool.{eqb-true}
+use Rattle.std.proofs.lemmas.Bool.{eqb-true, and_parts}
 use Rattle.pm_tokens.specs.Tokens.{Doc}
 use Rattle.pm_tokens.specs.Scan.{unclosed, unmet, depth_at, shared_depth}
 use Rattle.pm_tokens.specs.Kids.{kids}
 use Rattle.pm_tokens.specs.Schemas as documents
 use Rattle.pm_tokens.specs.Faults.{Valid}
-use Rattle.pm_tokens.proofs.ScanLaws.{and-both}
 use Rattle.pm_tokens.proofs.DepthLaws.{cut-sides}
 use Rattle.pm_resolve.specs.Places.{node_around, start_at}
 use Rattle.pm_fit.specs.Wrappings.{parent_at, before_in}
@@ -15,7 +14,7 @@ use Rattle.pm_fit.specs.Wrappings.{parent_at, before_in}
 -- two positions share no more nodes than are around each
 pub shared-least : (s : documents.Schema) (d : Doc) (from to : ℕ) → Valid s d → from ≤ to → to ≤ length d.tokens → (shared_depth d.tokens from to ≤ depth_at d.tokens from) × (shared_depth d.tokens from to ≤ depth_at d.tokens to)
 shared-least s d from to v h i =
-    let met : unmet 0 d.tokens ≡ 0 = eqb-true (unmet 0 d.tokens) 0 (and-both (unmet 0 d.tokens == 0) (length (unclosed [] d.tokens) == 0) v.whole).0 in
+    let met : unmet 0 d.tokens ≡ 0 = eqb-true (unmet 0 d.tokens) 0 (and_parts (unmet 0 d.tokens == 0) (length (unclosed [] d.tokens) == 0) v.whole).0 in
     let sides = cut-sides d.tokens from to met h i in
     (omega (arith, sides.0), omega (arith, sides.1))
 

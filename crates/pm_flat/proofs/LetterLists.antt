@@ -3,6 +3,7 @@ use Rattle.std.proofs.Common.{◌≡◌, ℕ, zero, suc, Bool, true, false, List
 use Rattle.std.specs.Prelude.{◌&&◌}
 use Rattle.std.proofs.lemmas.List.Folds.{list_all-append}
 use Rattle.pm_flat.specs.Letters.{is_printable, all_printable}
+use Rattle.std.proofs.lemmas.Bool.{and_from}
 
 left : (a b : Bool) → (a && b) ≡ true → a ≡ true
 left true b h = refl
@@ -12,13 +13,10 @@ right : (a b : Bool) → (a && b) ≡ true → b ≡ true
 right true b h = h
 right false b h = absurd (cc)
 
-both : (a b : Bool) → a ≡ true → b ≡ true → (a && b) ≡ true
-both a b g h = rw (g, h) refl
-
 pub all-take : (n : ℕ) (xs : List ℕ) → all_printable xs ≡ true → all_printable (take n xs) ≡ true
 all-take zero xs h = refl
 all-take (suc n) [] h = refl
-all-take (suc n) (x ∷ xs) h = both (is_printable x) _ (left _ _ h) (all-take n xs (right _ _ h))
+all-take (suc n) (x ∷ xs) h = and_from (is_printable x) _ (left _ _ h) (all-take n xs (right _ _ h))
 
 pub all-drop : (n : ℕ) (xs : List ℕ) → all_printable xs ≡ true → all_printable (drop n xs) ≡ true
 all-drop zero xs h = h

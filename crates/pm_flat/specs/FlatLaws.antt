@@ -14,6 +14,7 @@ use Rattle.pm_change.proofs.Folds.{fold-cons}
 use Rattle.pm_flat.specs.declared.flat.Replace.{Replace}
 use Rattle.pm_flat.specs.declared.flat.Reason.TheVariants.{Range, Depth, Large, Content}
 use Rattle.pm_flat.specs.Flat.{meaning, outcome, size, max_size, is_inside, is_empty, same, spliced, back_step, range_of, raised, carried, is_within}
+use Rattle.std.proofs.lemmas.Bool.{and_parts, or_parts}
 
 -- A step applied: between two positions inside the paragraph, or it took out nothing and put in nothing.
 pub record Inside (step : Replace) (doc next : List ℕ) : Type 0 where
@@ -29,14 +30,6 @@ pub record Outside (step : Replace) (doc next : List ℕ) : Type 0 where
   pub within : step.to ≤ size doc
   pub apart : is_inside (size doc) step.from ≡ false
   pub is : next ≡ doc
-
-neither : (a b : Bool) → (a || b) ≡ false → (a ≡ false) × (b ≡ false)
-neither true b h = absurd (cc)
-neither false b h = (refl, h)
-
-both : (a b : Bool) → (a && b) ≡ true → (a ≡ true) × (b ≡ true)
-both true b h = (refl, h)
-both false b h = absurd (cc)
 
 both_inside : (a b : Bool) → a ≡ true → not (same a b) ≡ false → b ≡ true
 both_inside true true g h = refl
@@ -60,13 +53,13 @@ by_tests step doc next true apart large in_it empty a b c d e h = absurd (cc)
 by_tests step doc next false true large in_it empty a b c d e h = absurd (cc)
 by_tests step doc next false false true in_it empty a b c d e h = absurd (cc)
 by_tests step doc next false false false true empty a b c d e h =
-    let r = neither (nat_lt step.to step.from) (nat_lt (size doc) step.to) a in
+    let r = or_parts (nat_lt step.to step.from) (nat_lt (size doc) step.to) a in
     let l = limits step.from step.to (size doc) (length step.text) r.0 r.1 c d (both_inside (is_inside (size doc) step.from) (is_inside (size doc) step.to) d b) in
     let same_doc : spliced step doc ≡ next = cc in
     inl (record { ordered = l.0; first = l.1; last = l.2; small = l.3; is = sym same_doc })
 by_tests step doc next false false false false true a b c d e h =
-    let r = neither (nat_lt step.to step.from) (nat_lt (size doc) step.to) a in
-    let t = both (step.from == step.to) (length step.text == 0) e in
+    let r = or_parts (nat_lt step.to step.from) (nat_lt (size doc) step.to) a in
+    let t = and_parts (step.from == step.to) (length step.text == 0) e in
     let n = no_more step.from step.to (size doc) r.1 t.0 (length step.text) t.1 in
     let same_doc : doc ≡ next = cc in
     inr (record { at = n.0; nothing = n.1; within = n.2; apart = d; is = sym same_doc })

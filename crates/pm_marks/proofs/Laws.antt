@@ -9,26 +9,15 @@ use Rattle.pm_marks.specs.Sets.{same_mark, same_marks, has, removed, kept, keeps
 use Rattle.pm_marks.specs.Together.{StandsBefore}
 use Rattle.pm_marks.specs.declared.mark.Mark.{Mark}
 use Rattle.pm_marks.proofs.Places.{either, either_by, all_more, placed-cons, Ordered, Apart, ordered_filter, ordered_placed, placed_last}
+use Rattle.std.proofs.lemmas.Bool.{and_parts, or_right, or_parts}
 
 abbrev pub IsEquality : {A : Type 0} → (A → A → Bool) → Type 0
 IsEquality {A} equal = (x y : A) → (equal x y ≡ true) ↔ (x ≡ y)
-
-both : (a b : Bool) → (a && b) ≡ true → (a ≡ true) × (b ≡ true)
-both true b h = (refl, h)
-both false b h = absurd (cc)
-
-neither : (a b : Bool) → (a || b) ≡ false → (a ≡ false) × (b ≡ false)
-neither true b h = absurd (cc)
-neither false b h = (refl, h)
 
 -- what follows from a fact on an Ok value
 pub if_ok-then : {X E : Type 0} (P Q : X → Type 0) (r : Result X E) → ((x : X) → P x → Q x) → IfOk r P → IfOk r Q
 if_ok-then P Q (Ok x) go h = go x h
 if_ok-then P Q (Err e) go h = h
-
-or_true : (a b : Bool) → b ≡ true → (a || b) ≡ true
-or_true true b h = refl
-or_true false b h = h
 
 and_left : (a b : Bool) → (a && b) ≡ false → b ≡ true → a ≡ false
 and_left true b h e = absurd (cc)
@@ -47,7 +36,7 @@ module _ {A : Type 0} (equal : A → A → Bool) (law : IsEquality equal) where
 
   pub same-equal : (m n : Mark A) → same_mark equal m n ≡ true → m ≡ n
   same-equal m n h =
-      let parts = both (m.kind == n.kind) (equal m.attrs n.attrs) h in
+      let parts = and_parts (m.kind == n.kind) (equal m.attrs n.attrs) h in
       let kinds : m.kind ≡ n.kind = grind (arith, nat_tests) in
       let attrs = (law m.attrs n.attrs).0 parts.1 in
       ap₂ (λ k a. record { kind = k; attrs = a }) kinds attrs
@@ -69,7 +58,7 @@ module _ {A : Type 0} (equal : A → A → Bool) (law : IsEquality equal) where
   same_marks-equal [] (n ∷ ns) h = absurd (cc)
   same_marks-equal (m ∷ ms) [] h = absurd (cc)
   same_marks-equal (m ∷ ms) (n ∷ ns) h =
-      let parts = both (same_mark equal m n) (same_marks equal ms ns) h in
+      let parts = and_parts (same_mark equal m n) (same_marks equal ms ns) h in
       ap₂ (λ x xs. x ∷ xs) (same-equal m n parts.0) (same_marks-equal ms ns parts.1)
 
   pub same_marks-decides : (ms ns : List (Mark A)) → (same_marks equal ms ns ≡ true) ↔ (ms ≡ ns)
@@ -84,7 +73,7 @@ module _ {A : Type 0} (equal : A → A → Bool) (law : IsEquality equal) where
   has-placed [] m = rw (same-itself m) refl
   has-placed (x ∷ xs) m =
       subst (λ ys. has equal ys m ≡ true) (sym (placed-cons x m xs))
-      (either (λ ys. has equal ys m ≡ true) (nat_lt m.kind x.kind) (m ∷ x ∷ xs) (x ∷ placed xs m) (rw (same-itself m) refl) (or_true _ _ (has-placed xs m)))
+      (either (λ ys. has equal ys m ≡ true) (nat_lt m.kind x.kind) (m ∷ x ∷ xs) (x ∷ placed xs m) (rw (same-itself m) refl) (or_right _ _ (has-placed xs m)))
 
   same-apart : (m n : Mark A) → m ≢ n → same_mark equal m n ≡ false
   same-apart m n h = elim (bool_cases (same_mark equal m n)) [ inl e ↦ absurd (h (same-equal m n e)) | inr e ↦ e ]
@@ -133,8 +122,8 @@ module _ {A : Type 0} (equal : A → A → Bool) (law : IsEquality equal) where
     apart-kept : (set : List (Mark A)) (m : Mark A) → has equal set m ≡ false → keeps_out table set m ≡ false → AllByRecursion (λ y. Apart table y m) (kept table set m)
     apart-kept [] m new free = tt
     apart-kept (x ∷ xs) m new free =
-        let differs = neither (same_mark equal x m) (has equal xs m) new in
-        let lets = neither (excludes table x.kind m.kind && not (excludes table m.kind x.kind)) (keeps_out table xs m) free in
+        let differs = or_parts (same_mark equal x m) (has equal xs m) new in
+        let lets = or_parts (excludes table x.kind m.kind && not (excludes table m.kind x.kind)) (keeps_out table xs m) free in
         let rest = apart-kept xs m differs.1 lets.1 in
         let first : not (excludes table m.kind x.kind) ≡ true → AllByRecursion (λ y. Apart table y m) (x ∷ kept table xs m) = λ e. (
           record {

@@ -1,6 +1,6 @@
 -- The laws of a replaceAround.
 use Rattle.std.specs.Prelude.{◌≡◌, ℕ, ◌+◌, ◌-◌, ◌≤◌, Bool, true, false, ◌&&◌, ◌||◌, not, nat_le, List, [], ◌∷◌, ◌++◌, length, take, drop, Ok}
-use Rattle.std.proofs.lemmas.Bool.{leb-true, le-leb}
+use Rattle.std.proofs.lemmas.Bool.{leb-true, le-leb, and_parts, and_from}
 use Rattle.std.proofs.lemmas.List.{take_at, drop_at, take-append-drop}
 use Rattle.std.proofs.Common.{refl, ap, sym, ◌∙◌, subst, arith, append_assoc, length-append, length-take, length-drop}
 use Rattle.pm_tokens.specs.Faults.{Valid}
@@ -11,7 +11,7 @@ use Rattle.pm_tokens.specs.Tokens.{Token, Doc, with_tokens}
 use Rattle.pm_tokens.proofs.PairLaws.{no-left, no-right, ends-part, before-gap, after-gap}
 use Rattle.pm_tokens.proofs.PartLaws.{IsSlice, slice-is, cut-slice, split-front, split-fronts, split-part, split-back, split-rest, owned-front, depth-from, slice_stack, slice-owned-is, slice-length, slice-counts, cut-tokens, cut-size, cut-owned, Pieces, pieces-at, pieces-first, pieces-gap, pieces-last, pieces-length, owned-gap, owned-last, depth-last}
 use Rattle.pm_tokens.proofs.Restored.{cut-within, cut-first, cut-second, cut-level, Went, went, same-level, back-joins, Stands, stands, whole-after}
-use Rattle.pm_tokens.proofs.ScanLaws.{and-both, and-true, plain-append, plain-owned, owned-append, owned-take, owned-drop, length-owned, opens, closes, opens-append, closes-append, Whole, whole-of, of-whole}
+use Rattle.pm_tokens.proofs.ScanLaws.{plain-append, plain-owned, owned-append, owned-take, owned-drop, length-owned, opens, closes, opens-append, closes-append, Whole, whole-of, of-whole}
 use Rattle.pm_tokens.proofs.SchemaLaws.{compatible-itself, compatible-both}
 use Rattle.pm_tokens.proofs.ValidLaws.{pair-free}
 use Rattle.pm_meaning.specs.Inverses.{around_back}
@@ -53,17 +53,17 @@ moved s from to gf gt sl insert structure d next h =
     let u₄ = unless-ok (depths_fit ts from to sl) Depth _ next u₃.1 in
     let u₅ = unless-ok (parts_no_pair ts ps && parts_no_pair (slice_tokens sl) (insert ∷ [])) Pair _ next u₄.1 in
     let u₆ = unless-ok (joins (compatible s) [] sp) Join (checked s (with_tokens d (plain sp))) next u₅.1 in
-    let o = and-both (in_order ps (length ts)) (nat_le insert (slice_size sl)) u₁.0 in
-    let o₁ = and-both (nat_le from gf) (in_order (gf ∷ gt ∷ to ∷ []) (length ts)) o.0 in
-    let o₂ = and-both (nat_le gf gt) (in_order (gt ∷ to ∷ []) (length ts)) o₁.1 in
-    let o₃ = and-both (nat_le gt to) (nat_le to (length ts)) o₂.1 in
+    let o = and_parts (in_order ps (length ts)) (nat_le insert (slice_size sl)) u₁.0 in
+    let o₁ = and_parts (nat_le from gf) (in_order (gf ∷ gt ∷ to ∷ []) (length ts)) o.0 in
+    let o₂ = and_parts (nat_le gf gt) (in_order (gt ∷ to ∷ []) (length ts)) o₁.1 in
+    let o₃ = and_parts (nat_le gt to) (nat_le to (length ts)) o₂.1 in
     let f = depths-of ts from to sl u₄.0 in
-    let p = and-both (parts_no_pair ts ps) (parts_no_pair (slice_tokens sl) (insert ∷ [])) u₅.0 in
-    let p₁ = and-both (not (parts_pair ts from)) (parts_no_pair ts (gf ∷ gt ∷ to ∷ [])) p.0 in
-    let p₂ = and-both (not (parts_pair ts gf)) (parts_no_pair ts (gt ∷ to ∷ [])) p₁.1 in
-    let p₃ = and-both (not (parts_pair ts gt)) (parts_no_pair ts (to ∷ [])) p₂.1 in
-    let p₄ = and-both (not (parts_pair ts to)) true p₃.1 in
-    let p₅ = and-both (not (parts_pair (slice_tokens sl) insert)) true p.1 in
+    let p = and_parts (parts_no_pair ts ps) (parts_no_pair (slice_tokens sl) (insert ∷ [])) u₅.0 in
+    let p₁ = and_parts (not (parts_pair ts from)) (parts_no_pair ts (gf ∷ gt ∷ to ∷ [])) p.0 in
+    let p₂ = and_parts (not (parts_pair ts gf)) (parts_no_pair ts (gt ∷ to ∷ [])) p₁.1 in
+    let p₃ = and_parts (not (parts_pair ts gt)) (parts_no_pair ts (to ∷ [])) p₂.1 in
+    let p₄ = and_parts (not (parts_pair ts to)) true p₃.1 in
+    let p₅ = and_parts (not (parts_pair (slice_tokens sl) insert)) true p.1 in
     let e = (checked-ok s (with_tokens d (plain sp)) next u₆.1).0 in
     record {
       slice = slice-is sl u₀.0;
@@ -270,26 +270,26 @@ module _ (s : Schema) (from to gf gt : ℕ) (sl : Slice) (insert : ℕ) (structu
   structured : (keeps_structure kept (part from (from + insert) result) && keeps_structure kept (part ((from + insert) + gap) far result)) ≡ true
   structured =
       let k = keeps-kept structure (closes_then_opens s₁) (closes_then_opens s₂) in
-      and-true _ _
+      and_from _ _
       (subst (λ z. keeps_structure kept z ≡ true) (sym (split-part (pieces-first new))) k.0)
       (subst (λ z. keeps_structure kept z ≡ true) (sym (split-part (pieces-last new))) k.1)
 
   in-order : (in_order (from ∷ (from + insert) ∷ ((from + insert) + gap) ∷ far ∷ []) (length result) && nat_le (gf - from) (slice_size c)) ≡ true
   in-order =
-      and-true _ _
-      (and-true (nat_le from (from + insert)) _ (le-leb from (from + insert) (omega arith))
-      (and-true (nat_le (from + insert) ((from + insert) + gap)) _ (le-leb (from + insert) ((from + insert) + gap) (omega arith))
-      (and-true (nat_le ((from + insert) + gap) far) _ (le-leb ((from + insert) + gap) far (omega (arith, r.inserted))) (le-leb far (length result) (omega (arith, pieces-length new))))))
+      and_from _ _
+      (and_from (nat_le from (from + insert)) _ (le-leb from (from + insert) (omega arith))
+      (and_from (nat_le (from + insert) ((from + insert) + gap)) _ (le-leb (from + insert) ((from + insert) + gap) (omega arith))
+      (and_from (nat_le ((from + insert) + gap) far) _ (le-leb ((from + insert) + gap) far (omega (arith, r.inserted))) (le-leb far (length result) (omega (arith, pieces-length new))))))
       (le-leb (gf - from) (slice_size c) (omega (arith, size-c, x-length)))
 
   paired : (parts_no_pair result (from ∷ (from + insert) ∷ ((from + insert) + gap) ∷ far ∷ []) && parts_no_pair (slice_tokens c) ((gf - from) ∷ [])) ≡ true
   paired =
-      and-true _ _
-      (and-true (not (parts_pair result from)) _ (no-pair-at result a (s₁ ++ (g ++ (s₂ ++ b))) from (split-front (pieces-first new)) (split-rest (pieces-first new)) (no-left a (s₁ ++ (g ++ (s₂ ++ b))) q₁.0))
-      (and-true (not (parts_pair result (from + insert))) _ (no-pair-at result (a ++ s₁) (g ++ (s₂ ++ b)) (from + insert) (split-front (pieces-gap new)) (split-rest (pieces-gap new)) (before-gap a s₁ g s₂ y b q₁.0 q₄.1 r.pair_insert q₂.1))
-      (and-true (not (parts_pair result ((from + insert) + gap))) _ (no-pair-at result ((a ++ s₁) ++ g) (s₂ ++ b) ((from + insert) + gap) (split-front (pieces-last new)) (split-rest (pieces-last new)) (after-gap a s₁ g s₂ x b q₁.0 q₄.1 r.pair_insert q₃.0))
-      (and-true (not (parts_pair result far)) true (no-pair-at result (((a ++ s₁) ++ g) ++ s₂) b far (split-fronts (pieces-last new)) (split-back (pieces-last new)) (no-right (((a ++ s₁) ++ g) ++ s₂) b q₄.1)) refl))))
-      (and-true (not (parts_pair (slice_tokens c) (gf - from))) true
+      and_from _ _
+      (and_from (not (parts_pair result from)) _ (no-pair-at result a (s₁ ++ (g ++ (s₂ ++ b))) from (split-front (pieces-first new)) (split-rest (pieces-first new)) (no-left a (s₁ ++ (g ++ (s₂ ++ b))) q₁.0))
+      (and_from (not (parts_pair result (from + insert))) _ (no-pair-at result (a ++ s₁) (g ++ (s₂ ++ b)) (from + insert) (split-front (pieces-gap new)) (split-rest (pieces-gap new)) (before-gap a s₁ g s₂ y b q₁.0 q₄.1 r.pair_insert q₂.1))
+      (and_from (not (parts_pair result ((from + insert) + gap))) _ (no-pair-at result ((a ++ s₁) ++ g) (s₂ ++ b) ((from + insert) + gap) (split-front (pieces-last new)) (split-rest (pieces-last new)) (after-gap a s₁ g s₂ x b q₁.0 q₄.1 r.pair_insert q₃.0))
+      (and_from (not (parts_pair result far)) true (no-pair-at result (((a ++ s₁) ++ g) ++ s₂) b far (split-fronts (pieces-last new)) (split-back (pieces-last new)) (no-right (((a ++ s₁) ++ g) ++ s₂) b q₄.1)) refl))))
+      (and_from (not (parts_pair (slice_tokens c) (gf - from))) true
       (no-pair-at (slice_tokens c) x y (gf - from) (ap (take (gf - from)) tokens-c ∙ take_at x y (gf - from) x-length) (ap (drop (gf - from)) tokens-c ∙ drop_at x y (gf - from) x-length) (no-left x y (ends-part a x q₂.0))) refl)
 
   -- the inverse applies to the result, and gives the document back

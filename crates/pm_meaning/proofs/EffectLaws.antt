@@ -12,13 +12,14 @@ use Rattle.pm_tokens.specs.Slices.{spliced, spliced_around}
 use Rattle.pm_tokens.specs.Tokens.{Token, Open, Close, Leaf, CodeUnit, marks_of, Attrs, Marks}
 use Rattle.pm_tokens.proofs.MarkLaws.{marks-equal}
 use Rattle.pm_tokens.proofs.PartLaws.{Split, split-front, split-part, split-back, split-rest}
-use Rattle.pm_tokens.proofs.ScanLaws.{and-both, and-true, unclosed-append}
+use Rattle.pm_tokens.proofs.ScanLaws.{unclosed-append}
 use Rattle.pm_meaning.specs.Marked.{add, remove, with_marks, takes_marks, mark_added, mark_removed, with_node_marks}
 use Rattle.pm_meaning.specs.Runs.{Run, range_steps, node_steps, close_run, continues, next_run, due, run_steps}
 use Rattle.pm_meaning.specs.Steps.{Step, Replace, ReplaceAround, AddMark, RemoveMark, AddNodeMark, RemoveNodeMark}
 use Rattle.pm_meaning.proofs.MarkSuits.{are_suited, marks_suit}
 use Rattle.pm_meaning.proofs.RunLaws.{add_all, remove_each, removed-all}
 use Rattle.pm_meaning.proofs.TokenMarks.{set_marks, set-own}
+use Rattle.std.proofs.lemmas.Bool.{and_parts, and_from}
 
 abbrev pub effect : Schema → ℕ → Step → List Token → List Token
 effect s k (Replace from to sl structure) ts = plain (spliced ts from to sl)
@@ -71,13 +72,13 @@ unclosed-dressed ps ms (CodeUnit u m ∷ ts) = unclosed-dressed ps ms ts
 
 module _ (s : Schema) where
   removed-one : (m : Mark Attrs) (p : ℕ) (cur : Marks) (t : Token) → takes_marks s t ≡ true → set_marks (mark_removed s m p (set_marks cur t) (marks_of (set_marks cur t))) (set_marks cur t) ≡ set_marks (remove m cur) t
-  removed-one m p cur (Open k a n) h = rw (and-both (s.is_inline k) (s.is_atom k) h).0 refl
+  removed-one m p cur (Open k a n) h = rw (and_parts (s.is_inline k) (s.is_atom k) h).0 refl
   removed-one m p cur Close h = refl
   removed-one m p cur (Leaf k a n) h = rw h refl
   removed-one m p cur (CodeUnit u n) h = refl
 
   added-one : (m : Mark Attrs) (p : ℕ) (cur : Marks) (t : Token) → takes_marks s t ≡ true → s.allows p m.kind ≡ true → set_marks (mark_added s m p (set_marks cur t) (marks_of (set_marks cur t))) (set_marks cur t) ≡ set_marks (add s m cur) t
-  added-one m p cur (Open k a n) h i = let b = and-both (s.is_inline k) (s.is_atom k) h in rw (b.0, b.1, i) refl
+  added-one m p cur (Open k a n) h i = let b = and_parts (s.is_inline k) (s.is_atom k) h in rw (b.0, b.1, i) refl
   added-one m p cur Close h i = refl
   added-one m p cur (Leaf k a n) h i = rw (h, i) refl
   added-one m p cur (CodeUnit u n) h i = rw i refl
@@ -85,7 +86,7 @@ module _ (s : Schema) where
   pub dress-removed : (m : Mark Attrs) (ps : List ℕ) (cur : Marks) (ts : List Token) → are_run s ts ≡ true → with_marks (mark_removed s m) ps (dressed cur ts) ≡ dressed (remove m cur) ts
   dress-removed m ps cur [] h = refl
   dress-removed m ps cur (t ∷ ts) h =
-      let b = and-both (takes_marks s t) (are_run s ts) h in
+      let b = and_parts (takes_marks s t) (are_run s ts) h in
       with-one (mark_removed s m) ps (set_marks cur t) (dressed cur ts)
       ∙ (ap (λ z. z ∷ with_marks (mark_removed s m) (after ps (set_marks cur t)) (dressed cur ts)) (removed-one m (head_of ps) cur t b.0)
       ∙ ap (λ z. set_marks (remove m cur) t ∷ z) (dress-removed m (after ps (set_marks cur t)) cur ts b.1))
@@ -93,8 +94,8 @@ module _ (s : Schema) where
   pub dress-added : (m : Mark Attrs) (ps : List ℕ) (cur : Marks) (ts : List Token) → are_run s ts ≡ true → allowed s ps m ts ≡ true → with_marks (mark_added s m) ps (dressed cur ts) ≡ dressed (add s m cur) ts
   dress-added m ps cur [] h i = refl
   dress-added m ps cur (t ∷ ts) h i =
-      let b = and-both (takes_marks s t) (are_run s ts) h in
-      let c = and-both (s.allows (head_of ps) m.kind) (allowed s (after ps t) m ts) i in
+      let b = and_parts (takes_marks s t) (are_run s ts) h in
+      let c = and_parts (s.allows (head_of ps) m.kind) (allowed s (after ps t) m ts) i in
       with-one (mark_added s m) ps (set_marks cur t) (dressed cur ts)
       ∙ (ap (λ z. z ∷ with_marks (mark_added s m) (after ps (set_marks cur t)) (dressed cur ts)) (added-one m (head_of ps) cur t b.0 c.0)
       ∙ ap (λ z. set_marks (add s m cur) t ∷ z) (dress-added m (after ps (set_marks cur t)) cur ts b.1 (ap (λ z. allowed s z m ts) (after-set ps cur t) ∙ c.1)))
@@ -124,7 +125,7 @@ module _ (s : Schema) where
       adds : (ms cur : Marks) → all_allowed s (unclosed (k ∷ []) p) ms r ≡ true → effects s k (map (λ m. AddMark from to m) ms) (p ++ (dressed cur r ++ q)) ≡ p ++ (dressed (add_all s cur ms) r ++ q)
       adds [] cur h = refl
       adds (m ∷ ms) cur h =
-          let b = and-both (allowed s (unclosed (k ∷ []) p) m r) (all_allowed s (unclosed (k ∷ []) p) ms r) h in
+          let b = and_parts (allowed s (unclosed (k ∷ []) p) m r) (all_allowed s (unclosed (k ∷ []) p) ms r) h in
           ap (effects s k (map (λ m. AddMark from to m) ms)) (add-at (here cur) m ∙ ap (λ z. p ++ (z ++ q)) (dress-added m (unclosed (k ∷ []) p) cur r run b.0))
           ∙ adds ms (add s m cur) b.1
 
@@ -210,30 +211,30 @@ module _ (s : Schema) where
     pub allowed-one : (ps : List ℕ) (t : Token) (ms : Marks) → are_suited s (head_of ps) ms ≡ true → all_allowed s ps ms (t ∷ []) ≡ true
     allowed-one ps t [] h = refl
     allowed-one ps t (m ∷ ms) h =
-        let b = and-both (s.allows (head_of ps) m.kind && s.mark_attrs m.kind m.attrs) (are_suited s (head_of ps) ms) h in
-        let c = and-both (s.allows (head_of ps) m.kind) (s.mark_attrs m.kind m.attrs) b.0 in
-        and-true (allowed s ps m (t ∷ [])) (all_allowed s ps ms (t ∷ [])) (and-true (s.allows (head_of ps) m.kind) true c.0 refl) (allowed-one ps t ms b.1)
+        let b = and_parts (s.allows (head_of ps) m.kind && s.mark_attrs m.kind m.attrs) (are_suited s (head_of ps) ms) h in
+        let c = and_parts (s.allows (head_of ps) m.kind) (s.mark_attrs m.kind m.attrs) b.0 in
+        and_from (allowed s ps m (t ∷ [])) (all_allowed s ps ms (t ∷ [])) (and_from (s.allows (head_of ps) m.kind) true c.0 refl) (allowed-one ps t ms b.1)
 
     allowed-push : (ps : List ℕ) (m : Mark Attrs) (r : List Token) (t : Token) → allowed s ps m r ≡ true → s.allows (head_of (unclosed ps r)) m.kind ≡ true → allowed s ps m (r ++ (t ∷ [])) ≡ true
-    allowed-push ps m [] t h i = and-true (s.allows (head_of ps) m.kind) true i refl
+    allowed-push ps m [] t h i = and_from (s.allows (head_of ps) m.kind) true i refl
     allowed-push ps m (x ∷ r) t h i =
-        let b = and-both (s.allows (head_of ps) m.kind) (allowed s (after ps x) m r) h in
-        and-true (s.allows (head_of ps) m.kind) (allowed s (after ps x) m (r ++ (t ∷ []))) b.0
+        let b = and_parts (s.allows (head_of ps) m.kind) (allowed s (after ps x) m r) h in
+        and_from (s.allows (head_of ps) m.kind) (allowed s (after ps x) m (r ++ (t ∷ []))) b.0
         (allowed-push (after ps x) m r t b.1 (subst (λ z. s.allows (head_of z) m.kind ≡ true) (unclosed-append ps (x ∷ []) r) i))
 
     pub all-allowed-push : (ps : List ℕ) (ms : Marks) (r : List Token) (t : Token) → all_allowed s ps ms r ≡ true → are_suited s (head_of (unclosed ps r)) ms ≡ true → all_allowed s ps ms (r ++ (t ∷ [])) ≡ true
     all-allowed-push ps [] r t h i = refl
     all-allowed-push ps (m ∷ ms) r t h i =
-        let a = and-both (allowed s ps m r) (all_allowed s ps ms r) h in
-        let b = and-both (s.allows (head_of (unclosed ps r)) m.kind && s.mark_attrs m.kind m.attrs) (are_suited s (head_of (unclosed ps r)) ms) i in
-        let c = and-both (s.allows (head_of (unclosed ps r)) m.kind) (s.mark_attrs m.kind m.attrs) b.0 in
-        and-true (allowed s ps m (r ++ (t ∷ []))) (all_allowed s ps ms (r ++ (t ∷ []))) (allowed-push ps m r t a.0 c.0) (all-allowed-push ps ms r t a.1 b.1)
+        let a = and_parts (allowed s ps m r) (all_allowed s ps ms r) h in
+        let b = and_parts (s.allows (head_of (unclosed ps r)) m.kind && s.mark_attrs m.kind m.attrs) (are_suited s (head_of (unclosed ps r)) ms) i in
+        let c = and_parts (s.allows (head_of (unclosed ps r)) m.kind) (s.mark_attrs m.kind m.attrs) b.0 in
+        and_from (allowed s ps m (r ++ (t ∷ []))) (all_allowed s ps ms (r ++ (t ∷ []))) (allowed-push ps m r t a.0 c.0) (all-allowed-push ps ms r t a.1 b.1)
 
     pub run-push : (r : List Token) (t : Token) → are_run s r ≡ true → takes_marks s t ≡ true → are_run s (r ++ (t ∷ [])) ≡ true
-    run-push [] t h i = and-true (takes_marks s t) true i refl
+    run-push [] t h i = and_from (takes_marks s t) true i refl
     run-push (x ∷ r) t h i =
-        let b = and-both (takes_marks s x) (are_run s r) h in
-        and-true (takes_marks s x) (are_run s (r ++ (t ∷ []))) b.0 (run-push r t b.1 i)
+        let b = and_parts (takes_marks s x) (are_run s r) h in
+        and_from (takes_marks s x) (are_run s (r ++ (t ∷ []))) b.0 (run-push r t b.1 i)
 
     pub dressed-push : (ms : Marks) (r : List Token) (t : Token) (q : List Token) → dressed ms (r ++ (t ∷ [])) ++ q ≡ dressed ms r ++ (set_marks ms t ∷ q)
     dressed-push ms [] t q = refl
@@ -270,7 +271,7 @@ module _ (s : Schema) where
       at-is = old-length run p r at h
 
       fits : (is_set s old ≡ true) × (are_suited s (head_of ps) old ≡ true)
-      fits = and-both (is_set s old) (are_suited s (head_of ps) old) al.1
+      fits = and_parts (is_set s old) (are_suited s (head_of ps) old) al.1
 
       ended : effects s k (close_run run at) (p ++ (dress_new run r ++ (n ∷ ns))) ≡ so_far ++ (n ∷ ns)
       ended = closed run p r (n ∷ ns) at h ∙ sym (append_assoc p (dress_old run r) (n ∷ ns))
@@ -299,7 +300,7 @@ module _ (s : Schema) where
           let ru : Run = record { start = at; old = old; new = new } in
           let u : unclosed (k ∷ []) so_far ≡ ps = old-unclosed run p r at h in
           let e = ih so_far (t ∷ []) (Some ru) (at + 1)
-          (at-is, refl, and-true (takes_marks s t) true y refl, subst (λ v. all_allowed s v old (t ∷ []) ≡ true) (sym u) (allowed-one ps t old fits.1), fits.0)
+          (at-is, refl, and_from (takes_marks s t) true y refl, subst (λ v. all_allowed s v old (t ∷ []) ≡ true) (sym u) (allowed-one ps t old fits.1), fits.0)
           (subst (λ v. Alike (after v t) ts ns) (sym u) al.2) in
           effects-append (close_run run at) (run_steps s (at + 1) (Some ru) ts ns) (p ++ (dress_new run r ++ (n ∷ ns)))
           ∙ (ap (effects s k (run_steps s (at + 1) (Some ru) ts ns)) (ended ∙ ap (λ m. so_far ++ (m ∷ ns)) al.0)
@@ -309,7 +310,7 @@ module _ (s : Schema) where
           on : (ru : Option Run) → run ≡ ru → Holds ru p r at → continues ru old new ≡ true → effects s k (run_steps s (at + 1) run ts ns) (p ++ (dress_new run r ++ (n ∷ ns))) ≡ p ++ (dress_old run r ++ (t ∷ ts))
           on None e hh c = absurd (cc)
           on (Some ru) e hh c =
-              let b = and-both (same_marks same_attrs ru.old old) (same_marks same_attrs ru.new new) c in
+              let b = and_parts (same_marks same_attrs ru.old old) (same_marks same_attrs ru.new new) c in
               let eo = marks-equal ru.old old b.0 in
               let en = marks-equal ru.new new b.1 in
               let i = ih p (r ++ (t ∷ [])) (Some ru) (at + 1)

@@ -10,13 +10,13 @@ use Rattle.pm_tokens.specs.Schemas.{Schema}
 use Rattle.pm_tokens.specs.Scan.{ends_high}
 use Rattle.pm_tokens.specs.Kids.{goes_on}
 use Rattle.pm_tokens.specs.Faults.{low_next}
-use Rattle.pm_tokens.proofs.ScanLaws.{and-both}
 use Rattle.pm_tokens.proofs.PairLaws.{high-last}
 use Rattle.pm_tokens.proofs.MarkLaws.{marks-equal}
 use Rattle.pm_meaning.specs.Marked.{takes_marks}
 use Rattle.pm_meaning.specs.Runs.{Run}
 use Rattle.pm_meaning.proofs.TokenMarks.{set_marks}
 use Rattle.pm_meaning.proofs.LooseLaws.{Paired, paired-token}
+use Rattle.std.proofs.lemmas.Bool.{and_parts}
 
 -- the last of the tokens is no half of a pair that goes on
 pub record Clear (q ts ns : List Token) : Type 0 where
@@ -89,7 +89,7 @@ half-of s (Leaf k a m) n ts ns old new e x y = absurd (cc)
 half-of s (CodeUnit u m) n ts ns old new e x y =
     let z : low_next new (CodeUnit u (marks_of n) ∷ ns) ≡ true = subst (λ z. low_next new (z ∷ ns) ≡ true) e y in
     record {
-      old_is = sym (marks-equal old m (and-both (is_low_surrogate u) (same_marks same_attrs old m) x).1);
-      new_is = sym (marks-equal new (marks_of n) (and-both (is_low_surrogate u) (same_marks same_attrs new (marks_of n)) z).1);
+      old_is = sym (marks-equal old m (and_parts (is_low_surrogate u) (same_marks same_attrs old m) x).1);
+      new_is = sym (marks-equal new (marks_of n) (and_parts (is_low_surrogate u) (same_marks same_attrs new (marks_of n)) z).1);
       takes = refl;
     }

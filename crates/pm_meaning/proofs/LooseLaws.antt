@@ -1,6 +1,6 @@
 -- Changed marks change the types of children only in how texts are divided.
 use Rattle.std.specs.Prelude.{◌≡◌, ℕ, max, Bool, true, false, ◌&&◌, not, nat_le, cond, ◌==◌, List, [], ◌∷◌, length, Option, Some, None, Ok}
-use Rattle.std.proofs.lemmas.Bool.{eq-eqb}
+use Rattle.std.proofs.lemmas.Bool.{eq-eqb, and_parts, and_from}
 use Rattle.std.proofs.Common.{zero, suc, refl, ap, sym, ◌∙◌, subst}
 use Rattle.pm_tokens.specs.Tokens.{Marks, Token, Open, Close, Leaf, CodeUnit, Doc, with_tokens, marks_of}
 use Rattle.pm_tokens.specs.Schemas.{Schema, max_size, max_depth}
@@ -8,7 +8,6 @@ use Rattle.pm_tokens.specs.Scan.{head_of, deepest}
 use Rattle.pm_tokens.specs.Kids.{goes_on, kids}
 use Rattle.pm_tokens.specs.Faults.{attrs_fit, content_fits, high_of, pair_fits, under, token_fits, place_from, no_marks, top_fits, fault_place, Valid}
 use Rattle.pm_tokens.specs.Loose.{shortened, IsLoose}
-use Rattle.pm_tokens.proofs.ScanLaws.{and-both, and-true}
 use Rattle.pm_tokens.proofs.PairLaws.{first-none, none-first}
 use Rattle.pm_tokens.proofs.ValidLaws.{token-fits, fits-token, valid-top, valid-tokens, valid-size, valid-depth}
 use Rattle.pm_meaning.specs.Outcomes.{checked}
@@ -114,8 +113,8 @@ token-paired high (CodeUnit u m) ts h p = (h, p)
 module _ (s : Schema) (l : IsLoose s) where
   content-again : (ms : Marks) (t : Token) (ts ns : List Token) → Shaped ts ns → content_fits s t ts ≡ true → content_fits s (set_marks ms t) ns ≡ true
   content-again ms (Open k a m) ts ns x h =
-      let b = and-both (not (k == s.text) && not (s.is_leaf k)) (s.accepts k (kids s.text 0 None ts)) h in
-      and-true (not (k == s.text) && not (s.is_leaf k)) (s.accepts k (kids s.text 0 None ns)) b.0 (sym (loose-accepts s l k ts ns x) ∙ b.1)
+      let b = and_parts (not (k == s.text) && not (s.is_leaf k)) (s.accepts k (kids s.text 0 None ts)) h in
+      and_from (not (k == s.text) && not (s.is_leaf k)) (s.accepts k (kids s.text 0 None ns)) b.0 (sym (loose-accepts s l k ts ns x) ∙ b.1)
   content-again ms Close ts ns x h = refl
   content-again ms (Leaf k a m) ts ns x h = h
   content-again ms (CodeUnit u m) ts ns x h = refl
@@ -147,10 +146,10 @@ module _ (s : Schema) (l : IsLoose s) where
   pub remarked-checks : (d : Doc) (ns : List Token) → Valid s d → Shaped d.tokens ns → Fits s (d.kind ∷ []) ns → Paired None ns → checked s (with_tokens d ns) ≡ Ok (with_tokens d ns)
   remarked-checks d ns v x w p =
       let n : Doc = with_tokens d ns in
-      let top = and-both (s.node_attrs d.kind d.attrs && no_marks d.marks) (s.accepts d.kind (kids s.text 0 None d.tokens)) (valid-top s d v) in
+      let top = and_parts (s.node_attrs d.kind d.attrs && no_marks d.marks) (s.accepts d.kind (kids s.text 0 None d.tokens)) (valid-top s d v) in
       let f : fault_place s n ≡ None =
       none-first (top_fits s n) (place_from s (d.kind ∷ []) None ns)
-      (and-true (s.node_attrs d.kind d.attrs && no_marks d.marks) (s.accepts d.kind (kids s.text 0 None ns)) top.0 (sym (loose-accepts s l d.kind d.tokens ns x) ∙ top.1))
+      (and_from (s.node_attrs d.kind d.attrs && no_marks d.marks) (s.accepts d.kind (kids s.text 0 None ns)) top.0 (sym (loose-accepts s l d.kind d.tokens ns x) ∙ top.1))
       (remarked (d.kind ∷ []) None None d.tokens ns x (valid-tokens s d v) w p) in
       let size : nat_le (length ns) max_size ≡ true = ap (λ z. nat_le z max_size) (shaped-length d.tokens ns x) ∙ valid-size s d v in
       let depth : nat_le (deepest 0 ns) max_depth ≡ true = ap (λ z. nat_le z max_depth) (shaped-deepest 0 d.tokens ns x) ∙ valid-depth s d v in

@@ -12,7 +12,7 @@ use Rattle.pm_tokens.specs.Scan.{head_of, unclosed, ends_high}
 use Rattle.pm_tokens.specs.Marks.{is_set}
 use Rattle.pm_tokens.specs.Faults.{low_next, Valid}
 use Rattle.pm_tokens.specs.Loose.{IsLoose}
-use Rattle.pm_tokens.proofs.ScanLaws.{and-both, and-true, unclosed-append}
+use Rattle.pm_tokens.proofs.ScanLaws.{unclosed-append}
 use Rattle.pm_tokens.proofs.PairLaws.{true-false, high-last}
 use Rattle.pm_tokens.proofs.MarkLaws.{marks-equal, marks-itself}
 use Rattle.pm_meaning.specs.Steps.{Step}
@@ -27,6 +27,7 @@ use Rattle.pm_meaning.proofs.LooseLaws.{Shaped, Paired, paired-token}
 use Rattle.pm_meaning.proofs.MixedLaws.{FitAt, ends-dressed, run-applies}
 use Rattle.pm_meaning.proofs.MixedNodes.{node-applies}
 use Rattle.pm_meaning.proofs.HalvedPairs.{Clear, Agrees, Halved, Link, is_unit, next-link, half-of}
+use Rattle.std.proofs.lemmas.Bool.{and_parts, and_from}
 
 fit-one : (s : Schema) (ps : List ℕ) (ms : Marks) (t : Token) → marks_suit s (head_of ps) ms ≡ true → FitAt s ps ms (t ∷ [])
 fit-one s ps ms t h = (h, tt)
@@ -144,7 +145,7 @@ module _ (s : Schema) (l : IsLoose s) (d : Doc) (v : Valid s d) where
     so-tokens = ds ∙ sym (append_assoc p (was run r) (t ∷ ts))
 
     fits : (is_set s old ≡ true) × (are_suited s (head_of ps) old ≡ true)
-    fits = and-both (is_set s old) (are_suited s (head_of ps) old) al.1
+    fits = and_parts (is_set s old) (are_suited s (head_of ps) old) al.1
 
     fits-next : Fits s (after ps t) ns
     fits-next = subst (λ z. Fits s z ns) (after-same ps t n al.0) fi.1
@@ -171,7 +172,7 @@ module _ (s : Schema) (l : IsLoose s) (d : Doc) (v : Valid s d) where
             let en : ru.new ≡ new = a.1 ∙ sym y in
             inr (
               ap not (ap (λ z. same_marks same_attrs z new) (sym eo) ∙ (ap (λ z. same_marks same_attrs ru.old z) (sym en) ∙ w.differ)),
-              ap (λ z. continues z old new) e ∙ and-true (same_marks same_attrs ru.old old) (same_marks same_attrs ru.new new)
+              ap (λ z. continues z old new) e ∙ and_from (same_marks same_attrs ru.old old) (same_marks same_attrs ru.new new)
                   (ap (λ z. same_marks same_attrs ru.old z) (sym eo) ∙ marks-itself ru.old) (ap (λ z. same_marks same_attrs ru.new z) (sym en) ∙ marks-itself ru.new),
             )
 
@@ -243,7 +244,7 @@ module _ (s : Schema) (l : IsLoose s) (d : Doc) (v : Valid s d) where
           starts = stands-length run p r at st;
           stops = refl;
           some = omega arith;
-          runs = and-true (takes_marks s t) true b refl;
+          runs = and_from (takes_marks s t) true b refl;
           allowed = subst (λ z. all_allowed s z old (t ∷ []) ≡ true) (sym so-under) (allowed-one s k ps t old fits.1);
           old_set = fits.0;
           old_fits = (subst (λ z. marks_suit s (head_of z) old ≡ true) (sym so-under) al.1, tt);
@@ -265,7 +266,7 @@ module _ (s : Schema) (l : IsLoose s) (d : Doc) (v : Valid s d) where
         by : (ru : Option Run) → run ≡ ru → Stands ru p r at → continues ru old new ≡ true → d.tokens ≡ p ++ (was ru r ++ (t ∷ ts)) → go (run_steps s (at + 1) run ts ns) (with_tokens d (p ++ (is run r ++ (n ∷ ns)))) ≡ Some d
         by None e w c x = absurd (cc)
         by (Some ru) e w c x =
-            let parts = and-both (same_marks same_attrs ru.old old) (same_marks same_attrs ru.new new) c in
+            let parts = and_parts (same_marks same_attrs ru.old old) (same_marks same_attrs ru.new new) c in
             let eo = marks-equal ru.old old parts.0 in
             let en = marks-equal ru.new new parts.1 in
             let to : unclosed (under p) (r ++ (t ∷ [])) ≡ after ps t = unclosed-append (under p) r (t ∷ []) in

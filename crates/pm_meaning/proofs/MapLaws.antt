@@ -1,6 +1,6 @@
 -- The maps of steps and of their inverses, and carrying.
 use Rattle.std.specs.Prelude.{◌≡◌, ℕ, ◌+◌, ◌-◌, ◌≤◌, max, Bool, true, false, ◌&&◌, ◌||◌, if◌then◌else◌, nat_lt, nat_le, ◌==◌, ◌⊎◌, List, [], ◌∷◌, ◌++◌, map, length, take, drop, Some, None, Ok}
-use Rattle.std.proofs.lemmas.Bool.{leb-true, le-ltb, eqb-true}
+use Rattle.std.proofs.lemmas.Bool.{leb-true, le-ltb, eqb-true, and_parts}
 use Rattle.std.proofs.lemmas.List.{take-append-drop}
 use Rattle.std.proofs.Common.{refl, ap, sym, ◌∙◌, subst, inl, inr, arith}
 use Rattle.pm_map.specs.declared.step_map.Moved.{Moved}
@@ -15,7 +15,6 @@ use Rattle.pm_tokens.specs.Scan.{unclosed, part}
 use Rattle.pm_tokens.specs.Schemas.{Schema}
 use Rattle.pm_tokens.specs.Slices.{Slice, slice_size, cut, cut_around}
 use Rattle.pm_tokens.specs.Tokens.{Token, Doc, with_tokens, Marks}
-use Rattle.pm_tokens.proofs.ScanLaws.{and-both}
 use Rattle.pm_meaning.specs.Inverses.{replace_back, around_back}
 use Rattle.pm_meaning.specs.Maps.{span, step_map, ahead, back, carry, carry_replace, carry_around, carry_range, is_within}
 use Rattle.pm_meaning.specs.Marked.{with_marks, marked, mark_added, mark_removed}
@@ -79,7 +78,7 @@ marked-nothing : (s : Schema) (f : ℕ → Token → Marks → Marks) (from to :
 marked-nothing s f from to d next h k =
     let u₁ = unless-ok (in_order (from ∷ to ∷ []) (length d.tokens)) Range _ next k in
     let u₂ = unless-ok (parts_no_pair d.tokens (from ∷ to ∷ [])) Pair (checked s (marked f from to d)) next u₁.1 in
-    let o = and-both (nat_le from to) (nat_le to (length d.tokens)) u₁.0 in
+    let o = and_parts (nat_le from to) (nat_le to (length d.tokens)) u₁.0 in
     let e : from ≡ to = omega (arith, h, leb-true from to o.0) in
     let none : part from to d.tokens ≡ [] = ap (λ n. take n (drop from d.tokens)) (let z : to - from ≡ 0 = omega (arith, e) in z) in
     (checked-ok s (marked f from to d) next u₂.1).0

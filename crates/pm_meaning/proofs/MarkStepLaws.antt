@@ -1,6 +1,6 @@
 -- The inverse of a mark step gives the document back, where its steps apply.
 use Rattle.std.specs.Prelude.{◌≡◌, ℕ, ◌≤◌, Bool, true, false, ◌&&◌, cond, ◌==◌, nat_le, List, [], ◌∷◌, ◌++◌, length, take, drop, Option, Some, None, Result, Ok, Err}
-use Rattle.std.proofs.lemmas.Bool.{eqb-true, leb-true}
+use Rattle.std.proofs.lemmas.Bool.{eqb-true, leb-true, and_parts}
 use Rattle.std.proofs.lemmas.List.{take-append-drop}
 use Rattle.std.proofs.Common.{refl, ap, sym, ◌∙◌, subst, arith, length-take}
 use Rattle.pm_change.specs.Changes.{fold}
@@ -16,7 +16,7 @@ use Rattle.pm_tokens.proofs.MarkLaws.{attrs-equal, marks-equal}
 use Rattle.pm_tokens.proofs.PairLaws.{first-none}
 use Rattle.pm_tokens.proofs.PartLaws.{split-at}
 use Rattle.pm_tokens.proofs.ValidLaws.{valid-tokens, token-fits}
-use Rattle.pm_tokens.proofs.ScanLaws.{and-both, unclosed-append}
+use Rattle.pm_tokens.proofs.ScanLaws.{unclosed-append}
 use Rattle.pm_meaning.specs.Inverses.{same_token, same_tokens, gives, node_marks, one_or, one_or_runs}
 use Rattle.pm_meaning.specs.Marked.{add, remove, with_marks, with_node_marks, mark_added, mark_removed, marked, node_marked, starts_node}
 use Rattle.pm_meaning.specs.Meanings.{meaning}
@@ -108,7 +108,7 @@ range-effect s f from to d next h =
 
 pub range-order : (s : Schema) (f : ℕ → Token → Marks → Marks) (from to : ℕ) (d next : Doc) → range_outcome s f from to d ≡ Ok next → (from ≤ to) × (to ≤ length d.tokens)
 range-order s f from to d next h =
-    let o = and-both (nat_le from to) (nat_le to (length d.tokens)) (unless-ok (in_order (from ∷ to ∷ []) (length d.tokens)) Range _ next h).0 in
+    let o = and_parts (nat_le from to) (nat_le to (length d.tokens)) (unless-ok (in_order (from ∷ to ∷ []) (length d.tokens)) Range _ next h).0 in
     (leb-true from to o.0, leb-true to (length d.tokens) o.1)
 
 pub node-effect : (s : Schema) (f : Marks → Marks) (p : ℕ) (d next : Doc) → node_outcome s f p d ≡ Ok next → next ≡ node_marked f p d
@@ -152,10 +152,10 @@ fold-effects s (c ∷ cs) d back h =
     let e = outcome-effect s c d f.0 f.1 in
     fold-effects s cs f.0 back f.2 ∙ ap (λ z. with_tokens z (effects s z.kind cs z.tokens)) e
 
-same-token : (a b : Token) → same_token a b ≡ true → a ≡ b
+pub same-token : (a b : Token) → same_token a b ≡ true → a ≡ b
 same-token (Open k a m) (Open l b n) h =
-    let x = and-both ((k == l) && same_attrs a b) (same_marks same_attrs m n) h in
-    let y = and-both (k == l) (same_attrs a b) x.0 in
+    let x = and_parts ((k == l) && same_attrs a b) (same_marks same_attrs m n) h in
+    let y = and_parts (k == l) (same_attrs a b) x.0 in
     rw (eqb-true k l y.0, attrs-equal a b y.1, marks-equal m n x.1) refl
 same-token (Open k a m) Close h = absurd (cc)
 same-token (Open k a m) (Leaf l b n) h = absurd (cc)
@@ -165,22 +165,22 @@ same-token Close Close h = refl
 same-token Close (Leaf l b n) h = absurd (cc)
 same-token Close (CodeUnit u n) h = absurd (cc)
 same-token (Leaf k a m) (Leaf l b n) h =
-    let x = and-both ((k == l) && same_attrs a b) (same_marks same_attrs m n) h in
-    let y = and-both (k == l) (same_attrs a b) x.0 in
+    let x = and_parts ((k == l) && same_attrs a b) (same_marks same_attrs m n) h in
+    let y = and_parts (k == l) (same_attrs a b) x.0 in
     rw (eqb-true k l y.0, attrs-equal a b y.1, marks-equal m n x.1) refl
 same-token (Leaf k a m) (Open l b n) h = absurd (cc)
 same-token (Leaf k a m) Close h = absurd (cc)
 same-token (Leaf k a m) (CodeUnit u n) h = absurd (cc)
-same-token (CodeUnit u m) (CodeUnit v n) h = let x = and-both (u == v) (same_marks same_attrs m n) h in rw (eqb-true u v x.0, marks-equal m n x.1) refl
+same-token (CodeUnit u m) (CodeUnit v n) h = let x = and_parts (u == v) (same_marks same_attrs m n) h in rw (eqb-true u v x.0, marks-equal m n x.1) refl
 same-token (CodeUnit u m) (Open l b n) h = absurd (cc)
 same-token (CodeUnit u m) Close h = absurd (cc)
 same-token (CodeUnit u m) (Leaf l b n) h = absurd (cc)
 
-same-tokens : (xs ys : List Token) → same_tokens xs ys ≡ true → xs ≡ ys
+pub same-tokens : (xs ys : List Token) → same_tokens xs ys ≡ true → xs ≡ ys
 same-tokens [] [] h = refl
 same-tokens [] (y ∷ ys) h = absurd (cc)
 same-tokens (x ∷ xs) [] h = absurd (cc)
-same-tokens (x ∷ xs) (y ∷ ys) h = let b = and-both (same_token x y) (same_tokens xs ys) h in rw (same-token x y b.0, same-tokens xs ys b.1) refl
+same-tokens (x ∷ xs) (y ∷ ys) h = let b = and_parts (same_token x y) (same_tokens xs ys) h in rw (same-token x y b.0, same-tokens xs ys b.1) refl
 
 given : (r : Result Doc Reason) (ts : List Token) (d : Doc) → r ≡ Ok d → gives r ts ≡ true → d.tokens ≡ ts
 given (Ok e) ts d h g = let x : d ≡ e = cc in ap (λ z. z.tokens) x ∙ same-tokens e.tokens ts g
@@ -219,9 +219,9 @@ node-stands s f p d next h =
 node-back : (s : Schema) (k : ℕ) (f : Marks → Marks) (a r : List Token) (p parent : ℕ) → length a ≡ p → starts_node r ≡ true → marks_suit s parent (node_marks r) ≡ true
     → effects s k (node_steps p (node_marks r) (f (node_marks r))) (a ++ with_node_marks f r) ≡ a ++ r
 node-back s k f a [] p parent e h w = absurd (cc)
-node-back s k f a (Open j x m ∷ q) p parent e h w = noded s k a (Open j x m) q p e refl m (f m) (and-both (is_set s m) (are_suited s parent m) w).0
+node-back s k f a (Open j x m ∷ q) p parent e h w = noded s k a (Open j x m) q p e refl m (f m) (and_parts (is_set s m) (are_suited s parent m) w).0
 node-back s k f a (Close ∷ q) p parent e h w = absurd (cc)
-node-back s k f a (Leaf j x m ∷ q) p parent e h w = noded s k a (Leaf j x m) q p e refl m (f m) (and-both (is_set s m) (are_suited s parent m) w).0
+node-back s k f a (Leaf j x m ∷ q) p parent e h w = noded s k a (Leaf j x m) q p e refl m (f m) (and_parts (is_set s m) (are_suited s parent m) w).0
 node-back s k f a (CodeUnit u m ∷ q) p parent e h w = absurd (cc)
 
 node-fits : (s : Schema) (ps : List ℕ) (r : List Token) → Fits s ps r → marks_suit s (head_of ps) (node_marks r) ≡ true

@@ -1,6 +1,6 @@
 -- The steps of one run apply, in a loose schema: p and r are tokens of a valid document, and news are the new tokens behind them.
 use Rattle.std.specs.Prelude.{◌≡◌, ℕ, ◌+◌, Bool, true, false, not, nat_le, cond, List, [], ◌∷◌, ◌++◌, map, length, Option, Some, None, Ok}
-use Rattle.std.proofs.lemmas.Bool.{le-leb}
+use Rattle.std.proofs.lemmas.Bool.{le-leb, and_parts, and_from}
 use Rattle.std.proofs.lemmas.List.{length-map}
 use Rattle.std.proofs.Common.{refl, ap, sym, ◌∙◌, subst, arith, append_assoc}
 use Rattle.pm_change.specs.Changes.{fold, then_some}
@@ -19,7 +19,7 @@ use Rattle.pm_tokens.proofs.MarkLaws.{marks-itself}
 use Rattle.pm_tokens.proofs.ValidLaws.{valid-tokens}
 use Rattle.pm_tokens.proofs.PairLaws.{no-left, high-last}
 use Rattle.pm_tokens.proofs.PartLaws.{Split, split-front, split-fronts, split-back, split-rest, split-length}
-use Rattle.pm_tokens.proofs.ScanLaws.{and-both, and-true, unclosed-append}
+use Rattle.pm_tokens.proofs.ScanLaws.{unclosed-append}
 use Rattle.pm_meaning.specs.Marked.{add, remove}
 use Rattle.pm_meaning.specs.Meanings.{meaning}
 use Rattle.pm_meaning.specs.Outcomes.{checked, in_order, parts_no_pair, outcome}
@@ -74,7 +74,7 @@ low-dressed : (o m : Marks) (t : Token) (xs ys : List Token) → low_next o (set
 low-dressed o m (Open k a n) xs ys h = absurd (cc)
 low-dressed o m Close xs ys h = absurd (cc)
 low-dressed o m (Leaf k a n) xs ys h = absurd (cc)
-low-dressed o m (CodeUnit u n) xs ys h = and-true (is_low_surrogate u) (same_marks same_attrs m m) (and-both (is_low_surrogate u) (same_marks same_attrs o o) h).0 (marks-itself m)
+low-dressed o m (CodeUnit u n) xs ys h = and_from (is_low_surrogate u) (same_marks same_attrs m m) (and_parts (is_low_surrogate u) (same_marks same_attrs o o) h).0 (marks-itself m)
 
 goes-dressed : (b : Bool) (o m : Marks) → goes_on (cond b (Some o) None) o ≡ true → goes_on (cond b (Some m) None) m ≡ true
 goes-dressed true o m h = marks-itself m
@@ -176,13 +176,13 @@ module _ (s : Schema) (l : IsLoose s) (d : Doc) (v : Valid s d) (p : List Token)
   here cur = record { is = refl; at_from = lp; at_to = omega (arith, lr, length-map (t ∷ r) (set_marks cur)) }
 
   ordered : (cur : Marks) → in_order (from ∷ to ∷ []) (length (mix cur).tokens) ≡ true
-  ordered cur = and-true (nat_le from to) _ (le-leb from to (omega (arith, lr))) (le-leb to (length (mix cur).tokens) (omega (arith, split-length (here cur))))
+  ordered cur = and_from (nat_le from to) _ (le-leb from to (omega (arith, lr))) (le-leb to (length (mix cur).tokens) (omega (arith, split-length (here cur))))
 
   unparted : (cur : Marks) → parts_no_pair (mix cur).tokens (from ∷ to ∷ []) ≡ true
   unparted cur =
       let x = (mix cur).tokens in
-      and-true (not (parts_pair x from)) _ (no-pair-at x p (dressed cur (t ∷ r) ++ news) from (split-front (here cur)) (split-rest (here cur)) (no-left p (dressed cur (t ∷ r) ++ news) hp))
-      (and-true (not (parts_pair x to)) true (no-pair-at x (p ++ dressed cur (t ∷ r)) news to (split-fronts (here cur)) (split-back (here cur))
+      and_from (not (parts_pair x from)) _ (no-pair-at x p (dressed cur (t ∷ r) ++ news) from (split-front (here cur)) (split-rest (here cur)) (no-left p (dressed cur (t ∷ r) ++ news) hp))
+      (and_from (not (parts_pair x to)) true (no-pair-at x (p ++ dressed cur (t ∷ r)) news to (split-fronts (here cur)) (split-back (here cur))
       (no-left (p ++ dressed cur (t ∷ r)) news (ends-both p (set_marks cur t) (dressed cur r) (ends-dressed cur (t ∷ r) ∙ hr)))) refl)
 
   abbrev go : List Step → Doc → Option Doc
@@ -217,7 +217,7 @@ module _ (s : Schema) (l : IsLoose s) (d : Doc) (v : Valid s d) (p : List Token)
         nil [] = refl
         nil (x ∷ xs) = ap (λ z. x ∷ z) (nil xs)
     adds-apply (m ∷ ms) cur rest w f a =
-        let b = and-both (allowed s (unclosed ps p) m (t ∷ r)) (all_allowed s (unclosed ps p) ms (t ∷ r)) a in
+        let b = and_parts (allowed s (unclosed ps p) m (t ∷ r)) (all_allowed s (unclosed ps p) ms (t ∷ r)) a in
         let e : add s m cur ≡ cur ++ (m ∷ []) = add-last s m cur ms w in
         let k : cur ++ (m ∷ ms) ≡ (cur ++ (m ∷ [])) ++ ms = sym (append_assoc cur (m ∷ []) ms) in
         let g : FitAt s (unclosed ps p) ((cur ++ (m ∷ [])) ++ ms) (t ∷ r) = subst (λ z. FitAt s (unclosed ps p) z (t ∷ r)) k f in

@@ -1,6 +1,6 @@
 -- The steps for one node apply, in a loose schema: p and t are tokens of a valid document, and news are the new tokens behind them.
 use Rattle.std.specs.Prelude.{◌≡◌, ℕ, ◌+◌, Bool, true, false, not, List, [], ◌∷◌, ◌++◌, map, length, drop, Option, None, Result, Ok}
-use Rattle.std.proofs.lemmas.Bool.{le-leb}
+use Rattle.std.proofs.lemmas.Bool.{le-leb, and_from}
 use Rattle.std.proofs.Common.{refl, ap, sym, ◌∙◌, subst, arith, append_assoc}
 use Rattle.pm_change.specs.Changes.{fold, then_some}
 use Rattle.pm_tokens.specs.Tokens.{Marks, Token, Open, Close, Leaf, CodeUnit, Doc, with_tokens}
@@ -9,7 +9,6 @@ use Rattle.pm_tokens.specs.Scan.{head_of, unclosed, ends_high, parts_pair}
 use Rattle.pm_tokens.specs.Marks.{is_set}
 use Rattle.pm_tokens.specs.Faults.{Valid}
 use Rattle.pm_tokens.specs.Loose.{IsLoose}
-use Rattle.pm_tokens.proofs.ScanLaws.{and-true}
 use Rattle.pm_tokens.proofs.PairLaws.{no-left}
 use Rattle.pm_tokens.proofs.PartLaws.{Split, split-front, split-rest, split-length}
 use Rattle.pm_meaning.specs.declared.reason.Reason.{Reason}
@@ -66,7 +65,7 @@ module _ (s : Schema) (l : IsLoose s) (d : Doc) (v : Valid s d) (p : List Token)
       let stands : starts_node (drop pos x) ≡ true = ap starts_node (split-rest sp) ∙ starts-set s d.kind t cur news n in
       ok-unless (in_order (pos ∷ []) (length x)) Range _ (mix (f cur)) (le-leb pos (length x) (omega (arith, split-length sp)))
       (ok-unless (parts_no_pair x (pos ∷ [])) Pair _ (mix (f cur))
-      (and-true (not (parts_pair x pos)) true (no-pair-at x p (set_marks cur t ∷ news) pos (split-front sp) (split-rest sp) (no-left p (set_marks cur t ∷ news) hp)) refl)
+      (and_from (not (parts_pair x pos)) true (no-pair-at x p (set_marks cur t ∷ news) pos (split-front sp) (split-rest sp) (no-left p (set_marks cur t ∷ news) hp)) refl)
       (and-passes (starts_node (drop pos x)) NoNode (checked s (node_marked f pos (mix cur))) (mix (f cur)) stands passed))
 
   abbrev go : List Step → Doc → Option Doc

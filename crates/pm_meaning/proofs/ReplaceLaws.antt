@@ -1,6 +1,6 @@
 -- The laws of a replace.
 use Rattle.std.specs.Prelude.{◌≡◌, ℕ, ◌+◌, ◌-◌, ◌≤◌, Bool, true, false, ◌&&◌, not, nat_le, ◌==◌, List, [], ◌∷◌, ◌++◌, length, take, drop, Ok}
-use Rattle.std.proofs.lemmas.Bool.{leb-true, le-leb, eqb-true, eq-eqb}
+use Rattle.std.proofs.lemmas.Bool.{leb-true, le-leb, eqb-true, eq-eqb, and_parts, and_from}
 use Rattle.std.proofs.lemmas.List.{append-nil}
 use Rattle.std.proofs.Common.{refl, ap, sym, ◌∙◌, subst, arith, append_assoc}
 use Rattle.pm_tokens.specs.Faults.{Valid}
@@ -11,7 +11,7 @@ use Rattle.pm_tokens.specs.Tokens.{Token, Doc, with_tokens}
 use Rattle.pm_tokens.proofs.PairLaws.{no-left, no-right}
 use Rattle.pm_tokens.proofs.PartLaws.{IsSlice, slice-is, cut-slice, Split, split-at, split-front, split-fronts, split-back, split-rest, split-length, owned-front, owned-back, depth-from, depth-to, slice_stack, slice-owned-is, slice-length, slice-counts, cut-size, cut-owned}
 use Rattle.pm_tokens.proofs.Restored.{cut-within, cut-first, cut-level, Went, went, same-level, back-joins, Stands, stands, whole-after, nothing}
-use Rattle.pm_tokens.proofs.ScanLaws.{and-both, and-true, plain-append, plain-owned, Whole, whole-of, of-whole}
+use Rattle.pm_tokens.proofs.ScanLaws.{plain-append, plain-owned, Whole, whole-of, of-whole}
 use Rattle.pm_tokens.proofs.SchemaLaws.{compatible-itself, compatible-both}
 use Rattle.pm_tokens.proofs.ValidLaws.{pair-free}
 use Rattle.pm_meaning.specs.Inverses.{replace_back}
@@ -29,12 +29,12 @@ no-pair-at ts xs ys p e f h = ap not (ap (λ z. ends_high z && starts_low (drop 
 
 pub depths-of : (ts : List Token) (from to : ℕ) (sl : Slice) → depths_fit ts from to sl ≡ true → (sl.open_start ≤ depth_at ts from) × (depth_at ts from + sl.open_end ≡ depth_at ts to + sl.open_start)
 depths-of ts from to sl h =
-    let b = and-both (nat_le sl.open_start (depth_at ts from)) (depth_at ts from + sl.open_end == depth_at ts to + sl.open_start) h in
+    let b = and_parts (nat_le sl.open_start (depth_at ts from)) (depth_at ts from + sl.open_end == depth_at ts to + sl.open_start) h in
     (leb-true sl.open_start (depth_at ts from) b.0, eqb-true (depth_at ts from + sl.open_end) (depth_at ts to + sl.open_start) b.1)
 
 pub of-depths : (ts : List Token) (from to : ℕ) (sl : Slice) → sl.open_start ≤ depth_at ts from → depth_at ts from + sl.open_end ≡ depth_at ts to + sl.open_start → depths_fit ts from to sl ≡ true
 of-depths ts from to sl h k =
-    and-true (nat_le sl.open_start (depth_at ts from)) (depth_at ts from + sl.open_end == depth_at ts to + sl.open_start)
+    and_from (nat_le sl.open_start (depth_at ts from)) (depth_at ts from + sl.open_end == depth_at ts to + sl.open_start)
     (le-leb sl.open_start (depth_at ts from) h) (eq-eqb (depth_at ts from + sl.open_end) (depth_at ts to + sl.open_start) k)
 
 -- where a replace applies
@@ -59,10 +59,10 @@ replaced s from to sl structure d next h =
     let u₃ = unless-ok (depths_fit ts from to sl) Depth _ next u₂.1 in
     let u₄ = unless-ok (parts_no_pair ts (from ∷ to ∷ [])) Pair _ next u₃.1 in
     let u₅ = unless-ok (joins (compatible s) [] (spliced ts from to sl)) Join (checked s (with_tokens d (plain (spliced ts from to sl)))) next u₄.1 in
-    let o = and-both (nat_le from to) (nat_le to (length ts)) u₁.0 in
+    let o = and_parts (nat_le from to) (nat_le to (length ts)) u₁.0 in
     let f = depths-of ts from to sl u₃.0 in
-    let p = and-both (not (parts_pair ts from)) (not (parts_pair ts to) && true) u₄.0 in
-    let q = and-both (not (parts_pair ts to)) true p.1 in
+    let p = and_parts (not (parts_pair ts from)) (not (parts_pair ts to) && true) u₄.0 in
+    let q = and_parts (not (parts_pair ts to)) true p.1 in
     let e = (checked-ok s (with_tokens d (plain (spliced ts from to sl))) next u₅.1).0 in
     record {
       slice = slice-is sl u₀.0;
@@ -189,15 +189,15 @@ module _ (s : Schema) (from to : ℕ) (sl : Slice) (d next : Doc) (v : Valid s d
       let n = length (a ++ (m ++ b)) in
       ok-unless (is_slice c) Range _ d (cut-slice a x n-within)
       (ok-unless (in_order (from ∷ far ∷ []) n) Range _ d
-      (and-true (nat_le from far) (nat_le far n) (le-leb from far (omega arith)) (le-leb far n (omega (arith, split-length new))))
+      (and_from (nat_le from far) (nat_le far n) (le-leb from far (omega arith)) (le-leb far n (omega (arith, split-length new))))
       (ok-unless (depths_fit (a ++ (m ++ b)) from far c) Depth _ d
       (of-depths (a ++ (m ++ b)) from far c
       (omega (arith, n-within, depth-from new))
       (omega (arith, depth-from new, depth-to new, l, cut-level a x [] x x-nil o.met_x my)))
       (ok-unless (parts_no_pair (a ++ (m ++ b)) (from ∷ far ∷ [])) Pair _ d
-      (and-true (not (parts_pair (a ++ (m ++ b)) from)) (not (parts_pair (a ++ (m ++ b)) far) && true)
+      (and_from (not (parts_pair (a ++ (m ++ b)) from)) (not (parts_pair (a ++ (m ++ b)) far) && true)
       (no-pair-at (a ++ (m ++ b)) a (m ++ b) from (split-front new) (split-rest new) (no-left a (m ++ b) ends.0))
-      (and-true (not (parts_pair (a ++ (m ++ b)) far)) true (no-pair-at (a ++ (m ++ b)) (a ++ m) b far (split-fronts new) (split-back new) (no-right (a ++ m) b starts.1)) refl))
+      (and_from (not (parts_pair (a ++ (m ++ b)) far)) true (no-pair-at (a ++ (m ++ b)) (a ++ m) b far (split-fronts new) (split-back new) (no-right (a ++ m) b starts.1)) refl))
       (ok-unless (joins (compatible s) [] (spliced (a ++ (m ++ b)) from far c)) Join _ d
       (subst (λ z. joins (compatible s) [] z ≡ true) (sym back-is)
       (back-joins (compatible s) a x [] [] b m [] st nothing (compatible-itself s) (compatible-both s) t f o.met_a o.met_x my l (cut-first a x [] x x-nil o.met_x my) refl))

@@ -7,9 +7,9 @@ use Rattle.pm_marks.specs.Sets.{same_mark, has, all_added}
 use Rattle.pm_tokens.specs.Tokens.{Attrs, Marks}
 use Rattle.pm_tokens.specs.Schemas.{Schema}
 use Rattle.pm_tokens.specs.Marks.{is_set}
-use Rattle.pm_tokens.proofs.ScanLaws.{and-both}
 use Rattle.pm_tokens.proofs.MarkLaws.{mark-equal, mark-itself, set-is, set-front}
 use Rattle.pm_meaning.specs.Marked.{add, remove}
+use Rattle.std.proofs.lemmas.Bool.{and_parts}
 
 -- the set without each of these marks
 abbrev pub remove_each : Marks → Marks → Marks
@@ -28,7 +28,7 @@ same-both a b h = let e = mark-equal a b h in rw e (subst (λ z. same_mark same_
 left-in : (m : Mark Attrs) (ms xs : Marks) → are_in (m ∷ ms) xs ≡ true → are_in ms (remove m xs) ≡ true
 left-in m ms [] h = refl
 left-in m ms (x ∷ xs) h =
-    let b = and-both (same_mark same_attrs m x || has same_attrs ms x) (are_in (m ∷ ms) xs) h in
+    let b = and_parts (same_mark same_attrs m x || has same_attrs ms x) (are_in (m ∷ ms) xs) h in
     at (same_mark same_attrs x m) (same_mark same_attrs m x) refl refl b.0 (left-in m ms xs b.1)
   where
     at : (p q : Bool) → same_mark same_attrs x m ≡ p → same_mark same_attrs m x ≡ q → (q || has same_attrs ms x) ≡ true → are_in ms (remove m xs) ≡ true
@@ -48,7 +48,7 @@ or-true false = refl
 
 in-more : (m : Mark Attrs) (ms xs : Marks) → are_in ms xs ≡ true → are_in (m ∷ ms) xs ≡ true
 in-more m ms [] h = refl
-in-more m ms (x ∷ xs) h = let b = and-both (has same_attrs ms x) (are_in ms xs) h in rw (b.0, in-more m ms xs b.1) (or-true (same_mark same_attrs m x))
+in-more m ms (x ∷ xs) h = let b = and_parts (has same_attrs ms x) (are_in ms xs) h in rw (b.0, in-more m ms xs b.1) (or-true (same_mark same_attrs m x))
 
 in-self : (ms : Marks) → are_in ms ms ≡ true
 in-self [] = refl

@@ -12,7 +12,6 @@ use Rattle.pm_tokens.specs.Scan.{head_of, unclosed, ends_high, starts_low, parts
 use Rattle.pm_tokens.specs.Marks.{is_set}
 use Rattle.pm_tokens.specs.Faults.{Valid}
 use Rattle.pm_tokens.specs.Loose.{IsLoose}
-use Rattle.pm_tokens.proofs.ScanLaws.{and-both}
 use Rattle.pm_tokens.proofs.ValidLaws.{valid-tokens, pair-free}
 use Rattle.pm_meaning.specs.declared.reason.Reason.{Reason}
 use Rattle.pm_meaning.specs.declared.reason.Reason.TheVariants.{Range, Pair, NoNode}
@@ -33,6 +32,7 @@ use Rattle.pm_meaning.proofs.MixedLaws.{shaped-self, paired-rest}
 use Rattle.pm_meaning.proofs.MixedNodes.{node-applies}
 use Rattle.pm_meaning.proofs.LooseRuns.{runs-apply}
 use Rattle.pm_meaning.proofs.StepLaws.{good}
+use Rattle.std.proofs.lemmas.Bool.{and_parts}
 
 -- the steps apply one after another
 abbrev pub Apply : Schema → List Step → Doc → Type 0
@@ -88,10 +88,10 @@ module _ (s : Schema) (l : IsLoose s) (d : Doc) (v : Valid s d) where
   node-undoes-at f p a (Close ∷ q) i e hp b w x y = absurd (cc)
   node-undoes-at f p a (CodeUnit u m ∷ q) i e hp b w x y = absurd (cc)
   node-undoes-at f p a (Open j c m ∷ q) i e hp b w x y =
-      let g = node-applies s l d v a (Open j c m) q q m e hp refl (shaped-itself q) w.1 (paired-token None (Open j c m) q y).1 p i refl (f m) [] (and-both (is_set s m) (are_suited s (head_of (unclosed ps a)) m) w.0).0 x.0 w.0 in
+      let g = node-applies s l d v a (Open j c m) q q m e hp refl (shaped-itself q) w.1 (paired-token None (Open j c m) q y).1 p i refl (f m) [] (and_parts (is_set s m) (are_suited s (head_of (unclosed ps a)) m) w.0).0 x.0 w.0 in
       ap (λ z. fold meaning s (with_tokens d (a ++ (Open j c (f m) ∷ q))) z) (sym (append-nil (node_steps p m (f m)))) ∙ (g ∙ ap (λ z. Some (with_tokens d z)) (sym e))
   node-undoes-at f p a (Leaf j c m ∷ q) i e hp b w x y =
-      let g = node-applies s l d v a (Leaf j c m) q q m e hp refl (shaped-itself q) w.1 (paired-token None (Leaf j c m) q y).1 p i refl (f m) [] (and-both (is_set s m) (are_suited s (head_of (unclosed ps a)) m) w.0).0 x.0 w.0 in
+      let g = node-applies s l d v a (Leaf j c m) q q m e hp refl (shaped-itself q) w.1 (paired-token None (Leaf j c m) q y).1 p i refl (f m) [] (and_parts (is_set s m) (are_suited s (head_of (unclosed ps a)) m) w.0).0 x.0 w.0 in
       ap (λ z. fold meaning s (with_tokens d (a ++ (Leaf j c (f m) ∷ q))) z) (sym (append-nil (node_steps p m (f m)))) ∙ (g ∙ ap (λ z. Some (with_tokens d z)) (sym e))
 
   node-undoes : (f : Marks → Marks) (p : ℕ) (one : Step) (next : Doc) → Valid s next → node_outcome s f p d ≡ Ok next
@@ -106,7 +106,7 @@ module _ (s : Schema) (l : IsLoose s) (d : Doc) (v : Valid s d) where
       let len : length a ≡ p = omega (arith, node-order s f p d next h, length-take p d.tokens) in
       let u₁ = unless-ok (in_order (p ∷ []) (length d.tokens)) Range _ next h in
       let u₂ = unless-ok (parts_no_pair d.tokens (p ∷ [])) Pair (and_unless (starts_node r) NoNode (checked s (node_marked f p d))) next u₁.1 in
-      let apart : (ends_high a && starts_low r) ≡ false = not-not (parts_pair d.tokens p) (and-both (not (parts_pair d.tokens p)) true u₂.0).0 in
+      let apart : (ends_high a && starts_low r) ≡ false = not-not (parts_pair d.tokens p) (and_parts (not (parts_pair d.tokens p)) true u₂.0).0 in
       let clear = pair-free s d a r v all apart in
       let old_fits : Fits s (unclosed ps a) r = fits-rest s ps a r (subst (Fits s ps) all (doc-fits s d v)) in
       let new_fits : Fits s (unclosed ps a) (with_node_marks f r) = fits-rest s ps a (with_node_marks f r) (doc-fits s n wn) in

@@ -20,31 +20,12 @@ use Rattle.pm_node.specs.Changes.{Holds, Changed, Keeps, NodeKeeps, IsPlace, IsS
 use Rattle.pm_node.proofs.TreeLaws.{node_tokens_at, balanced-node}
 use Rattle.pm_node.proofs.WalkLaws.{front, front-more, list-split, whole-node}
 use Rattle.pm_node.proofs.DeepLaws.{deep-append, deep-node}
+use Rattle.pm_tokens.proofs.ValidLaws.{broken-none, some-none, none-some, unless-none, none-unless}
 
 -- ---- answers of which there are none
 
-some-none : {A : Type 0} (x y : Option A) → first_some x y ≡ None → (x ≡ None) × (y ≡ None)
-some-none None y h = (refl, h)
-some-none (Some x) y h = absurd (cc)
-
-pub none-some : {A : Type 0} (x y : Option A) → x ≡ None → y ≡ None → first_some x y ≡ None
-none-some x y h k = rw h k
-
-unless-none : (a m c : Bool) (at : ℕ) → fault_unless a m c at ≡ None → (a ≡ true) × (m ≡ true) × (c ≡ true)
-unless-none true true true at h = (refl, refl, refl)
-unless-none true true false at h = absurd (cc)
-unless-none true false c at h = absurd (cc)
-unless-none false m c at h = absurd (cc)
-
-pub none-unless : (a m c : Bool) (at : ℕ) → a ≡ true → m ≡ true → c ≡ true → fault_unless a m c at ≡ None
-none-unless a m c at h k l = rw (h, k, l) refl
-
 unless-moved : (a m c : Bool) (at to : ℕ) → fault_unless a m c at ≡ None → fault_unless a m c to ≡ None
 unless-moved a m c at to h = let u = unless-none a m c at h in none-unless a m c to u.0 u.1 u.2
-
-broken-none : (b : Bool) (x : Option Fault) (at : ℕ) → cond b x (Some (Pair at)) ≡ None → (b ≡ true) × (x ≡ None)
-broken-none true x at h = (refl, h)
-broken-none false x at h = absurd (cc)
 
 and-parts : (a b c : Bool) → (a && b && c) ≡ true → (a ≡ true) × (b ≡ true) × (c ≡ true)
 and-parts true true c h = (refl, refl, h)
@@ -288,16 +269,16 @@ module _ (s : Schema) (levels : ℕ) (n n' : Node) (inner inner' : List Token) (
       (omega (arith, some)) (omega (arith, some, order)) (omega (arith, some, new_order)) (omega (arith, some, order)) (omega (arith, some, new_order)) behind.within behind.new_within behind.left s kind levels bx by b b' keep in
       subst (λ u. P u (node_tokens n')) (sym (node_tokens_at n (Children inner) is)) (subst (λ v. P (node_of n.kind n.attrs n.marks inner) v) (sym (node_tokens_at n' (Children inner') is')) made)
 
-whole-list : {Z : Type 0} (xs : List (Arc Node Z)) → EachWhole xs → Balanced (list_tokens xs)
+pub whole-list : {Z : Type 0} (xs : List (Arc Node Z)) → EachWhole xs → Balanced (list_tokens xs)
 whole-list [] w = none
 whole-list (x ∷ xs) w = balanced-append (whole-node (arc_value x) w.0) (whole-list xs w.1)
 
-each-take : {Z : Type 0} (i : ℕ) (xs : List (Arc Node Z)) → EachWhole xs → EachWhole (take i xs)
+pub each-take : {Z : Type 0} (i : ℕ) (xs : List (Arc Node Z)) → EachWhole xs → EachWhole (take i xs)
 each-take zero xs w = tt
 each-take (suc i) [] w = tt
 each-take (suc i) (x ∷ xs) w = (w.0, each-take i xs w.1)
 
-each-drop : {Z : Type 0} (i : ℕ) (xs : List (Arc Node Z)) → EachWhole xs → EachWhole (drop i xs)
+pub each-drop : {Z : Type 0} (i : ℕ) (xs : List (Arc Node Z)) → EachWhole xs → EachWhole (drop i xs)
 each-drop zero xs w = w
 each-drop (suc i) [] w = tt
 each-drop (suc i) (x ∷ xs) w = each-drop i xs w.1

@@ -11,17 +11,7 @@ use Rattle.pm_node.specs.declared.node.Body.TheVariants.{Text, Leaf as Childless
 use Rattle.pm_node.specs.Trees.{body_tokens, node_tokens}
 use Rattle.pm_node.proofs.TreeLaws.{node_tokens_at}
 use Rattle.pm_node.proofs.WalkLaws.{rest, Child}
-
--- a position is at least as deep as the first one
-pub deep-low : (d : ℕ) (ts : List Token) → d ≤ deepest d ts
-deep-low d [] = omega arith
-deep-low d (Open k a m ∷ ts) = let h = deep-low (suc d) ts in omega arith
-deep-low zero (Close ∷ ts) = omega arith
-deep-low (suc d) (Close ∷ ts) = omega arith
-deep-low zero (Leaf k a m ∷ ts) = omega arith
-deep-low (suc d) (Leaf k a m ∷ ts) = deep-low (suc d) ts
-deep-low zero (CodeUnit u m ∷ ts) = omega arith
-deep-low (suc d) (CodeUnit u m ∷ ts) = deep-low (suc d) ts
+use Rattle.pm_tokens.proofs.DepthLaws.{deep-low}
 
 leaf-deep : (d k : ℕ) (a : Attrs) (m : Marks) (ts : List Token) → deepest d (Leaf k a m ∷ ts) ≡ deepest d ts
 leaf-deep zero k a m ts = refl

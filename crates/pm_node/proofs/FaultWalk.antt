@@ -49,16 +49,6 @@ no-content true true k at h = refl
 no-content true false k at h = absurd (cc)
 no-content false m k at h = absurd (cc)
 
-pub and-left : (a b : Bool) → a ≡ false → (a && b) ≡ false
-and-left a b e = rw e refl
-
-pub and-right : (a b : Bool) → b ≡ false → (a && b) ≡ false
-and-right true b e = e
-and-right false b e = refl
-
-pub and-both : (a b : Bool) → a ≡ true → b ≡ true → (a && b) ≡ true
-and-both a b e f = rw (e, f) refl
-
 pub bad-marks : (f h m : Bool) (at : ℕ) → f ≡ true → h ≡ true → m ≡ false → fault_unless (f && h) m true at ≡ Some (BadMarks at)
 bad-marks f h m at a b e = rw (a, b, e) refl
 

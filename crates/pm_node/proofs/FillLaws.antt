@@ -13,68 +13,8 @@ use Rattle.pm_auto.specs.Finish.{all_can, Finishes}
 use Rattle.pm_schema.specs.declared.schema.Schema.{Schema}
 use Rattle.pm_schema.specs.Made.{can_be_made}
 use Rattle.pm_node.specs.Filled.{IsFill}
-
--- the edges of types that can be made
-none-either : (b : Bool) (n : Option ℕ) → n ≡ cond b n n
-none-either true n = refl
-none-either false n = refl
-
-kept-step : (can : List Bool) (k : ℕ) (e : Edge) (es : List Edge) → target k (kept can es) ≡ cond (get_or can k false) (target k es) None → (b c : Bool) → get_or can e.kind false ≡ b → eqb e.kind k ≡ c
-    → target k (kept can (e ∷ es)) ≡ cond (get_or can k false) (target k (e ∷ es)) None
-kept-step can k e es ih true true p q = let r : get_or can k false ≡ true = ap (λ (n : ℕ). get_or can n false) (sym (eqb-true e.kind k q)) ∙ p in rw (p, q, r) refl
-kept-step can k e es ih true false p q = rw (p, q, ih) refl
-kept-step can k e es ih false true p q = let r : get_or can k false ≡ false = ap (λ (n : ℕ). get_or can n false) (sym (eqb-true e.kind k q)) ∙ p in rw (p, ih, r) refl
-kept-step can k e es ih false false p q = rw (p, q, ih) refl
-
-target-kept : (can : List Bool) (k : ℕ) (es : List Edge) → target k (kept can es) ≡ cond (get_or can k false) (target k es) None
-target-kept can k [] = none-either (get_or can k false) None
-target-kept can k (e ∷ es) = kept-step can k e es (target-kept can k es) (get_or can e.kind false) (eqb e.kind k) refl refl
-
-edges-kept : (can : List Bool) (ess : List (List Edge)) (s : ℕ) → edges_at (makeable can ess) s ≡ kept can (edges_at ess s)
-edges-kept can [] s = refl
-edges-kept can (es ∷ ess) zero = refl
-edges-kept can (es ∷ ess) (suc s) = edges-kept can ess s
-
-target-state : (n k s : ℕ) (ess : List (List Edge)) → Is_graph n ess → IfSome (target k (edges_at ess s)) (λ t. t < n)
-target-state n k s [] g = tt
-target-state n k zero (es ∷ ess) g = one es g.0.1
-  where
-    one : (es : List Edge) → Inside n es → IfSome (target k es) (λ t. t < n)
-    one [] h = tt
-    one (e ∷ es) h = at (eqb e.kind k) (one es h.1)
-      where
-        at : (b : Bool) → IfSome (target k es) (λ t. t < n) → IfSome (cond b (Some e.to) (target k es)) (λ t. t < n)
-        at true i = h.0
-        at false i = i
-target-state n k (suc s) (es ∷ ess) g = target-state n k s ess g.1
-
-ends-from : (ss : List PlaceSet) (ess : List (List Edge)) (s n : ℕ) (xs : List PlaceSet) → s < length xs → get_or (fits_from ss ess true [] n xs) s false ≡ ends_at ss (n + s)
-ends-from ss ess s n [] l = absurd (omega arith)
-ends-from ss ess zero n (x ∷ xs) l = let z : n ≡ n + 0 = omega arith in ap (ends_at ss) z
-ends-from ss ess (suc s) n (x ∷ xs) l = let z : suc n + s ≡ n + suc s = omega arith in ends-from ss ess s (suc n) xs (omega arith) ∙ ap (ends_at ss) z
-
-and-false : (c : Bool) → false ≡ c && false
-and-false true = refl
-and-false false = refl
-
-on-both : (b c : Bool) (t : Option ℕ) (f g : ℕ → Bool) → IfSome t (λ i. f i ≡ c && g i) → via f (cond b t None) ≡ (b && c) && via g t
-on-both true c None f g h = and-false c
-on-both true c (Some i) f g h = h
-on-both false c t f g h = refl
-
-if_some-map : {P Q : ℕ → Type 0} (t : Option ℕ) → ((i : ℕ) → P i → Q i) → IfSome t P → IfSome t Q
-if_some-map None f h = tt
-if_some-map (Some i) f h = f i h
-
--- a list leads to a goal where it is of types that can be made and leads to a valid end
-leads-ends : (can : List Bool) (a : Auto) (w : List ℕ) (s : ℕ) → s < length a.sets
-    → leads (makeable can a.edges) (filled a true []) s w ≡ all_can can w && accepted a.sets a.edges s w
-leads-ends can a [] s l = let z : 0 + s ≡ s = omega arith in ends-from a.sets a.edges s 0 a.sets l ∙ ap (ends_at a.sets) z
-leads-ends can a (k ∷ w) s l =
-    ap (λ (es : List Edge). via (λ t. leads (makeable can a.edges) (filled a true []) t w) (target k es)) (edges-kept can a.edges s)
-    ∙ ap (via (λ t. leads (makeable can a.edges) (filled a true []) t w)) (target-kept can k (edges_at a.edges s))
-    ∙ on-both (get_or can k false) (all_can can w) (target k (edges_at a.edges s)) (λ t. leads (makeable can a.edges) (filled a true []) t w) (λ t. accepted a.sets a.edges t w)
-    (if_some-map (target k (edges_at a.edges s)) (λ i m. leads-ends can a w i m) (target-state (length a.sets) k s a.edges a.graph))
+use Rattle.pm_auto.proofs.GraphLaws.{target-state}
+use Rattle.pm_auto.proofs.ReachLaws.{none-either, kept-step, target-kept, edges-kept, ends-from, and-false, on-both, if_some-map, leads-ends}
 
 and-first : (b c : Bool) → b && c ≡ true → b ≡ true
 and-first true c h = refl

@@ -6,15 +6,16 @@ use Rattle.pm_tokens.specs.Schemas.{Schema, max_depth}
 use Rattle.pm_tokens.specs.Scan.{head_of}
 use Rattle.pm_tokens.specs.Kids.{kids}
 use Rattle.pm_tokens.specs.Faults.{attrs_fit, marks_fit, content_fits, high_of, Valid, fault_unless, under, first_fault, first_broken, no_marks, token_fits, place_from, top_fits, fault_place}
-use Rattle.pm_tokens.proofs.ScanLaws.{whole-of, and-true}
+use Rattle.pm_tokens.proofs.ScanLaws.{whole-of}
 use Rattle.pm_tokens.proofs.BalanceLaws.{whole-balanced}
 use Rattle.pm_tokens.proofs.PairLaws.{first-none, none-first}
 use Rattle.pm_tokens.proofs.DepthLaws.{depths-bound}
-use Rattle.pm_tokens.proofs.ValidLaws.{token-fits, valid-tokens}
+use Rattle.pm_tokens.proofs.ValidLaws.{token-fits, valid-tokens, none-some, none-unless}
 use Rattle.pm_node.specs.Places.{place_in, least}
 use Rattle.pm_node.specs.Changes.{Holds}
 use Rattle.pm_node.proofs.PlaceLaws.{moved, place-least}
-use Rattle.pm_node.proofs.ChangeLaws.{none-some, none-unless, fault-moved}
+use Rattle.pm_node.proofs.ChangeLaws.{fault-moved}
+use Rattle.std.proofs.lemmas.Bool.{and_from}
 
 -- where no place has a fault, neither reading finds one
 both-none : (s : Schema) (ps : List ℕ) (high : Option Marks) (at : ℕ) (ts : List Token) → place_from s ps high ts ≡ None → (first_fault s at ps ts ≡ None) × (first_broken at high ts ≡ None)
@@ -47,8 +48,8 @@ moved-none at (Some p) h = absurd (cc)
 pub holds-place : (s : Schema) (d : Doc) (ts : List Token) → Valid s d → Holds s d.kind max_depth ts → fault_place s (with_tokens d ts) ≡ None
 holds-place s d ts v h =
     let top : top_fits s (with_tokens d ts) ≡ true =
-    and-true (s.node_attrs d.kind d.attrs && no_marks d.marks) (s.accepts d.kind (kids s.text 0 None ts))
-    (and-true (s.node_attrs d.kind d.attrs) (no_marks d.marks) v.top_attrs (ap no_marks v.top_marks)) h.accepted in
+    and_from (s.node_attrs d.kind d.attrs && no_marks d.marks) (s.accepts d.kind (kids s.text 0 None ts))
+    (and_from (s.node_attrs d.kind d.attrs) (no_marks d.marks) v.top_attrs (ap no_marks v.top_marks)) h.accepted in
     let below : least (place_in (first_broken 0 None ts)) (place_in (first_fault s 0 (d.kind ∷ []) ts)) ≡ None = rw (h.unbroken 0, h.faultless 0 []) refl in
     none-first (top_fits s (with_tokens d ts)) (place_from s (d.kind ∷ []) None ts) top
     (moved-none 0 (place_from s (d.kind ∷ []) None ts) (place-least s 0 (d.kind ∷ []) None ts ∙ below))

@@ -1,7 +1,7 @@
 -- What the tests of a replace, in their order, say of its outcome.
 use Rattle.std.specs.Prelude.{◌≡◌, ℕ, ◌+◌, ◌-◌, ◌≤◌, ◌<◌, ◌==◌, Bool, true, false, ◌&&◌, not, nat_le, List, [], ◌∷◌, length, Result, Ok, Err}
 use Rattle.std.proofs.Common.{refl, ap, sym, ◌∙◌, subst, arith}
-use Rattle.std.proofs.lemmas.Bool.{leb-true, le-leb, lt-leb, ne_eqb}
+use Rattle.std.proofs.lemmas.Bool.{leb-true, le-leb, lt-leb, ne_eqb, and_from}
 use Rattle.pm_tokens.specs.Tokens.{Attrs, Marks, Token, Doc, with_tokens}
 use Rattle.pm_node.specs.declared.node.Node.{Node}
 use Rattle.pm_node.specs.Documents.{doc_with}
@@ -11,7 +11,6 @@ use Rattle.pm_tokens.specs.Schemas.{Schema, compatible, max_size, max_depth}
 use Rattle.pm_tokens.specs.Scan.{Owned, plain, joins, depth_at, parts_pair, deepest, Balanced}
 use Rattle.pm_tokens.specs.Faults.{Valid, fault_place}
 use Rattle.pm_tokens.specs.Slices.{Slice, is_slice, slice_size, slice_tokens, spliced, depths_fit}
-use Rattle.pm_tokens.proofs.ScanLaws.{and-true}
 use Rattle.pm_tokens.proofs.PartLaws.{slice-is, slice-length}
 use Rattle.pm_tokens.proofs.BalanceLaws.{balanced-whole}
 use Rattle.pm_meaning.proofs.ReplaceLaws.{depths-of, of-depths}
@@ -27,11 +26,11 @@ use Rattle.pm_build.specs.declared.refused.Refused.TheVariants as refused
 use Rattle.pm_build.specs.Fed.{ForJoin}
 use Rattle.pm_replace.specs.Splices.{failed_of, spliced_outcome}
 
-passes : {A : Type 0} (b : Bool) (r : Reason) (x : Result A Reason) → b ≡ true → unless b r x ≡ x
+pub passes : {A : Type 0} (b : Bool) (r : Reason) (x : Result A Reason) → b ≡ true → unless b r x ≡ x
 passes true r x h = refl
 passes false r x h = absurd (cc)
 
-fails : {A : Type 0} (b : Bool) (r : Reason) (x : Result A Reason) → b ≡ false → unless b r x ≡ Err r
+pub fails : {A : Type 0} (b : Bool) (r : Reason) (x : Result A Reason) → b ≡ false → unless b r x ≡ Err r
 fails true r x h = absurd (cc)
 fails false r x h = refl
 
@@ -76,7 +75,7 @@ module _ (s : Schema) (d : Doc) (from to : ℕ) (sl : Slice) (slice : is_slice s
 
   module _ (h : from ≤ to) (i : to ≤ length d.tokens) where
     in-range : in_order (from ∷ to ∷ []) (length d.tokens) ≡ true
-    in-range = and-true (nat_le from to) (nat_le to (length d.tokens)) (le-leb from to h) (le-leb to (length d.tokens) i)
+    in-range = and_from (nat_le from to) (nat_le to (length d.tokens)) (le-leb from to h) (le-leb to (length d.tokens) i)
 
     to-depths : outcome s (Replace from to sl false) d ≡ unless (depths_fit d.tokens from to sl) Depth
         (unless (parts_no_pair d.tokens (from ∷ to ∷ [])) Pair
@@ -115,7 +114,7 @@ module _ (s : Schema) (d : Doc) (from to : ℕ) (sl : Slice) (slice : is_slice s
       module _ (p : parts_pair d.tokens from ≡ false) (q : parts_pair d.tokens to ≡ false) where
         pub to-joins : outcome s (Replace from to sl false) d ≡ spliced_outcome s d (spliced d.tokens from to sl)
         to-joins =
-            let e : parts_no_pair d.tokens (from ∷ to ∷ []) ≡ true = and-true (not (parts_pair d.tokens from)) (not (parts_pair d.tokens to) && true) (ap not p) (and-true (not (parts_pair d.tokens to)) true (ap not q) refl) in
+            let e : parts_no_pair d.tokens (from ∷ to ∷ []) ≡ true = and_from (not (parts_pair d.tokens from)) (not (parts_pair d.tokens to) && true) (ap not p) (and_from (not (parts_pair d.tokens to)) true (ap not q) refl) in
             to-pairs ∙ passes (parts_no_pair d.tokens (from ∷ to ∷ [])) Pair _ e
 
         pub then-checked : joins (compatible s) [] (spliced d.tokens from to sl) ≡ true → outcome s (Replace from to sl false) d ≡ checked s (with_tokens d (plain (spliced d.tokens from to sl)))

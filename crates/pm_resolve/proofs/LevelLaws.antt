@@ -18,6 +18,7 @@ use Rattle.pm_resolve.specs.declared.level.Level.{Level}
 use Rattle.pm_resolve.specs.Places.{up_to_close, first_node, opens_at, node_around, start_at, end_at, index_at, whole_tokens, ended, beside, marks_beside, marks_at}
 use Rattle.pm_resolve.specs.Levels.{content_of, holds, IsLevel, Enters, Nested, lowest, deeper, Path}
 use Rattle.pm_resolve.proofs.OpenLaws.{opens-depth, places-depth, opens-in, shared-in, shared-before, shared-behind}
+use Rattle.pm_tokens.proofs.PairLaws.{and-right}
 
 -- ---- up to a close
 
@@ -165,12 +166,8 @@ held-in q l ls a b = rw (le-leb l.start q a, le-leb q (l.start + length (content
 held-before : (q : ℕ) (l : Level) (ls : List Level) → q < l.start → held q (l ∷ ls) ≡ 0
 held-before q l ls a = rw (lt-leb l.start q a) refl
 
-and-false : (b : Bool) → (b && false) ≡ false
-and-false true = refl
-and-false false = refl
-
 held-behind : (q : ℕ) (l : Level) (ls : List Level) → l.start + length (content_of l.node.now) < q → held q (l ∷ ls) ≡ 0
-held-behind q l ls a = ap (λ b. cond (nat_le l.start q && b) (suc (held q ls)) 0) (lt-leb q (l.start + length (content_of l.node.now)) a) ∙ ap (λ b. cond b (suc (held q ls)) 0) (and-false (nat_le l.start q))
+held-behind q l ls a = ap (λ b. cond (nat_le l.start q && b) (suc (held q ls)) 0) (lt-leb q (l.start + length (content_of l.node.now)) a) ∙ ap (λ b. cond b (suc (held q ls)) 0) (and-right (nat_le l.start q))
 
 -- the levels behind the first, and one of them
 pub behind-first : (ls : List Level) → take (length ls - 1) (drop 1 ls) ≡ drop 1 ls

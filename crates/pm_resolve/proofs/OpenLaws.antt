@@ -10,15 +10,9 @@ use Rattle.pm_tokens.proofs.ListLaws.{take_over}
 use Rattle.pm_tokens.proofs.ScanLaws.{unmet-append}
 use Rattle.pm_tokens.proofs.BalanceLaws.{balanced-whole, balanced-append}
 use Rattle.pm_resolve.specs.Places.{opens_at}
+use Rattle.pm_tokens.proofs.DepthLaws.{places-append, places-length, from-tail, places-from}
 
 -- ---- readings of joined lists
-
-places-append : (at : ℕ) (s : List ℕ) (xs ys : List Token) → open_places at s (xs ++ ys) ≡ open_places (at + length xs) (open_places at s xs) ys
-places-append at s [] ys = ap (λ n. open_places n s ys) (let e : at ≡ at + 0 = omega arith in e)
-places-append at s (Open k a m ∷ xs) ys = places-append (at + 1) (at ∷ s) xs ys ∙ ap (λ n. open_places n (open_places (at + 1) (at ∷ s) xs) ys) (let e : (at + 1) + length xs ≡ at + suc (length xs) = omega arith in e)
-places-append at s (Close ∷ xs) ys = places-append (at + 1) (tail_of s) xs ys ∙ ap (λ n. open_places n (open_places (at + 1) (tail_of s) xs) ys) (let e : (at + 1) + length xs ≡ at + suc (length xs) = omega arith in e)
-places-append at s (Leaf k a m ∷ xs) ys = places-append (at + 1) s xs ys ∙ ap (λ n. open_places n (open_places (at + 1) s xs) ys) (let e : (at + 1) + length xs ≡ at + suc (length xs) = omega arith in e)
-places-append at s (CodeUnit u m ∷ xs) ys = places-append (at + 1) s xs ys ∙ ap (λ n. open_places n (open_places (at + 1) s xs) ys) (let e : (at + 1) + length xs ≡ at + suc (length xs) = omega arith in e)
 
 -- what lies further out is not read
 places-under : (at : ℕ) (a s : List ℕ) (ts : List Token) → unmet (length a) ts ≡ 0 → open_places at (a ++ s) ts ≡ open_places at a ts ++ s
@@ -50,16 +44,6 @@ places-shift n at s (Close ∷ ts) =
 places-shift n at s (Leaf k a m ∷ ts) = ap (λ z. open_places z (map (λ o. n + o) s) ts) (let e : (n + at) + 1 ≡ n + (at + 1) = omega arith in e) ∙ places-shift n (at + 1) s ts
 places-shift n at s (CodeUnit u m ∷ ts) = ap (λ z. open_places z (map (λ o. n + o) s) ts) (let e : (n + at) + 1 ≡ n + (at + 1) = omega arith in e) ∙ places-shift n (at + 1) s ts
 
-places-length : (at : ℕ) (s r : List ℕ) (ts : List Token) → length s ≡ length r → length (open_places at s ts) ≡ length (unclosed r ts)
-places-length at s r [] h = h
-places-length at s r (Open k a m ∷ ts) h = places-length (at + 1) (at ∷ s) (k ∷ r) ts (ap suc h)
-places-length at [] [] (Close ∷ ts) h = places-length (at + 1) [] [] ts refl
-places-length at [] (k ∷ r) (Close ∷ ts) h = absurd (omega (arith, h))
-places-length at (k ∷ s) [] (Close ∷ ts) h = absurd (omega (arith, h))
-places-length at (j ∷ s) (k ∷ r) (Close ∷ ts) h = places-length (at + 1) s r ts (omega (arith, h))
-places-length at s r (Leaf k a m ∷ ts) h = places-length (at + 1) s r ts h
-places-length at s r (CodeUnit u m ∷ ts) h = places-length (at + 1) s r ts h
-
 -- there are as many places as nodes around the position
 pub places-depth : (ts : List Token) (p : ℕ) → length (open_at ts p) ≡ depth_at ts p
 places-depth ts p = places-length 0 [] [] (take p ts) refl
@@ -80,27 +64,16 @@ AllBelow n ps = AllByRecursion (λ p. p < n) ps
 abbrev AllFrom : ℕ → List ℕ → Type 0
 AllFrom n ps = AllByRecursion (λ p. n ≤ p) ps
 
-below-tail : (n : ℕ) (ps : List ℕ) → AllBelow n ps → AllBelow n (tail_of ps)
+pub below-tail : (n : ℕ) (ps : List ℕ) → AllBelow n ps → AllBelow n (tail_of ps)
 below-tail n [] h = tt
 below-tail n (p ∷ ps) h = h.1
 
-from-tail : (n : ℕ) (ps : List ℕ) → AllFrom n ps → AllFrom n (tail_of ps)
-from-tail n [] h = tt
-from-tail n (p ∷ ps) h = h.1
-
-places-below : (n at : ℕ) (s : List ℕ) (ts : List Token) → at + length ts ≤ n → AllBelow n s → AllBelow n (open_places at s ts)
+pub places-below : (n at : ℕ) (s : List ℕ) (ts : List Token) → at + length ts ≤ n → AllBelow n s → AllBelow n (open_places at s ts)
 places-below n at s [] l h = h
 places-below n at s (Open k a m ∷ ts) l h = places-below n (at + 1) (at ∷ s) ts (omega (arith, l)) (omega (arith, l), h)
 places-below n at s (Close ∷ ts) l h = places-below n (at + 1) (tail_of s) ts (omega (arith, l)) (below-tail n s h)
 places-below n at s (Leaf k a m ∷ ts) l h = places-below n (at + 1) s ts (omega (arith, l)) h
 places-below n at s (CodeUnit u m ∷ ts) l h = places-below n (at + 1) s ts (omega (arith, l)) h
-
-places-from : (n at : ℕ) (s : List ℕ) (ts : List Token) → n ≤ at → AllFrom n s → AllFrom n (open_places at s ts)
-places-from n at s [] l h = h
-places-from n at s (Open k a m ∷ ts) l h = places-from n (at + 1) (at ∷ s) ts (omega (arith, l)) (l, h)
-places-from n at s (Close ∷ ts) l h = places-from n (at + 1) (tail_of s) ts (omega (arith, l)) (from-tail n s h)
-places-from n at s (Leaf k a m ∷ ts) l h = places-from n (at + 1) s ts (omega (arith, l)) h
-places-from n at s (CodeUnit u m ∷ ts) l h = places-from n (at + 1) s ts (omega (arith, l)) h
 
 abbrev is_in : List ℕ → ℕ → Bool
 is_in qs o = list_any (λ n. o == n) qs

@@ -3,7 +3,7 @@ use Rattle.std.specs.Prelude.{◌≡◌, if◌then◌else◌, ℕ, zero, suc, po
 use Rattle.std.specs.List.{All}
 use Rattle.std.proofs.Common.{sym, ap, subst, ◌∙◌, inl, arith}
 use Rattle.std.proofs.lemmas.List.Elements.{All-from_recursion}
-use Rattle.std.proofs.lemmas.Bool.{ltb-true, ltb-false, lt-ltb, le-ltb}
+use Rattle.std.proofs.lemmas.Bool.{ltb-true, ltb-false, lt-ltb, le-ltb, and_parts, and_from}
 use Rattle.pm_map.specs.declared.mapping.Mirrored.{Mirrored}
 use Rattle.pm_map.specs.Through.{through}
 use Rattle.pm_map.specs.Fits.{FitsSizes, new_size_of}
@@ -22,15 +22,6 @@ record Placed (rules : Rules) (at value : ℕ) (doc next : Sheet) : Type 0 where
   pub small : length doc + 1 < 2 ^ 32
   pub is : next ≡ insert doc at value
 
-and-split : (a b : Bool) → (a && b) ≡ true → (a ≡ true) × (b ≡ true)
-and-split true true h = (refl, refl)
-and-split true false h = absurd (cc)
-and-split false b h = absurd (cc)
-
-and-true : (a b : Bool) → a ≡ true → b ≡ true → (a && b) ≡ true
-and-true true b h k = k
-and-true false b h k = h
-
 inserted : (rules : Rules) (at value : ℕ) (doc next : Sheet) → outcome rules (Insert at value) doc ≡ Ok next → Placed rules at value doc next
 inserted rules at value doc next h = from (nat_lt (length doc) at) (has_room rules doc) refl refl h
   where
@@ -38,7 +29,7 @@ inserted rules at value doc next h = from (nat_lt (length doc) at) (has_room rul
     from true room p r h = absurd (cc)
     from false false p r h = absurd (cc)
     from false true p r h =
-        let s = and-split _ _ r in
+        let s = and_parts _ _ r in
         record {
           within = ltb-false (length doc) at p;
           below = ltb-true (length doc) rules.limit s.0;
@@ -129,7 +120,7 @@ undoes rules (Delete at) doc next good h =
     let n = length-remove doc at p.0 in
     let m : length next + 1 ≡ length doc = ap (λ l. length l + 1) p.1 ∙ n in
     let past : nat_lt (length next) at ≡ false = le-ltb (length next) at (omega (arith, m, p.0)) in
-    let room : has_room rules next ≡ true = and-true _ _ (lt-ltb (length next) rules.limit (omega (arith, m, good.0))) (lt-ltb (length next + 1) (2 ^ 32) (omega (arith, m, good.1))) in (
+    let room : has_room rules next ≡ true = and_from _ _ (lt-ltb (length next) rules.limit (omega (arith, m, good.0))) (lt-ltb (length next + 1) (2 ^ 32) (omega (arith, m, good.1))) in (
       insert next at x.0,
       subst (λ o. fold meaning rules next (back_in at o) ≡ Some (insert next at x.0)) (sym x.1)
           (applies-one rules (Insert at x.0) next (insert next at x.0) (ap (λ b. placed b (has_room rules next) next at x.0) past ∙ ap (λ b. placed false b next at x.0) room)),

@@ -16,12 +16,7 @@ use Rattle.pm_node.proofs.WalkLaws.{front, front-more, list-split, rest, whole-n
 use Rattle.pm_node.proofs.RunLaws.{part-at}
 use Rattle.pm_slice.specs.Sides.{clipped, Clipped}
 use Rattle.pm_slice.proofs.ClipLaws.{clipped-append, clipped-past, clipped-none, clipped-whole}
-
--- the first children are whole nodes
-pub front-whole : {Z : Type 0} (xs : List (Arc Node Z)) (i : ℕ) → EachWhole xs → Balanced (front xs i)
-front-whole xs zero w = none
-front-whole [] (suc i) w = none
-front-whole (x ∷ xs) (suc i) w = balanced-append (whole-node (arc_value x) w.0) (front-whole xs i w.1)
+use Rattle.pm_build.proofs.SpanLaws.{front-whole}
 
 run-whole : {Z : Type 0} (xs : List (Arc Node Z)) (i n : ℕ) → EachWhole xs → Balanced (front (drop i xs) n)
 run-whole xs zero n w = front-whole xs n w

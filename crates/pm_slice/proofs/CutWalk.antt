@@ -22,7 +22,7 @@ use Rattle.pm_node.proofs.WalkLaws.{front, front-more, list-split}
 use Rattle.pm_build.proofs.PositionLaws.{depth-behind, depth-first, depth-flat}
 use Rattle.pm_slice.specs.Sides.{sides, no_slice, or_none, IsKept, clipped}
 use Rattle.pm_slice.specs.Cuts.{IsCut, Inside, HoldsNone, Flat}
-use Rattle.pm_slice.proofs.ClipWalk.{front-whole}
+use Rattle.pm_build.proofs.SpanLaws.{front-whole}
 
 -- ---- cuts are slices
 

@@ -49,20 +49,20 @@ are-closes-first (suc d) (CodeUnit u m ∷ ts) h p = absurd (cc)
 
 -- closes read backwards
 
-closes-both : (xs ys : List Token) → are_closes (xs ++ ys) ≡ (are_closes xs && are_closes ys)
+pub closes-both : (xs ys : List Token) → are_closes (xs ++ ys) ≡ (are_closes xs && are_closes ys)
 closes-both [] ys = refl
 closes-both (Open k a m ∷ xs) ys = refl
 closes-both (Close ∷ xs) ys = closes-both xs ys
 closes-both (Leaf k a m ∷ xs) ys = refl
 closes-both (CodeUnit u m ∷ xs) ys = refl
 
-and-swap : (a b : Bool) → (a && b) ≡ (b && a)
+pub and-swap : (a b : Bool) → (a && b) ≡ (b && a)
 and-swap true true = refl
 and-swap true false = refl
 and-swap false true = refl
 and-swap false false = refl
 
-closes-reverse : (xs : List Token) → are_closes (reverse xs) ≡ are_closes xs
+pub closes-reverse : (xs : List Token) → are_closes (reverse xs) ≡ are_closes xs
 closes-reverse [] = refl
 closes-reverse (x ∷ xs) =
     ap are_closes (reverse-append (x ∷ []) xs) ∙ (closes-both (reverse xs) (x ∷ []) ∙ (ap (λ z. z && are_closes (x ∷ [])) (closes-reverse xs)

@@ -12,6 +12,7 @@ use Rattle.std.proofs.lemmas.Str.{utf16_chars-nil, utf16_chars_lone, utf16_chars
 use Rattle.std.proofs.lemmas.Bool.Decides.{nat_tests}
 use Rattle.pm_text.specs.Units.{utf16, utf8, IsOneText}
 use Rattle.pm_text.specs.Lone.{is_pair, is_lone, HasNoLone}
+use Rattle.std.proofs.lemmas.Bool.{and_parts}
 
 -- the characters of these units
 pub record Spells (units cs : List ℕ) : Type 0 where
@@ -34,10 +35,6 @@ one_text units cs h = record {
 -- no unit is lone where the unit before the first is prev
 abbrev pub NoneAfter : ℕ → List ℕ → Type 0
 NoneAfter prev units = (i : ℕ) → is_lone (slice_index (prev ∷ units) i) (slice_index units i) (slice_index units (suc i)) ≡ false
-
-both : (a b : Bool) → (a && b) ≡ true → (a ≡ true) × (b ≡ true)
-both true b h = (refl, h)
-both false b h = absurd (cc)
 
 abbrev pub IsPlain : ℕ → Type 0
 IsPlain u = (u < 0xD800) ⊎ ((0xE000 ≤ u) × (u < 0x1_0000))
@@ -131,7 +128,7 @@ pair_char_of c from below = omega arith
 pub units_spelled : (cs : List ℕ) → scalars cs ≡ true → Spells (flat_map encode_utf16 cs) cs
 units_spelled [] h = record { scalar = refl; units_of = refl; read = utf16_chars-nil }
 units_spelled (c ∷ cs) h =
-    let parts = both _ _ h in
+    let parts = and_parts _ _ h in
     let rest = units_spelled cs parts.1 in
     elim (char_kinds c parts.0) [
       | inl k ↦
@@ -166,7 +163,7 @@ none_pair u v prev us h low rest (suc (suc i)) = rest i
 pub units_whole : (cs : List ℕ) (prev : ℕ) → scalars cs ≡ true → is_high_surrogate prev ≡ false → NoneAfter prev (flat_map encode_utf16 cs)
 units_whole [] prev h low = λ i. refl
 units_whole (c ∷ cs) prev h low =
-    let parts = both _ _ h in
+    let parts = and_parts _ _ h in
     elim (char_kinds c parts.0) [
       | inl k ↦
           let is : flat_map encode_utf16 (c ∷ cs) ≡ c ∷ flat_map encode_utf16 cs = rw (one_unit c k.1) refl in

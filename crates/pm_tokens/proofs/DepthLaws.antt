@@ -11,7 +11,7 @@ use Rattle.pm_tokens.proofs.PartLaws.{split-at, split-fronts, depth-to}
 
 -- ---- the greatest depth
 
-deep-low : (d : ℕ) (ts : List Token) → d ≤ deepest d ts
+pub deep-low : (d : ℕ) (ts : List Token) → d ≤ deepest d ts
 deep-low d [] = omega arith
 deep-low d (Open k a m ∷ ts) = let i = deep-low (suc d) ts in omega (arith, i)
 deep-low zero (Close ∷ ts) = omega arith
@@ -60,14 +60,14 @@ places-under at (k ∷ a) s (Close ∷ ts) = places-under (at + 1) a s ts
 places-under at a s (Leaf k x m ∷ ts) = places-under (at + 1) a s ts
 places-under at a s (CodeUnit u m ∷ ts) = places-under (at + 1) a s ts
 
-places-append : (at : ℕ) (s : List ℕ) (xs ys : List Token) → open_places at s (xs ++ ys) ≡ open_places (at + length xs) (open_places at s xs) ys
+pub places-append : (at : ℕ) (s : List ℕ) (xs ys : List Token) → open_places at s (xs ++ ys) ≡ open_places (at + length xs) (open_places at s xs) ys
 places-append at s [] ys = ap (λ n. open_places n s ys) (let e : at ≡ at + 0 = omega arith in e)
 places-append at s (Open k a m ∷ xs) ys = places-append (at + 1) (at ∷ s) xs ys ∙ ap (λ n. open_places n (open_places (at + 1) (at ∷ s) xs) ys) (let e : (at + 1) + length xs ≡ at + suc (length xs) = omega arith in e)
 places-append at s (Close ∷ xs) ys = places-append (at + 1) (tail_of s) xs ys ∙ ap (λ n. open_places n (open_places (at + 1) (tail_of s) xs) ys) (let e : (at + 1) + length xs ≡ at + suc (length xs) = omega arith in e)
 places-append at s (Leaf k a m ∷ xs) ys = places-append (at + 1) s xs ys ∙ ap (λ n. open_places n (open_places (at + 1) s xs) ys) (let e : (at + 1) + length xs ≡ at + suc (length xs) = omega arith in e)
 places-append at s (CodeUnit u m ∷ xs) ys = places-append (at + 1) s xs ys ∙ ap (λ n. open_places n (open_places (at + 1) s xs) ys) (let e : (at + 1) + length xs ≡ at + suc (length xs) = omega arith in e)
 
-places-length : (at : ℕ) (s r : List ℕ) (ts : List Token) → length s ≡ length r → length (open_places at s ts) ≡ length (unclosed r ts)
+pub places-length : (at : ℕ) (s r : List ℕ) (ts : List Token) → length s ≡ length r → length (open_places at s ts) ≡ length (unclosed r ts)
 places-length at s r [] h = h
 places-length at s r (Open k a m ∷ ts) h = places-length (at + 1) (at ∷ s) (k ∷ r) ts (ap suc h)
 places-length at [] [] (Close ∷ ts) h = places-length (at + 1) [] [] ts refl
@@ -101,11 +101,11 @@ places-fall at s (CodeUnit u m ∷ ts) h = falls-more _ _ (open_places (at + 1) 
 abbrev AllFrom : ℕ → List ℕ → Type 0
 AllFrom n ps = AllByRecursion (λ p. n ≤ p) ps
 
-from-tail : (n : ℕ) (ps : List ℕ) → AllFrom n ps → AllFrom n (tail_of ps)
+pub from-tail : (n : ℕ) (ps : List ℕ) → AllFrom n ps → AllFrom n (tail_of ps)
 from-tail n [] h = tt
 from-tail n (p ∷ ps) h = h.1
 
-places-from : (n at : ℕ) (s : List ℕ) (ts : List Token) → n ≤ at → AllFrom n s → AllFrom n (open_places at s ts)
+pub places-from : (n at : ℕ) (s : List ℕ) (ts : List Token) → n ≤ at → AllFrom n s → AllFrom n (open_places at s ts)
 places-from n at s [] l h = h
 places-from n at s (Open k a m ∷ ts) l h = places-from n (at + 1) (at ∷ s) ts (omega (arith, l)) (l, h)
 places-from n at s (Close ∷ ts) l h = places-from n (at + 1) (tail_of s) ts (omega (arith, l)) (from-tail n s h)

@@ -6,10 +6,11 @@ use Rattle.pm_tokens.specs.Schemas.{Schema}
 use Rattle.pm_tokens.specs.Scan.{unclosed, unmet, Balanced}
 use Rattle.pm_tokens.specs.Kids.{Forest, kids}
 use Rattle.pm_tokens.specs.Faults.{StandsIn, Valid}
-use Rattle.pm_tokens.proofs.ScanLaws.{and-both, unclosed-append, unmet-append, Whole, whole-of}
+use Rattle.pm_tokens.proofs.ScanLaws.{unclosed-append, unmet-append, Whole, whole-of}
 use Rattle.pm_tokens.proofs.BalanceLaws.{whole-balanced, held}
 use Rattle.pm_tokens.proofs.KidLaws.{kids-stop}
 use Rattle.pm_tokens.proofs.ForestLaws.{balanced-forest}
+use Rattle.std.proofs.lemmas.Bool.{and_parts}
 
 -- an open of a whole list has its close, and whole nodes up to it
 pub node-content : (ts before : List Token) (k : ℕ) (a : Attrs) (m : Marks) (behind : List Token) → Whole ts → StandsIn ts before (Open k a m) behind
@@ -34,7 +35,7 @@ pub record NodeFits (s : Schema) (k : ℕ) (behind : List Token) : Type 0 where
 pub valid-node : (s : Schema) (d : Doc) → Valid s d → (before : List Token) (k : ℕ) (a : Attrs) (m : Marks) (behind : List Token) → StandsIn d.tokens before (Open k a m) behind → NodeFits s k behind
 valid-node s d v before k a m behind e =
     let c = node-content d.tokens before k a m behind (whole-of d.tokens v.whole) e in
-    let fits = and-both (not (k == s.text) && not (s.is_leaf k)) (s.accepts k (kids s.text 0 None behind)) (v.content before (Open k a m) behind e) in
+    let fits = and_parts (not (k == s.text) && not (s.is_leaf k)) (s.accepts k (kids s.text 0 None behind)) (v.content before (Open k a m) behind e) in
     let types : kids s.text 0 None behind ≡ kids s.text 0 None c.0 = ap (kids s.text 0 None) c.1.1.0 ∙ kids-stop s.text None c.1.1.1 c.1.0 in
     record {
       inner = c.0;

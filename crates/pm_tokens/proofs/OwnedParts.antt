@@ -2,12 +2,12 @@
 use Rattle.std.specs.Prelude.{◌≡◌, ℕ, ◌+◌, ◌-◌, ◌≤◌, ◌<◌, min, Bool, true, List, [], ◌∷◌, ◌++◌, length, take, drop}
 use Rattle.std.proofs.Common.{zero, suc, inl, inr, refl, ap, sym, ◌∙◌, arith, append_assoc, length-take, length-drop}
 use Rattle.std.proofs.lemmas.List.{take_min, take-append-drop}
-use Rattle.std.proofs.lemmas.Bool.{cases_lt}
+use Rattle.std.proofs.lemmas.Bool.{cases_lt, and_parts}
 use Rattle.pm_tokens.specs.Tokens.{Attrs, Marks, Token, Open, Close, Leaf, CodeUnit}
 use Rattle.pm_tokens.specs.Scan.{Owned, Opening, Closing, Piece, unclosed, unmet, owned, plain, joins, part, Balanced}
 use Rattle.pm_tokens.specs.Kids.{text_tokens}
 use Rattle.pm_tokens.proofs.ListLaws.{part-append, part_past, part_none}
-use Rattle.pm_tokens.proofs.ScanLaws.{and-both, owned-append, length-owned, unmet-append, unmet-from, level, joins-append}
+use Rattle.pm_tokens.proofs.ScanLaws.{owned-append, length-owned, unmet-append, unmet-from, level, joins-append}
 use Rattle.pm_tokens.proofs.BalanceLaws.{balanced-whole, unclosed-balanced, owned-inner, owned-balanced}
 
 pub length-part : {A : Type 0} (f t : ℕ) (xs : List A) → length (part f t xs) ≡ min (t - f) (length xs - f)
@@ -57,16 +57,16 @@ abbrev pub pieces : Marks → List ℕ → List Owned
 pieces m [] = []
 pieces m (u ∷ us) = Piece u m ∷ pieces m us
 
-owned-text : (s : List ℕ) (m : Marks) (us : List ℕ) → owned s (text_tokens m us) ≡ pieces m us
+pub owned-text : (s : List ℕ) (m : Marks) (us : List ℕ) → owned s (text_tokens m us) ≡ pieces m us
 owned-text s m [] = refl
 owned-text s m (u ∷ us) = ap (λ z. Piece u m ∷ z) (owned-text s m us)
 
-pieces-take : (n : ℕ) (m : Marks) (us : List ℕ) → take n (pieces m us) ≡ pieces m (take n us)
+pub pieces-take : (n : ℕ) (m : Marks) (us : List ℕ) → take n (pieces m us) ≡ pieces m (take n us)
 pieces-take zero m us = refl
 pieces-take (suc n) m [] = refl
 pieces-take (suc n) m (u ∷ us) = ap (λ z. Piece u m ∷ z) (pieces-take n m us)
 
-pieces-drop : (n : ℕ) (m : Marks) (us : List ℕ) → drop n (pieces m us) ≡ pieces m (drop n us)
+pub pieces-drop : (n : ℕ) (m : Marks) (us : List ℕ) → drop n (pieces m us) ≡ pieces m (drop n us)
 pieces-drop zero m us = refl
 pieces-drop (suc n) m [] = refl
 pieces-drop (suc n) m (u ∷ us) = pieces-drop n m us
@@ -89,7 +89,7 @@ open-joins c s (suc f) k a m = ap (joins c s) (part_past (suc f) (suc f + 1) (Op
 
 -- the front of what joins joins
 pub joins-front : (c : ℕ → ℕ → Bool) (s : List ℕ) (p q : List Owned) → joins c s (p ++ q) ≡ true → joins c s p ≡ true
-joins-front c s p q h = (and-both (joins c s p) (joins c (unclosed s (plain p)) q) (sym (joins-append c s p q) ∙ h)).0
+joins-front c s p q h = (and_parts (joins c s p) (joins c (unclosed s (plain p)) q) (sym (joins-append c s p q) ∙ h)).0
 
 -- ---- depths
 

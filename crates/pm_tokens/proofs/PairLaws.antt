@@ -1,7 +1,7 @@
 -- A position of a valid document that parts no pair has no half of a pair beside it.
 use Rattle.std.specs.Prelude.{◌≡◌, ℕ, Bool, true, false, ◌&&◌, cond, nat_le, nat_lt, List, [], ◌∷◌, ◌++◌, Option, Some, None}
 use Rattle.std.specs.Char.Utf16.{is_high_surrogate, is_low_surrogate}
-use Rattle.std.proofs.lemmas.Bool.{leb-true, ltb-true}
+use Rattle.std.proofs.lemmas.Bool.{leb-true, ltb-true, and_parts}
 use Rattle.std.proofs.lemmas.List.{append-nil}
 use Rattle.std.proofs.Common.{refl, ap, sym, ◌∙◌, subst, arith}
 use Rattle.pm_tokens.specs.Tokens.{Marks, Token, Open, Close, Leaf, CodeUnit}
@@ -9,7 +9,6 @@ use Rattle.pm_tokens.specs.Scan.{head_of, is_high, ends_high, starts_low}
 use Rattle.pm_tokens.specs.Schemas.{Schema}
 use Rattle.pm_tokens.specs.Kids.{goes_on}
 use Rattle.pm_tokens.specs.Faults.{attrs_fit, marks_fit, content_fits, low_next, high_of, pair_fits, under, place_unless, token_fits, place_from}
-use Rattle.pm_tokens.proofs.ScanLaws.{and-both}
 
 pub true-false : {P : Type 0} (b : Bool) → b ≡ true → b ≡ false → P
 true-false true h k = absurd (cc)
@@ -26,8 +25,8 @@ none-first b later h e = rw (h, e) refl
 
 pub high-not-low : (u : ℕ) → is_high_surrogate u ≡ true → is_low_surrogate u ≡ true → ⊥
 high-not-low u h k =
-    let a = and-both (nat_le 0xD800 u) (nat_lt u 0xDC00) h in
-    let b = and-both (nat_le 0xDC00 u) (nat_lt u 0xE000) k in
+    let a = and_parts (nat_le 0xD800 u) (nat_lt u 0xDC00) h in
+    let b = and_parts (nat_le 0xDC00 u) (nat_lt u 0xE000) k in
     omega (arith, ltb-true u 0xDC00 a.1, leb-true 0xDC00 u b.0)
 
 low-starts : (m : Marks) (ts : List Token) → low_next m ts ≡ true → starts_low ts ≡ true
@@ -35,7 +34,7 @@ low-starts m [] h = absurd (cc)
 low-starts m (Open k a n ∷ ts) h = absurd (cc)
 low-starts m (Close ∷ ts) h = absurd (cc)
 low-starts m (Leaf k a n ∷ ts) h = absurd (cc)
-low-starts m (CodeUnit u n ∷ ts) h = (and-both (is_low_surrogate u) _ h).0
+low-starts m (CodeUnit u n ∷ ts) h = (and_parts (is_low_surrogate u) _ h).0
 
 after-high : (t : Token) (high : Option Marks) (ts : List Token) → pair_fits high t ts ≡ true → is_high t ≡ true → starts_low ts ≡ true
 after-high (Open k a m) high ts h e = absurd (cc)
@@ -59,7 +58,7 @@ no-low u m ts h = from (is_high_surrogate u) (is_low_surrogate u) refl refl h
 
 -- a token without a fault has no fault of its pair
 pub fits-pair : (s : Schema) (parent : ℕ) (high : Option Marks) (t : Token) (ts : List Token) → token_fits s parent high t ts ≡ true → pair_fits high t ts ≡ true
-fits-pair s parent high t ts h = (and-both (attrs_fit s t && marks_fit s parent t && content_fits s t ts) (pair_fits high t ts) h).1
+fits-pair s parent high t ts h = (and_parts (attrs_fit s t && marks_fit s parent t && content_fits s t ts) (pair_fits high t ts) h).1
 
 module _ (s : Schema) where
   -- what is known of the tokens after a first one
@@ -110,7 +109,7 @@ low-first Close xs ys = refl
 low-first (Leaf k a m) xs ys = refl
 low-first (CodeUnit u m) xs ys = refl
 
-and-right : (b : Bool) → (b && false) ≡ false
+pub and-right : (b : Bool) → (b && false) ≡ false
 and-right true = refl
 and-right false = refl
 

@@ -1,12 +1,12 @@
 -- Parts of a list that is split, slices, and cuts.
 use Rattle.std.specs.Prelude.{◌≡◌, ℕ, ◌+◌, ◌-◌, ◌≤◌, ◌&&◌, nat_le, List, [], ◌∷◌, ◌++◌, length, take, drop, true, reverse, replicate}
-use Rattle.std.proofs.lemmas.Bool.{leb-true, le-leb}
+use Rattle.std.proofs.lemmas.Bool.{leb-true, le-leb, and_parts, and_from}
 use Rattle.std.proofs.lemmas.List.{nil_from_length, take_at, drop_at, take-append-drop, drop-drop, reverse-append, length-replicate, length-reverse}
 use Rattle.std.proofs.Common.{zero, suc, refl, ap, sym, ◌∙◌, subst, arith, append_assoc, length-append, length-take, length-drop}
 use Rattle.pm_tokens.specs.Tokens.{Token, Open, Close, Leaf, CodeUnit}
 use Rattle.pm_tokens.specs.Scan.{tail_of, unclosed, unmet, is_whole, owned, part, depth_at, rest_of, around, are_opens, are_closes}
 use Rattle.pm_tokens.specs.Slices.{Slice, is_slice, content_end, slice_tokens, slice_size, slice_owned, closed_over}
-use Rattle.pm_tokens.proofs.ScanLaws.{and-both, and-true, unmet-append, unmet-from, level, of-whole, unclosed-append, owned-part, owned-take, owned-drop, opens, closes, opens-append, closes-append, opens-all, closes-all, Whole, whole-of, whole-counts, unclosed-whole}
+use Rattle.pm_tokens.proofs.ScanLaws.{unmet-append, unmet-from, level, of-whole, unclosed-append, owned-part, owned-take, owned-drop, opens, closes, opens-append, closes-append, opens-all, closes-all, Whole, whole-of, whole-counts, unclosed-whole}
 
 -- a list in three pieces, with the places where they meet
 pub record Split {A : Type 0} (xs p q r : List A) (from to : ℕ) : Type 0 where
@@ -75,14 +75,14 @@ slice-is sl h =
     let p₁ = is_whole sl.content in
     let p₂ = nat_le (sl.open_start + sl.open_end) (length sl.content) in
     let p₃ = are_opens (take sl.open_start sl.content) in
-    let a = and-both (p₁ && p₂ && p₃) (are_closes (drop (content_end sl) sl.content)) h in
-    let b = and-both (p₁ && p₂) p₃ a.0 in
-    let c = and-both p₁ p₂ b.0 in
+    let a = and_parts (p₁ && p₂ && p₃) (are_closes (drop (content_end sl) sl.content)) h in
+    let b = and_parts (p₁ && p₂) p₃ a.0 in
+    let c = and_parts p₁ p₂ b.0 in
     record { whole = c.0; within = leb-true (sl.open_start + sl.open_end) (length sl.content) c.1; opens = b.1; closes = a.1 }
 
 pub is-slice : (sl : Slice) → IsSlice sl → is_slice sl ≡ true
 is-slice sl w =
-    and-true _ _ (and-true _ _ (and-true (is_whole sl.content) _ w.whole (le-leb (sl.open_start + sl.open_end) (length sl.content) w.within)) w.opens) w.closes
+    and_from _ _ (and_from _ _ (and_from (is_whole sl.content) _ w.whole (le-leb (sl.open_start + sl.open_end) (length sl.content) w.within)) w.opens) w.closes
 
 module _ (sl : Slice) (w : IsSlice sl) where
   abbrev end : ℕ
@@ -185,7 +185,7 @@ opens-reverse (Close ∷ o) h = absurd (cc)
 opens-reverse (Leaf k a m ∷ o) h = absurd (cc)
 opens-reverse (CodeUnit u m ∷ o) h = absurd (cc)
 
-closes-replicate : (n : ℕ) → are_closes (replicate n Close) ≡ true
+pub closes-replicate : (n : ℕ) → are_closes (replicate n Close) ≡ true
 closes-replicate zero = refl
 closes-replicate (suc n) = closes-replicate n
 

@@ -1,20 +1,11 @@
 -- How the readings go over lists that are joined, and over whole nodes.
 use Rattle.std.specs.Prelude.{◌≡◌, ℕ, ◌+◌, ◌-◌, List, [], ◌∷◌, ◌++◌, length, take, drop, Bool, true, false, ◌&&◌, ◌==◌}
 use Rattle.std.proofs.Math.Bool.{and_assoc}
-use Rattle.std.proofs.lemmas.Bool.{eqb-true, eq-eqb}
+use Rattle.std.proofs.lemmas.Bool.{eqb-true, eq-eqb, and_parts, and_from}
 use Rattle.std.proofs.lemmas.List.{nil_from_length}
 use Rattle.std.proofs.Common.{zero, suc, refl, ap, sym, ◌∙◌, subst, arith}
 use Rattle.pm_tokens.specs.Tokens.{Token, Open, Close, Leaf, CodeUnit}
 use Rattle.pm_tokens.specs.Scan.{Owned, Opening, Closing, Single, Piece, tail_of, head_of, unclosed, unmet, is_whole, owned, plain, joins, part, are_opens, are_closes}
-
-pub and-both : (a b : Bool) → (a && b) ≡ true → (a ≡ true) × (b ≡ true)
-and-both true true h = (refl, refl)
-and-both true false h = absurd (cc)
-and-both false b h = absurd (cc)
-
-pub and-true : (a b : Bool) → a ≡ true → b ≡ true → (a && b) ≡ true
-and-true true b h k = k
-and-true false b h k = h
 
 pub unclosed-append : (s : List ℕ) (xs ys : List Token) → unclosed s (xs ++ ys) ≡ unclosed (unclosed s xs) ys
 unclosed-append s [] ys = refl
@@ -154,11 +145,11 @@ pub record Whole (xs : List Token) : Type 0 where
 
 pub whole-of : (xs : List Token) → is_whole xs ≡ true → Whole xs
 whole-of xs h =
-    let b = and-both (unmet 0 xs == 0) (length (unclosed [] xs) == 0) h in
+    let b = and_parts (unmet 0 xs == 0) (length (unclosed [] xs) == 0) h in
     record { met = eqb-true (unmet 0 xs) 0 b.0; ended = nil_from_length (unclosed [] xs) (eqb-true (length (unclosed [] xs)) 0 b.1) }
 
 pub of-whole : (xs : List Token) → Whole xs → is_whole xs ≡ true
-of-whole xs w = and-true (unmet 0 xs == 0) (length (unclosed [] xs) == 0) (eq-eqb (unmet 0 xs) 0 w.met) (eq-eqb (length (unclosed [] xs)) 0 (ap length w.ended))
+of-whole xs w = and_from (unmet 0 xs == 0) (length (unclosed [] xs) == 0) (eq-eqb (unmet 0 xs) 0 w.met) (eq-eqb (length (unclosed [] xs)) 0 (ap length w.ended))
 
 pub unclosed-whole : (s : List ℕ) (xs : List Token) → Whole xs → unclosed s xs ≡ s
 unclosed-whole s xs w = unclosed-under [] s xs w.met ∙ ap (λ z. z ++ s) w.ended
@@ -195,18 +186,18 @@ module _ (c : ℕ → ℕ → Bool) where
   -- a piece after which the rest joins
   pub joins-put : (s t : List ℕ) (xs : List Token) (ys : List Owned) → joins c s (owned t xs) ≡ true → joins c (unclosed s xs) ys ≡ true → joins c s (owned t xs ++ ys) ≡ true
   joins-put s t xs ys h k =
-      joins-append s (owned t xs) ys ∙ and-true _ _ h (subst (λ z. joins c (unclosed s z) ys ≡ true) (sym (plain-owned t xs)) k)
+      joins-append s (owned t xs) ys ∙ and_from _ _ h (subst (λ z. joins c (unclosed s z) ys ≡ true) (sym (plain-owned t xs)) k)
 
   pub joins-taken : (s t : List ℕ) (xs : List Token) (ys : List Owned) → joins c s (owned t xs ++ ys) ≡ true → (joins c s (owned t xs) ≡ true) × (joins c (unclosed s xs) ys ≡ true)
   joins-taken s t xs ys h =
-      let b = and-both (joins c s (owned t xs)) (joins c (unclosed s (plain (owned t xs))) ys) (sym (joins-append s (owned t xs) ys) ∙ h) in
+      let b = and_parts (joins c s (owned t xs)) (joins c (unclosed s (plain (owned t xs))) ys) (sym (joins-append s (owned t xs) ys) ∙ h) in
       (b.0, subst (λ z. joins c (unclosed s z) ys ≡ true) (plain-owned t xs) b.1)
 
   pub joins-met : (s t : List ℕ) (xs : List Token) → joins c s (owned t xs) ≡ true → unmet (length s) xs ≡ 0
   joins-met s t [] h = refl
   joins-met s t (Open k a m ∷ xs) h = joins-met (k ∷ s) (k ∷ t) xs h
   joins-met [] t (Close ∷ xs) h = absurd (cc)
-  joins-met (k ∷ s) t (Close ∷ xs) h = joins-met s (tail_of t) xs (and-both (c k (head_of t)) (joins c s (owned (tail_of t) xs)) h).1
+  joins-met (k ∷ s) t (Close ∷ xs) h = joins-met s (tail_of t) xs (and_parts (c k (head_of t)) (joins c s (owned (tail_of t) xs)) h).1
   joins-met s t (Leaf k a m ∷ xs) h = joins-met s t xs h
   joins-met s t (CodeUnit u m ∷ xs) h = joins-met s t xs h
 
@@ -216,7 +207,7 @@ module _ (c : ℕ → ℕ → Bool) where
     joins-self s [] h = refl
     joins-self s (Open k a m ∷ xs) h = joins-self (k ∷ s) xs h
     joins-self [] (Close ∷ xs) h = absurd (omega (arith, h))
-    joins-self (k ∷ s) (Close ∷ xs) h = and-true (c k k) (joins c s (owned s xs)) (itself k) (joins-self s xs h)
+    joins-self (k ∷ s) (Close ∷ xs) h = and_from (c k k) (joins c s (owned s xs)) (itself k) (joins-self s xs h)
     joins-self s (Leaf k a m ∷ xs) h = joins-self s xs h
     joins-self s (CodeUnit u m ∷ xs) h = joins-self s xs h
 

@@ -1,13 +1,12 @@
 -- A document is valid exactly where no fault is found, by either reading.
 use Rattle.std.specs.Prelude.{◌≡◌, ℕ, ◌+◌, Bool, true, false, ◌&&◌, not, cond, if◌then◌else◌, nat_le, List, [], ◌∷◌, ◌++◌, length, Option, Some, None}
-use Rattle.std.proofs.lemmas.Bool.{leb-true, le-leb}
+use Rattle.std.proofs.lemmas.Bool.{leb-true, le-leb, and_parts, and_from}
 use Rattle.std.proofs.Common.{refl, ap, sym, subst}
 use Rattle.pm_tokens.specs.Tokens.{Marks, Token, Open, Close, Leaf, CodeUnit, Doc}
 use Rattle.pm_tokens.specs.Schemas.{Schema, max_size, max_depth}
 use Rattle.pm_tokens.specs.Scan.{head_of, unclosed, is_whole, deepest, ends_high, starts_low}
 use Rattle.pm_tokens.specs.Kids.{kids}
 use Rattle.pm_tokens.specs.Faults.{attrs_fit, marks_fit, content_fits, high_of, pair_fits, last_high, StandsIn, Valid, Fault, Large, Deep, Pair, first_some, fault_unless, under, first_fault, first_broken, no_marks, top_fault, fault, token_fits, place_from, top_fits, fault_place}
-use Rattle.pm_tokens.proofs.ScanLaws.{and-both, and-true}
 use Rattle.pm_tokens.proofs.PairLaws.{first-none, none-first, sides}
 use Rattle.pm_tokens.proofs.DepthLaws.{deepest-bounds, depths-bound}
 
@@ -30,15 +29,15 @@ pub record TokenFits (s : Schema) (parent : ℕ) (high : Option Marks) (t : Toke
 
 pub token-fits : (s : Schema) (parent : ℕ) (high : Option Marks) (t : Token) (next : List Token) → token_fits s parent high t next ≡ true → TokenFits s parent high t next
 token-fits s parent high t next h =
-    let a = and-both (attrs_fit s t && marks_fit s parent t && content_fits s t next) (pair_fits high t next) h in
-    let b = and-both (attrs_fit s t && marks_fit s parent t) (content_fits s t next) a.0 in
-    let c = and-both (attrs_fit s t) (marks_fit s parent t) b.0 in
+    let a = and_parts (attrs_fit s t && marks_fit s parent t && content_fits s t next) (pair_fits high t next) h in
+    let b = and_parts (attrs_fit s t && marks_fit s parent t) (content_fits s t next) a.0 in
+    let c = and_parts (attrs_fit s t) (marks_fit s parent t) b.0 in
     record { attrs = c.0; marks = c.1; content = b.1; pair = a.1 }
 
 pub fits-token : (s : Schema) (parent : ℕ) (high : Option Marks) (t : Token) (next : List Token) → TokenFits s parent high t next → token_fits s parent high t next ≡ true
 fits-token s parent high t next w =
-    and-true (attrs_fit s t && marks_fit s parent t && content_fits s t next) (pair_fits high t next)
-    (and-true (attrs_fit s t && marks_fit s parent t) (content_fits s t next) (and-true (attrs_fit s t) (marks_fit s parent t) w.attrs w.marks) w.content) w.pair
+    and_from (attrs_fit s t && marks_fit s parent t && content_fits s t next) (pair_fits high t next)
+    (and_from (attrs_fit s t && marks_fit s parent t) (content_fits s t next) (and_from (attrs_fit s t) (marks_fit s parent t) w.attrs w.marks) w.content) w.pair
 
 module _ (s : Schema) where
   -- each token of the list has no fault where it stands
@@ -64,8 +63,8 @@ module _ (s : Schema) where
 -- a valid document's parts
 pub valid-top : (s : Schema) (d : Doc) → Valid s d → top_fits s d ≡ true
 valid-top s d v =
-    and-true (s.node_attrs d.kind d.attrs && no_marks d.marks) (s.accepts d.kind (kids s.text 0 None d.tokens))
-    (and-true (s.node_attrs d.kind d.attrs) (no_marks d.marks) v.top_attrs (ap no_marks v.top_marks)) v.top_content
+    and_from (s.node_attrs d.kind d.attrs && no_marks d.marks) (s.accepts d.kind (kids s.text 0 None d.tokens))
+    (and_from (s.node_attrs d.kind d.attrs) (no_marks d.marks) v.top_attrs (ap no_marks v.top_marks)) v.top_content
 
 pub valid-tokens : (s : Schema) (d : Doc) → Valid s d → place_from s (d.kind ∷ []) None d.tokens ≡ None
 valid-tokens s d v = each-place s (d.kind ∷ []) None d.tokens (λ before t behind e. record {
@@ -89,8 +88,8 @@ valid-depth s d v = le-leb (deepest 0 d.tokens) max_depth (depths-bound max_dept
 pub place-valid : (s : Schema) (d : Doc) → is_whole d.tokens ≡ true → nat_le (length d.tokens) max_size ≡ true → nat_le (deepest 0 d.tokens) max_depth ≡ true → fault_place s d ≡ None → Valid s d
 place-valid s d w l p h =
     let f = first-none (top_fits s d) (place_from s (d.kind ∷ []) None d.tokens) h in
-    let a = and-both (s.node_attrs d.kind d.attrs && no_marks d.marks) (s.accepts d.kind (kids s.text 0 None d.tokens)) f.0 in
-    let b = and-both (s.node_attrs d.kind d.attrs) (no_marks d.marks) a.0 in
+    let a = and_parts (s.node_attrs d.kind d.attrs && no_marks d.marks) (s.accepts d.kind (kids s.text 0 None d.tokens)) f.0 in
+    let b = and_parts (s.node_attrs d.kind d.attrs) (no_marks d.marks) a.0 in
     let each = place-each s (d.kind ∷ []) None d.tokens f.1 in
     record {
       whole = w;
@@ -107,23 +106,23 @@ place-valid s d w l p h =
 
 -- ---- the first fault, sizes and pairs before the rest
 
-some-none : {A : Type 0} (x y : Option A) → first_some x y ≡ None → (x ≡ None) × (y ≡ None)
+pub some-none : {A : Type 0} (x y : Option A) → first_some x y ≡ None → (x ≡ None) × (y ≡ None)
 some-none None y h = (refl, h)
 some-none (Some x) y h = absurd (cc)
 
-none-some : {A : Type 0} (x y : Option A) → x ≡ None → y ≡ None → first_some x y ≡ None
+pub none-some : {A : Type 0} (x y : Option A) → x ≡ None → y ≡ None → first_some x y ≡ None
 none-some x y h k = rw h k
 
-unless-none : (a m c : Bool) (at : ℕ) → fault_unless a m c at ≡ None → (a ≡ true) × (m ≡ true) × (c ≡ true)
+pub unless-none : (a m c : Bool) (at : ℕ) → fault_unless a m c at ≡ None → (a ≡ true) × (m ≡ true) × (c ≡ true)
 unless-none true true true at h = (refl, refl, refl)
 unless-none true true false at h = absurd (cc)
 unless-none true false c at h = absurd (cc)
 unless-none false m c at h = absurd (cc)
 
-none-unless : (a m c : Bool) (at : ℕ) → a ≡ true → m ≡ true → c ≡ true → fault_unless a m c at ≡ None
+pub none-unless : (a m c : Bool) (at : ℕ) → a ≡ true → m ≡ true → c ≡ true → fault_unless a m c at ≡ None
 none-unless a m c at h k l = rw (h, k, l) refl
 
-broken-none : (b : Bool) (x : Option Fault) (at : ℕ) → cond b x (Some (Pair at)) ≡ None → (b ≡ true) × (x ≡ None)
+pub broken-none : (b : Bool) (x : Option Fault) (at : ℕ) → cond b x (Some (Pair at)) ≡ None → (b ≡ true) × (x ≡ None)
 broken-none true x at h = (refl, h)
 broken-none false x at h = absurd (cc)
 
@@ -165,7 +164,7 @@ fault-valid s d w h =
     let u = unless-none (s.node_attrs d.kind d.attrs) (no_marks d.marks) (s.accepts d.kind (kids s.text 0 None d.tokens)) 0 b.0 in
     place-valid s d w z.0 z.1
     (none-first (top_fits s d) (place_from s (d.kind ∷ []) None d.tokens)
-    (and-true (s.node_attrs d.kind d.attrs && no_marks d.marks) (s.accepts d.kind (kids s.text 0 None d.tokens)) (and-true (s.node_attrs d.kind d.attrs) (no_marks d.marks) u.0 u.1) u.2)
+    (and_from (s.node_attrs d.kind d.attrs && no_marks d.marks) (s.accepts d.kind (kids s.text 0 None d.tokens)) (and_from (s.node_attrs d.kind d.attrs) (no_marks d.marks) u.0 u.1) u.2)
     (none-readings s (d.kind ∷ []) None 1 d.tokens b.1 a.0))
 
 -- beside a position of a valid document that parts no pair stands no half of a pair

@@ -1,8 +1,8 @@
 use Rattle.std.proofs.Common.{◌≡◌, ◌∙◌, arith}
 use Rattle.pm_tokens.specs.Scan.{depth_at}
-use Rattle.pm_edit.proofs.BalanceLaws.{depth-as}
 use Rattle.pm_edit.proofs.MeetLaws.{depth-bound}
 use Rattle.pm_edit.proofs.places.depth_at.Goals as goal
+use Rattle.pm_fit.proofs.HollowLaws.{depth-as}
 
 pub returns-clause-bound : goal.returns-clause-bound
 returns-clause-bound c =

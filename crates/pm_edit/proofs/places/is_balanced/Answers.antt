@@ -1,7 +1,8 @@
 use Rattle.std.proofs.Common.{◌≡◌, ◌∙◌}
 use Rattle.pm_tokens.specs.Scan.{depth_at, shared_depth}
-use Rattle.pm_edit.proofs.BalanceLaws.{balanced-then, balanced-else, shared-as, depth-as}
+use Rattle.pm_edit.proofs.BalanceLaws.{balanced-then, balanced-else, shared-as}
 use Rattle.pm_edit.proofs.places.is_balanced.Goals as goal
+use Rattle.pm_fit.proofs.HollowLaws.{depth-as}
 
 pub returns-then-inner-shared : goal.returns-then-inner-shared
 returns-then-inner-shared c =

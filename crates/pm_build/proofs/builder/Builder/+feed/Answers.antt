@@ -9,11 +9,12 @@ use Rattle.pm_schema.specs.Documents.{documents_of}
 use Rattle.pm_build.proofs.SpanLaws.{part-clipped, first-within, first-skip, last-within, in-one, in-order, run-whole, run-one, run-first, run-length}
 use Rattle.pm_build.proofs.FeedSpan.{appended-run, refused-run, room-run, appended-between, fed-between, refused-between, room-between}
 use Rattle.pm_node.proofs.WalkLaws.{child-within, front}
-use Rattle.pm_build.proofs.FedLaws.{fed_err, appended-none, appended-whole, appended-text, fed-node, refused-node, room-node, compatible-refl}
+use Rattle.pm_build.proofs.FedLaws.{fed_err, appended-none, appended-whole, appended-text, fed-node, refused-node, room-node}
 use Rattle.pm_tokens.proofs.ScanLaws.{length-owned}
 use Rattle.pm_tokens.proofs.ListLaws.{part_none, part_past, part_all}
 use Rattle.pm_node.proofs.TreeLaws.{node_tokens_at}
 use Rattle.pm_build.proofs.builder.Builder.+feed.Goals as goal
+use Rattle.pm_tokens.proofs.SchemaLaws.{compatible-itself}
 
 pub feed-returns-then-end-from : goal.feed-returns-then-end-from
 feed-returns-then-end-from t c =
@@ -75,7 +76,7 @@ feed_between-returns t c =
 pub feed_rest-returns-then-skip-eq0 : goal.feed_rest-returns-then-skip-eq0
 feed_rest-returns-then-skip-eq0 t c =
     let run = list_tokens (part c.args.index c.args.end c.args.nodes.now) in
-    subst (λ k. Appended (compatible (documents_of c.args.schema.now.spec)) c.args.self.now (drop k (owned [] run)) c.append.new.self) (sym c.if-skip-eq0.true) (appended-whole _ (compatible-refl (documents_of c.args.schema.now.spec)) _ run _ (run-whole c.args.nodes.now c.args.index c.args.end c.requires.each) c.in_ok-append.ensures)
+    subst (λ k. Appended (compatible (documents_of c.args.schema.now.spec)) c.args.self.now (drop k (owned [] run)) c.append.new.self) (sym c.if-skip-eq0.true) (appended-whole _ (compatible-itself (documents_of c.args.schema.now.spec)) _ run _ (run-whole c.args.nodes.now c.args.index c.args.end c.requires.each) c.in_ok-append.ensures)
 
 pub feed_rest-feed_child-requires : goal.feed_rest-feed_child-requires
 feed_rest-feed_child-requires t c =
@@ -112,7 +113,7 @@ feed_rest-returns t c =
     let h : c.args.index < length xs = omega (arith, c.requires.order, c.requires.within) in
     let size = c.size.ensures.size ∙ ap (λ n. length (node_tokens n)) c.deref.ensures in
     let skip : c.args.skip ≤ length (node_tokens (arc_value c.get-child.result.now)) = omega (arith, c.requires.inside, ap length (run-one xs c.args.index c.get-child.result.now h c.get-child.ensures)) in
-    appended-run _ _ _ xs c.args.index c.args.end c.args.skip c.get-child.result.now c.requires.normal c.requires.each c.requires.order h c.get-child.ensures skip (compatible-refl (documents_of c.args.schema.now.spec)) (rw size at c.in_ok-feed_child.ensures) _ c.in_ok-append-2.ensures
+    appended-run _ _ _ xs c.args.index c.args.end c.args.skip c.get-child.result.now c.requires.normal c.requires.each c.requires.order h c.get-child.ensures skip (compatible-itself (documents_of c.args.schema.now.spec)) (rw size at c.in_ok-feed_child.ensures) _ c.in_ok-append-2.ensures
 
 pub feed_child-returns-then-to-from : goal.feed_child-returns-then-to-from
 feed_child-returns-then-to-from t c =
@@ -131,7 +132,7 @@ feed_child-returns-then-size-to t c =
     let n : c.size-size.result ≡ length ts = c.size-size.ensures.size ∙ ap (λ m. length (node_tokens m)) c.deref.ensures in
     let e : part c.args.from c.args.to (owned [] ts) ≡ owned [] ts = part_all c.args.from c.args.to (owned [] ts) c.if-from-eq0.true (omega (arith, n, length-owned [] ts)) in
     let bal = subst (λ m. Balanced (node_tokens m)) c.deref.ensures c.size-size.ensures.whole in
-    subst (λ p. Appended (compatible (documents_of c.args.schema.now.spec)) c.args.self.now p c.push.new.self) (sym e) (appended-whole _ (compatible-refl (documents_of c.args.schema.now.spec)) _ ts _ bal (c.in_ok-push.ensures ∙ ap (λ z. c.args.self.now ++ node_tokens z) c.in_ok-node.ensures))
+    subst (λ p. Appended (compatible (documents_of c.args.schema.now.spec)) c.args.self.now p c.push.new.self) (sym e) (appended-whole _ (compatible-itself (documents_of c.args.schema.now.spec)) _ ts _ bal (c.in_ok-push.ensures ∙ ap (λ z. c.args.self.now ++ node_tokens z) c.in_ok-node.ensures))
 
 pub feed_part-returns-in_err-feed-in-Children : goal.feed_part-returns-in_err-feed-in-Children
 feed_part-returns-in_err-feed-in-Children t c =

@@ -2,10 +2,11 @@ use Rattle.std.proofs.Common.{◌≡◌, ◌∙◌, ap, arith, ◌++◌, length,
 use Rattle.std.proofs.lemmas.Result.{IfOk-equal}
 use Rattle.pm_tokens.specs.Scan.{part}
 use Rattle.pm_tokens.specs.Kids.{text_tokens}
-use Rattle.pm_build.proofs.FedLaws.{part_clip, length-part}
+use Rattle.pm_build.proofs.FedLaws.{part_clip}
 use Rattle.pm_node.proofs.TreeLaws.{length-text_tokens}
 use Rattle.pm_build.proofs.builder.Builder.feed_text.Goals as goal
 use Rattle.pm_build.proofs.builder.Builder.feed_text.Goals.{After-push_copy-arg-1}
+use Rattle.pm_tokens.proofs.OwnedParts.{length-part}
 
 cut_is : (c : After-push_copy-arg-1) → c.in_ok-units.units ≡ part c.args.from c.args.to c.args.units.now
 cut_is c =
