@@ -1,17 +1,17 @@
 -- The part of a content around a gap as a slice, made of the whole part by taking the gap out.
 use Rattle.std.specs.Prelude.{◌≡◌, ℕ, ◌+◌, ◌-◌, ◌≤◌, Bool, true, false, cond, ◌==◌, List, [], ◌∷◌, ◌++◌, length, take, drop, reverse, replicate}
-use Rattle.std.proofs.Common.{zero, suc, refl, ap, sym, ◌∙◌, subst, arith, append_assoc, length-append, length-take}
+use Rattle.std.proofs.Common.{refl, ap, sym, ◌∙◌, subst, arith, append_assoc, length-append, length-take}
 use Rattle.std.proofs.lemmas.Bool.{eqb-true}
 use Rattle.std.proofs.lemmas.List.{length-reverse}
 use Rattle.pm_tokens.specs.Tokens.{Token, Close}
-use Rattle.pm_tokens.specs.Scan.{Balanced, unclosed, unmet, is_whole, owned, plain, joins, part, depth_at, around}
+use Rattle.pm_tokens.specs.Scan.{Balanced, unclosed, unmet, is_whole, owned, plain, joins, part, around}
 use Rattle.pm_tokens.specs.Schemas.{Schema, compatible}
 use Rattle.pm_tokens.specs.Slices.{Slice, is_slice, content_end, slice_size, slice_tokens, spliced, cut, cut_around, closed_over, depths_fit}
 use Rattle.pm_tokens.proofs.ScanLaws.{Whole, whole-of, unmet-append, unclosed-append, unmet-from, unclosed-whole, owned-append, plain-owned}
 use Rattle.pm_tokens.proofs.BalanceLaws.{balanced-whole, whole-balanced, joins-balanced}
 use Rattle.pm_tokens.proofs.SchemaLaws.{compatible-itself}
 use Rattle.pm_tokens.proofs.CutLaws.{around-length}
-use Rattle.pm_tokens.proofs.PartLaws.{Split, split-part, owned-front, owned-back, depth-from, depth-to, slice-is, cut-slice, cut-size, Pieces, pieces-at, pieces-length}
+use Rattle.pm_tokens.proofs.PartLaws.{Split, split-part, owned-front, owned-back, depth-from, depth-to, slice-is, cut-slice, cut-size, Pieces, pieces-at}
 use Rattle.pm_tokens.proofs.SpliceLaws.{part-front, part-rest}
 use Rattle.pm_tokens.proofs.Restored.{cut-within, Stands, stands}
 use Rattle.pm_meaning.proofs.ReplaceLaws.{of-depths}

@@ -1,9 +1,9 @@
 -- What the tests of a replaceAround, in their order, say of its outcome.
-use Rattle.std.specs.Prelude.{◌≡◌, ℕ, ◌≤◌, Bool, true, false, ◌&&◌, nat_le, List, [], ◌∷◌, length, take, drop, Result, Ok, Err}
-use Rattle.std.proofs.Common.{refl, ap, sym, ◌∙◌}
+use Rattle.std.specs.Prelude.{◌≡◌, ℕ, ◌≤◌, Bool, true, false, ◌&&◌, nat_le, List, [], ◌∷◌, length, Result, Err}
+use Rattle.std.proofs.Common.{◌∙◌}
 use Rattle.std.proofs.lemmas.Bool.{leb-true, and_parts}
 use Rattle.pm_tokens.specs.Tokens.{Token, Doc}
-use Rattle.pm_tokens.specs.Scan.{closes_then_opens, is_whole, part}
+use Rattle.pm_tokens.specs.Scan.{is_whole, part}
 use Rattle.pm_tokens.specs.Schemas.{Schema}
 use Rattle.pm_tokens.specs.Slices.{Slice, is_slice, slice_size, slice_tokens, spliced_around, depths_fit}
 use Rattle.pm_meaning.specs.declared.reason.Reason.{Reason}

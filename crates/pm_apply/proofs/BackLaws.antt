@@ -5,7 +5,6 @@ use Rattle.pm_tokens.specs.Tokens.{Token, Doc, with_tokens}
 use Rattle.pm_tokens.specs.Schemas.{Schema}
 use Rattle.pm_tokens.specs.Faults.{Valid}
 use Rattle.pm_tokens.specs.Scan.{parts_pair}
-use Rattle.pm_meaning.specs.Steps.{Step}
 use Rattle.pm_meaning.specs.Inverses.{same_tokens, gives, one_or_runs, inverse}
 use Rattle.pm_meaning.specs.Outcomes.{outcome}
 use Rattle.pm_meaning.specs.Runs.{run_steps, close_run}
@@ -17,7 +16,7 @@ use Rattle.pm_apply.specs.declared.marking.Reach.TheVariants.{Inline}
 use Rattle.pm_apply.specs.Markings.{marked_in, new_marks, opposite, range_step, node_step}
 use Rattle.pm_apply.specs.Backs.{marked_twice}
 use Rattle.pm_apply.specs.Walks.{due_all, run_after, Took, run_of, place_step}
-use Rattle.pm_apply.proofs.MarkedLaws.{read, read-is, read-length}
+use Rattle.pm_apply.proofs.MarkedLaws.{read-is, read-length}
 use Rattle.pm_apply.proofs.MarkOutcomes.{range-checked}
 use Rattle.pm_apply.proofs.SameTokens.{checked-gives}
 use Rattle.pm_apply.proofs.TwiceLaws.{pairs-kept}

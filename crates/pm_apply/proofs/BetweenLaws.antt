@@ -2,17 +2,16 @@
 use Rattle.std.specs.Prelude.{◌≡◌, ℕ, ◌+◌, ◌-◌, ◌≤◌, ◌<◌, min, List, [], ◌∷◌, ◌++◌, length, take, drop, get_or}
 use Rattle.std.specs.declared.sync.Arc.{Arc}
 use Rattle.std.specs.Arc.{arc_value}
-use Rattle.std.proofs.Common.{zero, suc, inl, inr, ◌⊎◌, refl, ap, sym, ◌∙◌, subst, arith, length-append}
+use Rattle.std.proofs.Common.{zero, suc, inl, inr, ◌⊎◌, refl, ap, sym, ◌∙◌, arith, length-append}
 use Rattle.std.proofs.lemmas.Bool.{cases_lt}
 use Rattle.std.proofs.lemmas.List.{append-nil, drop_all, take-append-drop}
-use Rattle.pm_tokens.specs.Scan.{Balanced, none, part}
-use Rattle.pm_tokens.proofs.BalanceLaws.{balanced-append}
+use Rattle.pm_tokens.specs.Scan.{part}
 use Rattle.pm_tokens.proofs.PartLaws.{drop-part}
 use Rattle.pm_node.specs.declared.node.Node.{Node}
-use Rattle.pm_node.specs.Trees.{node_tokens, list_tokens, EachWhole}
+use Rattle.pm_node.specs.Trees.{node_tokens, list_tokens}
 use Rattle.pm_node.specs.Among.{Stands}
 use Rattle.pm_node.proofs.TreeLaws.{list_tokens-append}
-use Rattle.pm_node.proofs.WalkLaws.{front, rest, rest-end, whole-node}
+use Rattle.pm_node.proofs.WalkLaws.{front, rest, rest-end}
 use Rattle.pm_apply.specs.Between.{IsBetween}
 
 -- ---- the children before one, and those from one on

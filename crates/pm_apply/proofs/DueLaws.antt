@@ -1,9 +1,9 @@
 -- The steps that are due at tokens, for one part of them after another.
 use Rattle.std.specs.Prelude.{◌≡◌, ℕ, ◌+◌, ◌<◌, Bool, true, false, not, List, [], ◌∷◌, ◌++◌, length, Option, Some, None}
-use Rattle.std.proofs.Common.{zero, suc, refl, ap, sym, ◌∙◌, arith, append_assoc}
+use Rattle.std.proofs.Common.{suc, refl, ap, sym, ◌∙◌, arith, append_assoc}
 use Rattle.pm_attrs.specs.Attrs.{same_attrs}
 use Rattle.pm_marks.specs.Sets.{same_marks}
-use Rattle.pm_tokens.specs.Tokens.{Marks, Token, CodeUnit, marks_of}
+use Rattle.pm_tokens.specs.Tokens.{Marks, Token, marks_of}
 use Rattle.pm_tokens.specs.Kids.{text_tokens}
 use Rattle.pm_tokens.specs.Schemas.{Schema}
 use Rattle.pm_tokens.proofs.MarkLaws.{marks-equal, marks-itself}

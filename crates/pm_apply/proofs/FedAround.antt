@@ -4,7 +4,7 @@ use Rattle.std.proofs.Common.{refl, ap, sym, ◌∙◌, subst, arith, append_ass
 use Rattle.pm_tokens.specs.Tokens.{Token}
 use Rattle.pm_tokens.specs.Scan.{Owned, unclosed, owned, plain, joins, part, Balanced}
 use Rattle.pm_tokens.specs.Slices.{Slice, is_slice, slice_size, content_end, spliced_around}
-use Rattle.pm_tokens.proofs.ScanLaws.{length-owned, whole-of}
+use Rattle.pm_tokens.proofs.ScanLaws.{whole-of}
 use Rattle.pm_tokens.proofs.BalanceLaws.{balanced-whole}
 use Rattle.pm_tokens.proofs.PartLaws.{slice-is}
 use Rattle.pm_tokens.proofs.OwnedParts.{length-part}

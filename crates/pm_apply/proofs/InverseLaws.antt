@@ -1,12 +1,12 @@
 -- What a step that applies tells of its positions.
-use Rattle.std.specs.Prelude.{◌≡◌, ℕ, ◌≤◌, Bool, true, false, ◌&&◌, not, nat_le, List, [], ◌∷◌, length, drop, Some, IsSome, Ok}
-use Rattle.std.proofs.Common.{refl, ap, sym, ◌∙◌}
+use Rattle.std.specs.Prelude.{◌≡◌, ℕ, ◌≤◌, Bool, true, false, not, List, [], ◌∷◌, length, drop, IsSome, Ok}
+use Rattle.std.proofs.Common.{refl}
 use Rattle.pm_tokens.specs.Tokens.{Marks, Token, Open, Close, Leaf, CodeUnit, Doc}
 use Rattle.pm_tokens.specs.Schemas.{Schema}
 use Rattle.pm_tokens.specs.Scan.{parts_pair}
 use Rattle.pm_tokens.specs.Slices.{Slice}
 use Rattle.pm_tokens.proofs.PartLaws.{is-slice}
-use Rattle.pm_meaning.specs.Steps.{Step, Replace, ReplaceAround}
+use Rattle.pm_meaning.specs.Steps.{Replace, ReplaceAround}
 use Rattle.pm_meaning.specs.declared.reason.Reason.TheVariants.{Range, Pair, NoNode}
 use Rattle.pm_meaning.specs.Marked.{add, remove, mark_added, mark_removed, marked, node_marked, starts_node}
 use Rattle.pm_meaning.specs.Outcomes.{in_order, parts_no_pair, and_unless, checked, range_outcome, node_outcome, outcome}

@@ -1,16 +1,15 @@
 -- What the tests of a mark step, in their order, say of its outcome.
-use Rattle.std.specs.Prelude.{◌≡◌, ℕ, ◌+◌, ◌-◌, ◌≤◌, ◌<◌, Bool, true, false, ◌&&◌, not, nat_le, List, [], ◌∷◌, ◌++◌, length, take, drop, Option, Some, None, IsSome, Result, Ok, Err}
+use Rattle.std.specs.Prelude.{◌≡◌, ℕ, ◌+◌, ◌-◌, ◌≤◌, ◌<◌, Bool, true, false, ◌&&◌, nat_le, List, [], ◌∷◌, ◌++◌, length, take, drop, None, IsSome, Result, Ok, Err}
 use Rattle.std.proofs.Common.{zero, suc, refl, ap, sym, ◌∙◌, arith}
 use Rattle.std.proofs.lemmas.Bool.{leb-true, le-leb, lt-leb, and_from}
 use Rattle.std.proofs.lemmas.List.{take-append-drop}
 use Rattle.pm_tokens.specs.Tokens.{Marks, Token, Open, Close, Leaf, CodeUnit, Doc, with_tokens}
-use Rattle.pm_tokens.specs.Scan.{unclosed, part, parts_pair}
+use Rattle.pm_tokens.specs.Scan.{unclosed, parts_pair}
 use Rattle.pm_tokens.specs.Schemas.{Schema}
 use Rattle.pm_tokens.specs.Faults.{Valid}
 use Rattle.pm_tokens.proofs.ListLaws.{drop-nil}
 use Rattle.pm_meaning.specs.declared.reason.Reason.{Reason}
 use Rattle.pm_meaning.specs.declared.reason.Reason.TheVariants.{Range, Pair, NoNode}
-use Rattle.pm_meaning.specs.Steps.{Step}
 use Rattle.pm_meaning.specs.Marked.{with_marks, marked, starts_node, with_node_marks, node_marked}
 use Rattle.pm_meaning.specs.Outcomes.{unless, and_unless, in_order, parts_no_pair, checked, outcome, range_outcome, node_outcome}
 use Rattle.pm_meaning.proofs.OutcomeLaws.{valid-checks}

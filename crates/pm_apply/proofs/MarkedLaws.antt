@@ -1,7 +1,7 @@
 -- Tokens with the marks in a range changed, read one after another.
-use Rattle.std.specs.Prelude.{◌≡◌, ℕ, ◌+◌, ◌-◌, ◌≤◌, ◌<◌, List, [], ◌∷◌, ◌++◌, length, take, drop}
-use Rattle.std.proofs.Common.{zero, suc, refl, ap, sym, ◌∙◌, arith, length-append}
-use Rattle.pm_tokens.specs.Tokens.{Attrs, Marks, Token, Open, Close, Leaf, CodeUnit, marks_of}
+use Rattle.std.specs.Prelude.{◌≡◌, ℕ, ◌-◌, ◌≤◌, List, [], ◌∷◌, ◌++◌, length, take, drop}
+use Rattle.std.proofs.Common.{zero, suc, refl, ap, sym, ◌∙◌, arith}
+use Rattle.pm_tokens.specs.Tokens.{Attrs, Marks, Token, Open, Close, Leaf, CodeUnit}
 use Rattle.pm_tokens.specs.Kids.{text_tokens}
 use Rattle.pm_tokens.specs.Faults.{under}
 use Rattle.pm_tokens.specs.Scan.{head_of, unclosed, part, Balanced}

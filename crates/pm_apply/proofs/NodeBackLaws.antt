@@ -1,6 +1,6 @@
 -- The inverse of a step that changes the marks of one node: the one step, or the steps that give the marks back.
 use Rattle.std.specs.Prelude.{◌≡◌, ℕ, ◌≤◌, Bool, true, false, cond, ◌&&◌, not, nat_le, List, [], ◌∷◌, ◌++◌, length, take, drop, Some, Result, Ok, Err}
-use Rattle.std.proofs.Common.{refl, ap, sym, ◌∙◌, subst, arith, length-append, length-take}
+use Rattle.std.proofs.Common.{refl, ap, sym, ◌∙◌, arith, length-append, length-take}
 use Rattle.std.proofs.lemmas.Bool.{le-leb, and_from}
 use Rattle.std.proofs.lemmas.List.{take_at, drop_at, take-append-drop}
 use Rattle.pm_attrs.specs.Attrs.{same_attrs}
@@ -11,10 +11,9 @@ use Rattle.pm_tokens.specs.Faults.{Valid}
 use Rattle.pm_tokens.specs.Scan.{ends_high, starts_low, parts_pair}
 use Rattle.pm_meaning.specs.declared.reason.Reason.{Reason}
 use Rattle.pm_meaning.specs.declared.reason.Reason.TheVariants.{Range, Pair, NoNode}
-use Rattle.pm_meaning.specs.Steps.{Step}
 use Rattle.pm_meaning.specs.Marked.{starts_node, with_node_marks, node_marked}
 use Rattle.pm_meaning.specs.Inverses.{same_token, same_tokens, gives, node_marks, one_or, inverse}
-use Rattle.pm_meaning.specs.Outcomes.{and_unless, in_order, parts_no_pair, checked, outcome, node_outcome}
+use Rattle.pm_meaning.specs.Outcomes.{and_unless, parts_no_pair, checked, outcome, node_outcome}
 use Rattle.pm_meaning.specs.Runs.{node_steps}
 use Rattle.pm_apply.specs.declared.marking.Marking.{Marking}
 use Rattle.pm_apply.specs.declared.marking.Marking.TheVariants.{Add, Remove}

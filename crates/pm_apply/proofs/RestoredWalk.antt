@@ -5,7 +5,7 @@ use Rattle.std.specs.Arc.{arc_value}
 use Rattle.std.proofs.Common.{inl, inr, refl, ap, sym, ◌∙◌, subst, arith, length-append}
 use Rattle.pm_attrs.specs.Attrs.{same_attrs}
 use Rattle.pm_marks.specs.Sets.{same_marks}
-use Rattle.pm_tokens.specs.Tokens.{Marks, Token, Open, Close, Leaf, CodeUnit}
+use Rattle.pm_tokens.specs.Tokens.{Marks, Token, Open, Leaf, CodeUnit}
 use Rattle.pm_tokens.specs.Scan.{Balanced}
 use Rattle.pm_tokens.specs.Schemas.{Schema}
 use Rattle.pm_tokens.proofs.BalanceLaws.{balanced-append}

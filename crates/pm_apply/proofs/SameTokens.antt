@@ -1,18 +1,18 @@
 -- The test for equal tokens.
 use Rattle.std.specs.Prelude.{◌≡◌, ℕ, Bool, true, false, ◌&&◌, ◌==◌, List, [], ◌∷◌, ◌++◌, length, Result, Ok, Err}
 use Rattle.std.proofs.Common.{refl, ap, sym, ◌∙◌, arith}
-use Rattle.std.proofs.lemmas.Bool.{eqb-true, eq-eqb, and_parts, and_from}
+use Rattle.std.proofs.lemmas.Bool.{eq-eqb, and_from}
 use Rattle.pm_attrs.specs.Attrs.{same_attrs}
 use Rattle.pm_marks.specs.Sets.{same_marks}
 use Rattle.pm_tokens.specs.Tokens.{Attrs, Marks, Token, Open, Close, Leaf, CodeUnit, Doc, with_tokens}
 use Rattle.pm_tokens.specs.Schemas.{Schema}
 use Rattle.pm_tokens.specs.Faults.{Valid}
-use Rattle.pm_tokens.proofs.MarkLaws.{attrs-equal, attrs-itself, marks-equal, marks-itself}
+use Rattle.pm_tokens.proofs.MarkLaws.{attrs-itself, marks-itself}
 use Rattle.pm_meaning.specs.declared.reason.Reason.{Reason}
 use Rattle.pm_meaning.specs.Inverses.{same_token, same_tokens, gives}
 use Rattle.pm_meaning.specs.Outcomes.{checked}
 use Rattle.pm_meaning.proofs.OutcomeLaws.{valid-checks, checked-ok}
-use Rattle.pm_meaning.proofs.MarkStepLaws.{same-token, same-tokens}
+use Rattle.pm_meaning.proofs.MarkStepLaws.{same-tokens}
 
 -- ---- conjunctions
 

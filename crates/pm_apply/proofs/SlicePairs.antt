@@ -1,9 +1,9 @@
 -- A place in a slice parts a pair of its tokens where it parts one of its content.
-use Rattle.std.specs.Prelude.{◌≡◌, ℕ, ◌+◌, ◌-◌, ◌≤◌, ◌&&◌, true, false, List, [], ◌∷◌, ◌++◌, length, take, drop}
-use Rattle.std.proofs.Common.{refl, ap, sym, ◌∙◌, subst, arith, append_assoc, length-append, length-take}
+use Rattle.std.specs.Prelude.{◌≡◌, ℕ, ◌+◌, ◌≤◌, ◌&&◌, true, false, List, [], ◌∷◌, ◌++◌, take, drop}
+use Rattle.std.proofs.Common.{refl, ap, sym, ◌∙◌, arith, append_assoc, length-take}
 use Rattle.std.proofs.lemmas.List.{append-nil, take-append-drop}
 use Rattle.pm_tokens.specs.Tokens.{Token, Open, Close, Leaf, CodeUnit}
-use Rattle.pm_tokens.specs.Scan.{part, parts_pair, ends_high, starts_low, are_opens, are_closes}
+use Rattle.pm_tokens.specs.Scan.{parts_pair, ends_high, starts_low, are_opens, are_closes}
 use Rattle.pm_tokens.specs.Slices.{Slice, is_slice, content_end, slice_tokens, slice_size}
 use Rattle.pm_tokens.proofs.PairLaws.{high-last, low-first}
 use Rattle.pm_tokens.proofs.PartLaws.{Split, slice-is, slice-split, slice-length, split-fronts, split-back}

@@ -1,9 +1,9 @@
 -- Tokens are closes and then opens exactly where none of them meets another, by counting.
-use Rattle.std.specs.Prelude.{◌≡◌, ℕ, ◌+◌, ◌≤◌, ◌<◌, ◌==◌, Bool, true, false, List, [], ◌∷◌, length}
-use Rattle.std.proofs.Common.{zero, suc, refl, ap, sym, ◌∙◌, arith}
+use Rattle.std.specs.Prelude.{◌≡◌, ℕ, ◌+◌, ◌≤◌, ◌==◌, Bool, true, false, List, [], ◌∷◌, length}
+use Rattle.std.proofs.Common.{suc, refl, ap, sym, ◌∙◌, arith}
 use Rattle.std.proofs.lemmas.Bool.{eqb-true, eq-eqb, ne_eqb}
 use Rattle.pm_tokens.specs.Tokens.{Token, Open, Close, Leaf, CodeUnit}
-use Rattle.pm_tokens.specs.Scan.{tail_of, unclosed, unmet, are_opens, closes_then_opens}
+use Rattle.pm_tokens.specs.Scan.{unclosed, unmet, are_opens, closes_then_opens}
 
 -- no more tokens are left open, or meet no open, than there are
 sides-le : (s : List ℕ) (ts : List Token) → unmet (length s) ts + length (unclosed s ts) ≤ length s + length ts

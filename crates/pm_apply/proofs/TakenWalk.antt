@@ -2,7 +2,7 @@
 use Rattle.std.specs.Prelude.{◌≡◌, ℕ, ◌+◌, ◌-◌, ◌≤◌, ◌<◌, Bool, true, List, [], ◌∷◌, ◌++◌, length, take, drop, get_or, min, None, Result, Ok, Err, OnOk}
 use Rattle.std.specs.declared.sync.Arc.{Arc}
 use Rattle.std.specs.Arc.{arc_value}
-use Rattle.std.proofs.Common.{zero, suc, inl, inr, refl, ap, sym, ◌∙◌, subst, arith, append_assoc, length-append, length-take, length-drop}
+use Rattle.std.proofs.Common.{zero, suc, inl, inr, refl, ap, sym, ◌∙◌, subst, arith, length-append, length-take, length-drop}
 use Rattle.std.proofs.lemmas.Bool.{cases_lt}
 use Rattle.std.proofs.lemmas.List.{take-append-drop}
 use Rattle.pm_tokens.specs.Tokens.{Marks, Token, Open, Close, Leaf, CodeUnit}
@@ -27,7 +27,7 @@ use Rattle.pm_apply.specs.Walks.{Took, run_of}
 use Rattle.pm_apply.proofs.BetweenLaws.{front-rest, behind-range}
 use Rattle.pm_apply.proofs.MarkedLaws.{read, read-is, read-none, read-past, read-nodes, read-node, read-length, in_range}
 use Rattle.pm_apply.proofs.MarkedNodes.{marked-none, marked-past, marked-text, marked-leaf}
-use Rattle.pm_apply.proofs.DueLaws.{differ, due-same, after-same, Due, due-start, due-both, due-units, due-token}
+use Rattle.pm_apply.proofs.DueLaws.{differ, due-same, after-same, Due, due-both, due-units, due-token}
 use Rattle.pm_build.proofs.SpanLaws.{front-whole}
 
 -- two facts on an Ok value, together

@@ -1,5 +1,5 @@
 -- Marks changed and changed back: whether the tokens are the old ones.
-use Rattle.std.specs.Prelude.{◌≡◌, ℕ, ◌+◌, ◌-◌, ◌≤◌, ◌<◌, Bool, true, false, ◌&&◌, List, [], ◌∷◌, ◌++◌, length, take, drop}
+use Rattle.std.specs.Prelude.{◌≡◌, ℕ, ◌-◌, ◌≤◌, ◌<◌, Bool, true, false, ◌&&◌, List, [], ◌∷◌, ◌++◌, length, take, drop}
 use Rattle.std.proofs.Common.{zero, suc, refl, ap, sym, ◌∙◌, arith}
 use Rattle.pm_attrs.specs.Attrs.{same_attrs}
 use Rattle.pm_marks.specs.Sets.{same_marks}
@@ -8,7 +8,7 @@ use Rattle.pm_tokens.specs.Kids.{text_tokens}
 use Rattle.pm_tokens.specs.Faults.{under}
 use Rattle.pm_tokens.specs.Scan.{Balanced, head_of, is_high, ends_high, starts_low, parts_pair}
 use Rattle.pm_tokens.specs.Schemas.{Schema}
-use Rattle.pm_tokens.proofs.MarkLaws.{marks-equal, marks-itself}
+use Rattle.pm_tokens.proofs.MarkLaws.{marks-equal}
 use Rattle.pm_meaning.specs.Inverses.{same_token, same_tokens}
 use Rattle.pm_apply.specs.declared.marking.Marking.{Marking}
 use Rattle.pm_apply.specs.declared.marking.Reach.TheVariants.{Inline}

@@ -1,9 +1,8 @@
 -- The steps that give marks back, for one part of the tokens after another.
-use Rattle.std.specs.Prelude.{◌≡◌, ℕ, ◌+◌, Bool, not, List, [], ◌∷◌, ◌++◌, Option, Some, None, option_map, map}
+use Rattle.std.specs.Prelude.{◌≡◌, ℕ, ◌+◌, not, List, [], ◌∷◌, ◌++◌, Option, Some, None}
 use Rattle.pm_attrs.specs.Attrs.{same_attrs}
-use Rattle.pm_marks.specs.declared.mark.Mark.{Mark}
 use Rattle.pm_marks.specs.Sets.{same_marks}
-use Rattle.pm_tokens.specs.Tokens.{Attrs, Marks, Token, marks_of}
+use Rattle.pm_tokens.specs.Tokens.{Marks, Token, marks_of}
 use Rattle.pm_tokens.specs.Schemas.{Schema}
 use Rattle.pm_meaning.specs.Steps.{Step, AddMark, RemoveMark, AddNodeMark, RemoveNodeMark}
 use Rattle.pm_meaning.specs.Marked.{takes_marks}

@@ -1,5 +1,5 @@
 -- Two automata of one expression: what each state of the one leads to, each state of the other does.
-use Rattle.std.proofs.Common.{◌≡◌, ◌<◌, ℕ, suc, List, [], ◌∷◌, Bool, true, length, ap, sym, ◌∙◌, subst, arith}
+use Rattle.std.proofs.Common.{◌≡◌, ◌<◌, ℕ, List, [], ◌∷◌, Bool, true, length, ap, sym, ◌∙◌, subst, arith}
 use Rattle.pm_auto.specs.declared.places.Row.{Row}
 use Rattle.pm_auto.specs.declared.sets.PlaceSet.{PlaceSet}
 use Rattle.pm_auto.specs.declared.auto.Edge.{Edge}

@@ -1,18 +1,16 @@
 -- Feeding one piece after another.
-use Rattle.std.specs.Prelude.{◌≡◌, ℕ, ◌+◌, ◌-◌, ◌≤◌, ◌<◌, min, Bool, true, false, ◌&&◌, List, [], ◌∷◌, ◌++◌, length, take, drop, Result, Err, ◌||◌}
-use Rattle.std.proofs.Common.{zero, suc, inl, inr, refl, ap, sym, ◌∙◌, subst, arith, append_assoc, length-append, length-drop}
-use Rattle.std.proofs.lemmas.List.{append-nil, take_min}
+use Rattle.std.specs.Prelude.{◌≡◌, ℕ, ◌+◌, ◌-◌, ◌≤◌, ◌<◌, min, Bool, true, false, ◌&&◌, List, [], ◌∷◌, ◌++◌, length, Result, Err}
+use Rattle.std.proofs.Common.{inl, inr, refl, ap, sym, ◌∙◌, subst, arith, append_assoc, length-append}
+use Rattle.std.proofs.lemmas.List.{append-nil}
 use Rattle.std.proofs.lemmas.Result.{MatchResult-weaker}
 use Rattle.std.proofs.lemmas.Bool.{cases_lt}
-use Rattle.std.proofs.Common.{eq-eqb, length-take}
-use Rattle.pm_tokens.specs.Schemas.{Schema, share, compatible}
 use Rattle.pm_node.specs.declared.node.Node.{Node}
 use Rattle.pm_node.specs.declared.node.Body.TheVariants.{Children}
 use Rattle.pm_node.proofs.TreeLaws.{node_tokens_at}
 use Rattle.pm_tokens.specs.Kids.{text_tokens}
 use Rattle.pm_node.specs.Trees.{node_tokens}
-use Rattle.pm_tokens.specs.Tokens.{Attrs, Marks, Token, Open, Close, CodeUnit}
-use Rattle.pm_tokens.specs.Scan.{Owned, Opening, Closing, Single, Piece, unclosed, owned, plain, joins, part, Balanced}
+use Rattle.pm_tokens.specs.Tokens.{Attrs, Marks, Token, Open, Close}
+use Rattle.pm_tokens.specs.Scan.{Owned, Opening, Closing, Piece, unclosed, owned, plain, joins, part, Balanced}
 use Rattle.pm_build.specs.Fed.{Appended, ForJoin, Fed}
 use Rattle.pm_build.specs.declared.refused.Refused.{Refused}
 use Rattle.pm_build.specs.declared.refused.Refused.TheVariants.{Join, NoMemory}
@@ -20,7 +18,7 @@ use Rattle.pm_tokens.proofs.ScanLaws.{plain-append, joins-append, plain-owned, l
 use Rattle.pm_tokens.proofs.BalanceLaws.{owned-balanced, owned-inner, joins-balanced}
 use Rattle.pm_tokens.proofs.ListLaws.{part-append, part_past, part_none}
 use Rattle.pm_tokens.proofs.SpliceLaws.{length-plain}
-use Rattle.pm_tokens.proofs.OwnedParts.{length-part, part_min, owned-text, pieces-take, pieces-drop, joins-pieces, plain-pieces, part-text, part-one, open-joins}
+use Rattle.pm_tokens.proofs.OwnedParts.{length-part, part_min, joins-pieces, plain-pieces, part-text, part-one, open-joins}
 
 module _ (c : ℕ → ℕ → Bool) where
   -- nothing was appended

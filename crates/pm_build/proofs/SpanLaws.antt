@@ -8,16 +8,15 @@ use Rattle.std.proofs.lemmas.Bool.{cases_lt}
 use Rattle.std.proofs.lemmas.List.{append-nil, take_all, take-append-drop, drop-drop}
 use Rattle.std.proofs.Math.Seq.{take-add}
 use Rattle.pm_tokens.specs.Tokens.{Token}
-use Rattle.pm_tokens.specs.Scan.{owned, part, Balanced, none}
+use Rattle.pm_tokens.specs.Scan.{owned, part, Balanced}
 use Rattle.pm_tokens.proofs.ListLaws.{drop_over, part_none, part_past}
 use Rattle.pm_tokens.proofs.ScanLaws.{length-owned}
-use Rattle.pm_tokens.proofs.BalanceLaws.{balanced-append}
 use Rattle.pm_tokens.proofs.OwnedParts.{owned-more, part-more, part_min}
 use Rattle.pm_node.specs.Among.{Stands}
 use Rattle.pm_node.specs.declared.node.Node.{Node}
 use Rattle.pm_node.specs.Trees.{node_tokens, list_tokens, IsNormal, EachWhole}
 use Rattle.pm_node.proofs.TreeLaws.{list_tokens-append}
-use Rattle.pm_node.proofs.WalkLaws.{front, front-more, list-split, rest, child-at, whole-node}
+use Rattle.pm_node.proofs.WalkLaws.{front, front-more, list-split, rest, child-at}
 use Rattle.pm_node.proofs.RunLaws.{part-at, part-one}
 use Rattle.pm_node.proofs.ChangeLaws.{whole-list, each-take, each-drop}
 

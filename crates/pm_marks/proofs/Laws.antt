@@ -1,5 +1,5 @@
 -- What adding a mark keeps, and which lists are sets.
-use Rattle.std.proofs.Common.{ap₂, ◌≡◌, ◌≢◌, ◌↔◌, ℕ, suc, zero, ◌<◌, ◌==◌, Bool, true, false, not, ◌&&◌, ◌||◌, cond, List, [], ◌∷◌, ◌++◌, length, refl, ap, sym, subst, arith, ◌∙◌, append_assoc, get_or, ◌⊎◌, inl, inr, nat_lt}
+use Rattle.std.proofs.Common.{ap₂, ◌≡◌, ◌≢◌, ◌↔◌, ℕ, suc, zero, ◌<◌, ◌==◌, Bool, true, false, not, ◌&&◌, cond, List, [], ◌∷◌, ◌++◌, length, refl, ap, sym, subst, arith, ◌∙◌, append_assoc, get_or, ◌⊎◌, inl, inr, nat_lt}
 use Rattle.std.specs.Prelude.{Result, Ok, Err, IfOk}
 use Rattle.std.specs.List.{AllByRecursion, AllPairs}
 use Rattle.std.proofs.lemmas.List.{append-nil}

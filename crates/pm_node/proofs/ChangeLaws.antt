@@ -7,7 +7,7 @@ use Rattle.pm_tokens.specs.Tokens.{Attrs, Marks, Token, Open, Close, Leaf, CodeU
 use Rattle.pm_tokens.specs.Schemas.{Schema}
 use Rattle.pm_tokens.specs.Scan.{Balanced, none, leaf, unit, node, deepest}
 use Rattle.pm_tokens.specs.Kids.{goes_on, kids}
-use Rattle.pm_tokens.specs.Faults.{attrs_fit, marks_fit, content_fits, high_of, pair_fits, Fault, Pair, first_some, fault_unless, first_fault, first_broken}
+use Rattle.pm_tokens.specs.Faults.{attrs_fit, marks_fit, content_fits, high_of, pair_fits, first_some, fault_unless, first_fault, first_broken}
 use Rattle.pm_tokens.proofs.KidLaws.{kids-node}
 use Rattle.pm_tokens.proofs.FaultLaws.{own_fault, fault-append, fault-node, last_unit, PartsTexts, broken-append, broken-node}
 use Rattle.pm_tokens.proofs.BalanceLaws.{balanced-append}

@@ -1,20 +1,16 @@
 -- The fill of a type, which is there and has only types that can be made.
-use Rattle.std.proofs.Common.{◌≡◌, ℕ, zero, suc, ◌+◌, ◌<◌, List, [], ◌∷◌, length, Bool, true, false, ◌&&◌, cond, refl, ap, ◌∙◌, sym, subst, get_or, arith}
-use Rattle.std.specs.Prelude.{Option, Some, None, IfSome, eqb}
-use Rattle.std.proofs.lemmas.Bool.{eqb-true}
+use Rattle.std.proofs.Common.{◌≡◌, ℕ, zero, suc, ◌<◌, List, [], ◌∷◌, length, Bool, true, false, ◌&&◌, refl, ap, ◌∙◌, sym, subst, get_or, arith}
+use Rattle.std.specs.Prelude.{Option, Some, None}
 use Rattle.std.proofs.lemmas.List.{length-map}
-use Rattle.pm_auto.specs.declared.auto.Edge.{Edge}
 use Rattle.pm_auto.specs.declared.auto.Auto.{Auto}
-use Rattle.pm_auto.specs.declared.sets.PlaceSet.{PlaceSet}
-use Rattle.pm_auto.specs.Graph.{leads, Inside, Is_graph, Is_shortest}
-use Rattle.pm_auto.specs.Walks.{target, edges_at, ends_at, accepted, via}
-use Rattle.pm_auto.specs.Fills.{kept, makeable, fits_from, filled}
+use Rattle.pm_auto.specs.Graph.{leads, Is_shortest}
+use Rattle.pm_auto.specs.Walks.{accepted}
+use Rattle.pm_auto.specs.Fills.{makeable, filled}
 use Rattle.pm_auto.specs.Finish.{all_can, Finishes}
 use Rattle.pm_schema.specs.declared.schema.Schema.{Schema}
 use Rattle.pm_schema.specs.Made.{can_be_made}
 use Rattle.pm_node.specs.Filled.{IsFill}
-use Rattle.pm_auto.proofs.GraphLaws.{target-state}
-use Rattle.pm_auto.proofs.ReachLaws.{none-either, kept-step, target-kept, edges-kept, ends-from, and-false, on-both, if_some-map, leads-ends}
+use Rattle.pm_auto.proofs.ReachLaws.{leads-ends}
 
 and-first : (b c : Bool) → b && c ≡ true → b ≡ true
 and-first true c h = refl

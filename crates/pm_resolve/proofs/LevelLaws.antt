@@ -1,5 +1,5 @@
 -- What the levels of a place tell: one for each node around the position.
-use Rattle.std.specs.Prelude.{◌≡◌, ℕ, zero, suc, ◌+◌, ◌-◌, ◌≤◌, ◌<◌, Bool, true, false, ◌&&◌, nat_le, cond, None, List, [], ◌∷◌, ◌++◌, length, take, drop, map, get_or, slice_index}
+use Rattle.std.specs.Prelude.{◌≡◌, ℕ, zero, suc, ◌+◌, ◌-◌, ◌≤◌, ◌<◌, Bool, false, ◌&&◌, nat_le, cond, None, List, [], ◌∷◌, ◌++◌, length, take, drop, map, get_or, slice_index}
 use Rattle.std.specs.List.{list_any, filter}
 use Rattle.std.proofs.Common.{◌==◌, refl, ap, sym, ◌∙◌, subst, arith, append_assoc, length-append, length-drop, inl, inr}
 use Rattle.std.proofs.lemmas.Bool.{le-leb, lt-leb, cases_lt}

@@ -5,12 +5,12 @@ use Rattle.std.proofs.Common.{refl, ap, sym, ◌∙◌, subst, arith, append_ass
 use Rattle.std.proofs.lemmas.Bool.{eq-eqb, ne_eqb, cases_eq}
 use Rattle.std.proofs.lemmas.List.{take_all, take-append-le, take-append-drop, reverse-append, length-reverse, map-append}
 use Rattle.pm_tokens.specs.Tokens.{Attrs, Marks, Token, Open, Close, Leaf, CodeUnit}
-use Rattle.pm_tokens.specs.Scan.{tail_of, unclosed, unmet, depth_at, open_places, open_at, shared_depth, Balanced, none, leaf, unit, node}
+use Rattle.pm_tokens.specs.Scan.{tail_of, unmet, depth_at, open_places, open_at, shared_depth, Balanced, none, leaf, unit, node}
 use Rattle.pm_tokens.proofs.ListLaws.{take_over}
 use Rattle.pm_tokens.proofs.ScanLaws.{unmet-append}
 use Rattle.pm_tokens.proofs.BalanceLaws.{balanced-whole, balanced-append}
 use Rattle.pm_resolve.specs.Places.{opens_at}
-use Rattle.pm_tokens.proofs.DepthLaws.{places-append, places-length, from-tail, places-from}
+use Rattle.pm_tokens.proofs.DepthLaws.{places-append, places-length, places-from}
 
 -- ---- readings of joined lists
 

@@ -6,13 +6,12 @@ use Rattle.std.proofs.Common.{zero, suc, inl, inr, refl, ap, sym, ◌∙◌, ari
 use Rattle.std.proofs.lemmas.Bool.{cases_lt}
 use Rattle.std.proofs.lemmas.List.{append-nil, take-append-drop}
 use Rattle.pm_tokens.specs.Tokens.{Token}
-use Rattle.pm_tokens.specs.Scan.{Balanced, none, part}
-use Rattle.pm_tokens.proofs.BalanceLaws.{balanced-append}
+use Rattle.pm_tokens.specs.Scan.{Balanced, part}
 use Rattle.pm_node.specs.declared.node.Node.{Node}
 use Rattle.pm_node.specs.Trees.{node_tokens, list_tokens, EachWhole}
 use Rattle.pm_node.specs.Among.{Stands}
 use Rattle.pm_node.proofs.TreeLaws.{list_tokens-append}
-use Rattle.pm_node.proofs.WalkLaws.{front, front-more, list-split, rest, whole-node}
+use Rattle.pm_node.proofs.WalkLaws.{front, front-more, list-split, rest}
 use Rattle.pm_node.proofs.RunLaws.{part-at}
 use Rattle.pm_slice.specs.Sides.{clipped, Clipped}
 use Rattle.pm_slice.proofs.ClipLaws.{clipped-append, clipped-past, clipped-none, clipped-whole}

@@ -1,4 +1,4 @@
-use Rattle.std.proofs.Common.{◌+◌, arith, ap, ◌∙◌}
+use Rattle.std.proofs.Common.{◌+◌, ap, ◌∙◌}
 use Rattle.pm_tokens.specs.Scan.{parts_pair}
 use Rattle.pm_apply.proofs.SlicePairs.{parts-pair-in}
 use Rattle.pm_apply.proofs.around.parts_pair_in.Goals as goal

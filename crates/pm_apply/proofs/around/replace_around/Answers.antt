@@ -1,4 +1,4 @@
-use Rattle.std.proofs.Common.{◌≡◌, true, false, arith, sym, ◌∙◌, subst, length}
+use Rattle.std.proofs.Common.{arith, sym, ◌∙◌, subst, length}
 use Rattle.pm_change.specs.Failing.{Answers}
 use Rattle.pm_schema.specs.Documents.{documents_of}
 use Rattle.pm_node.specs.Documents.{doc_with}

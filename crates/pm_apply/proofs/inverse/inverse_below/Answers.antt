@@ -1,8 +1,6 @@
-use Rattle.std.proofs.Common.{◌≡◌, ◌≤◌, length, arith, ap, subst}
-use Rattle.pm_node.specs.declared.node.Body.TheVariants.{Text}
+use Rattle.std.proofs.Common.{◌≡◌, length, arith, ap}
 use Rattle.pm_node.specs.Documents.{content_tokens}
 use Rattle.pm_tokens.specs.Kids.{text_tokens}
-use Rattle.pm_tokens.specs.Schemas.{max_size}
 use Rattle.pm_node.proofs.TreeLaws.{length-text_tokens}
 use Rattle.pm_apply.proofs.inverse.inverse_below.Goals as goal
 

@@ -1,4 +1,4 @@
-use Rattle.std.proofs.Common.{◌≡◌, true, false, [], refl, arith, sym, ◌∙◌, subst, ap}
+use Rattle.std.proofs.Common.{[], refl, arith, sym, ◌∙◌, subst, ap}
 use Rattle.std.specs.Prelude.{IsSome}
 use Rattle.std.specs.Option.{option_copied}
 use Rattle.pm_change.specs.Failing.{Answers}

@@ -1,10 +1,10 @@
-use Rattle.std.proofs.Common.{◌≡◌, ℕ, ◌+◌, ◌*◌, ◌<◌, ◌≤◌, ◌++◌, [], ◌∷◌, List, length, arith, sym, ap, ◌∙◌, subst, refl, length-append}
+use Rattle.std.proofs.Common.{◌≡◌, ◌+◌, ◌*◌, ◌<◌, ◌++◌, [], ◌∷◌, length, arith, sym, ap, ◌∙◌, subst, refl, length-append}
 use Rattle.std.specs.Arc.{arc_value}
 use Rattle.std.proofs.lemmas.Result.{on_ok_weaker}
-use Rattle.pm_tokens.specs.Tokens.{Token, Open, Close, Leaf, CodeUnit}
+use Rattle.pm_tokens.specs.Tokens.{Close, Leaf}
 use Rattle.pm_tokens.specs.Scan.{Balanced}
 use Rattle.pm_schema.specs.Documents.{documents_of}
-use Rattle.pm_node.specs.declared.node.Body.TheVariants.{Text, Leaf as Childless, Children}
+use Rattle.pm_node.specs.declared.node.Body.TheVariants.{Text, Children}
 use Rattle.pm_node.specs.Trees.{node_tokens}
 use Rattle.pm_node.proofs.TreeLaws.{node_tokens_at, length-text_tokens}
 use Rattle.pm_node.proofs.WalkLaws.{front, rest, child-within}
@@ -12,7 +12,7 @@ use Rattle.pm_apply.specs.Markings.{AreKnown, marked_in, new_marks}
 use Rattle.pm_apply.proofs.BetweenLaws.{front-is, rest-is, front-rest, front-all}
 use Rattle.pm_apply.proofs.KnownLaws.{known-child, known-inner}
 use Rattle.pm_apply.proofs.MarkedWalk.{Marked, marked-from, marked-more, marked-end, marked-size, marked-room, marked-order}
-use Rattle.pm_apply.proofs.MarkedNodes.{sort-is, and-yes, marked-none, marked-past, marked-text, marked-leaf, marked-open, marked-length}
+use Rattle.pm_apply.proofs.MarkedNodes.{sort-is, and-yes, marked-none, marked-text, marked-leaf, marked-open, marked-length}
 use Rattle.pm_apply.proofs.marks.+mark.Goals as goal
 
 pub mark_content-append-requires-clause-room : goal.mark_content-append-requires-clause-room

@@ -1,4 +1,4 @@
-use Rattle.std.proofs.Common.{ℕ, ◌+◌, ◌*◌, length}
+use Rattle.std.proofs.Common.{◌+◌, ◌*◌, length}
 use Rattle.std.specs.Arc.{arc_value}
 use Rattle.pm_node.specs.Trees.{node_tokens}
 use Rattle.pm_schema.specs.Documents.{documents_of}

@@ -1,4 +1,4 @@
-use Rattle.std.proofs.Common.{◌≡◌, length, take, drop, arith, ap, length-append}
+use Rattle.std.proofs.Common.{length, take, drop, arith, ap, length-append}
 use Rattle.pm_tokens.specs.Kids.{text_tokens}
 use Rattle.pm_tokens.specs.Scan.{part}
 use Rattle.std.proofs.lemmas.Result.{on_ok_weaker}

@@ -1,4 +1,4 @@
-use Rattle.std.proofs.Common.{◌≡◌, refl, ap, sym, ◌∙◌}
+use Rattle.std.proofs.Common.{refl, ap, sym, ◌∙◌}
 use Rattle.pm_meaning.specs.Inverses.{first_lost}
 use Rattle.pm_apply.proofs.FirstLost.{lost-more, lost-here, lost-none}
 use Rattle.pm_apply.proofs.node_back.first_lost.Goals as goal

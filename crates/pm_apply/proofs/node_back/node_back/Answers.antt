@@ -1,5 +1,5 @@
-use Rattle.std.proofs.Common.{◌≡◌, ◌++◌, [], ◌∷◌, true, false, ap, sym, ◌∙◌, subst}
-use Rattle.std.specs.Prelude.{IsSome, Some, None}
+use Rattle.std.proofs.Common.{◌++◌, [], ◌∷◌, ap, sym, ◌∙◌, subst}
+use Rattle.std.specs.Prelude.{IsSome}
 use Rattle.std.specs.Option.{option_copied}
 use Rattle.pm_attrs.specs.Attrs.{same_attrs}
 use Rattle.pm_marks.specs.Sets.{same_marks}
@@ -8,7 +8,7 @@ use Rattle.pm_node.specs.Documents.{doc_with}
 use Rattle.pm_meaning.specs.Runs.{node_steps}
 use Rattle.pm_apply.specs.declared.runs.Place.TheVariants.{Node}
 use Rattle.pm_apply.specs.Walks.{place_step, given_back}
-use Rattle.pm_apply.specs.Markings.{changed, node_step}
+use Rattle.pm_apply.specs.Markings.{changed}
 use Rattle.pm_apply.specs.Backs.{back_step}
 use Rattle.pm_apply.proofs.BackLaws.{place-node}
 use Rattle.pm_apply.proofs.NodeBackLaws.{node-by-one, node-by-marks}

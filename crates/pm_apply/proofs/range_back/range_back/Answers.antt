@@ -1,11 +1,9 @@
-use Rattle.std.proofs.Common.{◌≡◌, ◌+◌, ◌++◌, [], ◌∷◌, length, arith, ap, sym, ◌∙◌}
-use Rattle.pm_tokens.specs.Tokens.{Doc}
+use Rattle.std.proofs.Common.{◌++◌, [], ◌∷◌, arith, ap, sym, ◌∙◌}
 use Rattle.pm_schema.specs.Documents.{documents_of}
 use Rattle.pm_node.specs.Documents.{doc_with}
 use Rattle.pm_apply.specs.declared.runs.Place.TheVariants.{Range}
 use Rattle.pm_apply.specs.Walks.{place_step}
 use Rattle.pm_apply.specs.Markings.{opposite}
-use Rattle.pm_apply.specs.Backs.{marked_twice}
 use Rattle.pm_apply.proofs.KnownLaws.{top-known, all-known}
 use Rattle.pm_apply.proofs.RestoredWalk.{are_back}
 use Rattle.pm_apply.proofs.BackLaws.{back-by-one, by-runs, place-range}

@@ -1,4 +1,4 @@
-use Rattle.std.proofs.Common.{◌≡◌, ℕ, ◌≤◌, false, true, length, arith, ap, sym, ◌∙◌, subst}
+use Rattle.std.proofs.Common.{arith}
 use Rattle.pm_schema.specs.Documents.{documents_of}
 use Rattle.pm_apply.proofs.AroundBackLaws.{out-within, out-fits, out-joins, out-slice, out-one}
 use Rattle.pm_apply.proofs.replace_back.cut_around.Goals as goal

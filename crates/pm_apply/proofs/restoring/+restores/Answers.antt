@@ -1,8 +1,7 @@
 use Rattle.std.specs.Prelude.{Bool, List}
 use Rattle.std.proofs.lemmas.Bool.{cases_lt}
 use Rattle.pm_marks.proofs.Laws.{if_ok-then}
-use Rattle.std.proofs.Common.{◌≡◌, ℕ, ◌+◌, ◌-◌, ◌*◌, ◌<◌, ◌≤◌, ◌++◌, [], ◌∷◌, length, arith, sym, ap, ◌∙◌, subst, refl, inl, inr, length-append}
-use Rattle.std.specs.Arc.{arc_value}
+use Rattle.std.proofs.Common.{◌≡◌, ℕ, ◌+◌, ◌-◌, ◌*◌, ◌<◌, [], ◌∷◌, length, arith, sym, ap, ◌∙◌, subst, refl, inl, inr, length-append}
 use Rattle.pm_tokens.specs.Tokens.{Leaf, Close, CodeUnit}
 use Rattle.pm_tokens.specs.Scan.{Balanced}
 use Rattle.pm_attrs.specs.Attrs.{same_attrs}

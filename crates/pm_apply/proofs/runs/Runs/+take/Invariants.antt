@@ -1,4 +1,4 @@
-use Rattle.std.proofs.Common.{ℕ, ◌+◌, ◌*◌, length}
+use Rattle.std.proofs.Common.{◌+◌, ◌*◌, length}
 use Rattle.pm_node.specs.Trees.{node_tokens}
 use Rattle.pm_schema.specs.Documents.{documents_of}
 use Rattle.pm_apply.proofs.TakenWalk.{Taken}

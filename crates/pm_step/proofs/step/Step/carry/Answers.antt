@@ -1,4 +1,4 @@
-use Rattle.std.proofs.Common.{◌≡◌, ℕ, Option, Some, None, sym, ap, ◌∙◌, subst}
+use Rattle.std.proofs.Common.{◌≡◌, Option, Some, None, sym, ap, ◌∙◌, subst}
 use Rattle.pm_meaning.specs.Maps.{carry}
 use Rattle.pm_meaning.specs.Steps as steps
 use Rattle.pm_step.specs.declared.step.Step.{Step}
