@@ -18,7 +18,10 @@ use Rattle.pm_auto.proofs.ExprLaws.{lang-in}
 use Rattle.pm_auto.proofs.TrimLaws.{trim-lang}
 use Rattle.pm_places.specs.Words.{numbered, place_types, IsPlaceWord, spelled, type_at}
 use Rattle.pm_places.specs.Nexts.{led_to}
-use Rattle.pm_places.specs.Laws.{IsAutomatonOf}
+use Rattle.pm_schema.specs.declared.schema.Schema.{Schema}
+use Rattle.pm_schema.specs.Types.{node_at}
+use Rattle.pm_schema.specs.Contents.{Runs}
+use Rattle.pm_places.specs.Laws.{IsAutomatonOf, StartsBegin}
 use Rattle.pm_places.proofs.Members.{Is_in, in-contains}
 use Rattle.pm_places.proofs.Reached.{has-edges-next}
 
@@ -146,3 +149,11 @@ module _ (x : Expr) (a : Auto) (h : IsAutomatonOf x a) (w : List ℕ) (s : ℕ) 
 
   pub edges-go-on : Contains (edge_kinds (edges_at a.edges s)) k ↔ ((rest : List ℕ) × In x (w ++ k ∷ rest))
   edges-go-on = (onward, backward)
+
+-- ---- the types that may stand first
+
+pub starts-begin : (s : Schema) (kind : ℕ) (a : Auto) → kind < length s.autos → a ≡ get_or s.autos kind a → Runs (node_at s.spec kind).content a → StartsBegin s kind
+starts-begin s kind a l is runs built k =
+    let e : Expr = (node_at s.spec kind).content in
+    let own : IsAutomatonOf e a = subst (IsAutomatonOf e) (sym is) (built.automata kind a l) in
+    subst (λ (firsts : List ℕ). Contains firsts k ↔ ((rest : List ℕ) × In e (k ∷ rest))) runs.first (edges-go-on e a own [] 0 refl k)

@@ -8,6 +8,10 @@ use Rattle.pm_auto.specs.Table.{rows}
 use Rattle.pm_auto.specs.States.{start_of, set_at, edge_kinds}
 use Rattle.pm_auto.specs.Automata.{Is_automaton}
 use Rattle.pm_auto.specs.Walks.{edges_at}
+use Rattle.pm_schema.specs.declared.schema.Schema.{Schema}
+use Rattle.pm_schema.specs.Contents.{starts}
+use Rattle.pm_schema.specs.Types.{node_at}
+use Rattle.pm_schema.specs.Built.{IsBuilt}
 use Rattle.pm_places.specs.Nexts.{IsBegun, led_to, IsStateAfter, AreTypesNext, AreAlike}
 
 -- the automaton is that of the expression
@@ -40,3 +44,9 @@ LeadsAlikeTogether e a = IsAutomatonOf e a → (v w : List ℕ) (s t : ℕ) → 
 abbrev pub EdgesGoOn : Expr → Auto → Type 0
 EdgesGoOn e a = IsAutomatonOf e a → (w : List ℕ) (s : ℕ) → led_to a.edges 0 w ≡ Some s
     → (k : ℕ) → Contains (edge_kinds (edges_at a.edges s)) k ↔ ((rest : List ℕ) × In e (w ++ k ∷ rest))
+
+-- In a schema that was built, the types that may stand first in a node of this type are exactly those with which a list in the
+-- language of its content begins.
+abbrev pub StartsBegin : Schema → ℕ → Type 0
+StartsBegin s kind = IsBuilt s
+    → (k : ℕ) → Contains (starts (node_at s.spec kind).content) k ↔ ((rest : List ℕ) × In (node_at s.spec kind).content (k ∷ rest))

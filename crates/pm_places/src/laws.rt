@@ -1,7 +1,9 @@
 //! Laws of automata. Each call does nothing; its contract is the law.
-ghost use Rattle.pm_places.specs.Laws.{LeadsWhereBegun, LeadsToState, HasEdgesNext, ReachesEachState, LeadsAlikeTogether, EdgesGoOn};
+ghost use Rattle.std.specs.Prelude.{◌<◌, length};
+ghost use Rattle.pm_places.specs.Laws.{LeadsWhereBegun, LeadsToState, HasEdgesNext, ReachesEachState, LeadsAlikeTogether, EdgesGoOn, StartsBegin};
 
-use pm_auto::{Auto, Expr};
+use pm_auto::{Auto, Expr, TypeId};
+use pm_schema::Schema;
 
 /// A list of types leads from the start of the expression's automaton to a state exactly where it is empty or some place word
 /// begins with places that spell it.
@@ -52,4 +54,13 @@ pub fn edges_go_on(expr: &Expr, auto: &Auto)
 {
     let _ = expr;
     let _ = auto;
+}
+
+/// In a schema that was built, the types that may stand first in a node of this type are exactly those with which a list in the
+/// language of its content begins.
+pub fn starts_begin(schema: &Schema, kind: TypeId)
+    requires { kind < length schema.now.spec.nodes }
+    ensures { StartsBegin schema.now kind }
+{
+    let _ = schema.auto(kind);
 }
