@@ -2,6 +2,7 @@ pub mod FirstLaws
 pub mod FitLaws
 pub mod HollowLaws
 pub mod LargeLaws
+pub mod LeastLaws
 mod LengthLaws
 pub mod NodeLaws
 pub mod OptionLaws

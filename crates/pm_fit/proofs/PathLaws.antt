@@ -1,5 +1,5 @@
 -- The shortest list to a goal is what the function gives.
-use Rattle.std.proofs.Common.{◌≡◌, ℕ, zero, suc, ◌+◌, ◌<◌, ◌≤◌, List, [], ◌∷◌, ◌++◌, length, map, length-append, get_or, Bool, true, false, ◌||◌, ◌&&◌, not, cond, eqb, nat_lt, Option, Some, None, ◌⊎◌, inl, inr, refl, ap, sym, ◌∙◌, subst, arith}
+use Rattle.std.proofs.Common.{◌≡◌, ℕ, zero, suc, ◌+◌, ◌<◌, ◌≤◌, List, [], ◌∷◌, ◌++◌, length, map, length-append, get_or, Bool, true, false, ◌||◌, ◌&&◌, not, cond, nat_lt, Option, Some, None, ◌⊎◌, inl, inr, refl, ap, sym, ◌∙◌, arith}
 use Rattle.std.specs.Option.{option_or}
 use Rattle.std.specs.List.{range_with_len}
 use borrow.Author.Tests.{ltb-true}
@@ -170,10 +170,10 @@ module _ (a : Auto) (s to : ℕ) (autos : List Auto) (may : List Bool) where
   abbrev first : List Edge
   first = wrappers may (length autos) false a.sets (edges_at a.edges s)
 
-  nodes : length links ≡ length autos + 1
+  pub nodes : length links ≡ length autos + 1
   nodes = length-append (map (inner_links may (length autos)) autos) (first ∷ []) ∙ rw (length-map autos (inner_links may (length autos))) (omega arith)
 
-  inside : (node k t : ℕ) → target k (edges_at links node) ≡ Some t → t < length links
+  pub inside : (node k t : ℕ) → target k (edges_at links node) ≡ Some t → t < length links
   inside node k t e =
       let h : Inside (length autos + 1) (edges_at links node) = nodes-inside may (length autos) autos first (wrappers-inside may (length autos) false a.sets (edges_at a.edges s)) node in
       let l : t < length autos + 1 = target-inside (length autos + 1) k t (edges_at links node) h e in

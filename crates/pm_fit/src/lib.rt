@@ -3,6 +3,7 @@
 
 mod closing;
 mod fitting;
+mod laws;
 mod nodes;
 mod peeled;
 mod peeling;
@@ -13,3 +14,4 @@ mod wrapping;
 
 pub use closing::push_hollow;
 pub use fitting::fit;
+pub use laws::wrapping_is_least;
