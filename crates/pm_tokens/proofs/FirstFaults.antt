@@ -1,23 +1,13 @@
 -- The readings of faults give the first one: it is there, and there is none before it.
-use Rattle.std.specs.Prelude.{◌≡◌, ℕ, ◌+◌, ◌≤◌, ◌<◌, ◌⊎◌, Bool, true, false, ◌&&◌, not, cond, if◌then◌else◌, nat_le, List, [], ◌∷◌, ◌++◌, length, Option, Some, None}
+use Rattle.std.specs.Prelude.{◌≡◌, ℕ, ◌+◌, ◌<◌, ◌⊎◌, Bool, true, false, ◌&&◌, not, cond, if◌then◌else◌, nat_le, List, [], ◌∷◌, ◌++◌, length, Option, Some, None}
 use Rattle.std.proofs.lemmas.Bool.{leb-true, leb-false}
 use Rattle.std.proofs.Common.{suc, refl, ap, sym, ◌∙◌, subst, arith, inl, inr}
 use Rattle.pm_tokens.specs.Tokens.{Marks, Token, Doc}
 use Rattle.pm_tokens.specs.Schemas.{Schema, max_size, max_depth}
 use Rattle.pm_tokens.specs.Scan.{head_of, unclosed, deepest}
-use Rattle.pm_tokens.specs.Kids.{kids}
-use Rattle.pm_tokens.specs.Faults.{attrs_fit, marks_fit, content_fits, high_of, pair_fits, last_high, StandsIn, Fault, Large, Deep, Pair, first_some, fault_unless, under, first_fault, first_broken, no_marks, top_fault, fault, place_unless, token_fits, place_from, top_fits, fault_place}
+use Rattle.pm_tokens.specs.Faults.{attrs_fit, marks_fit, content_fits, high_of, pair_fits, last_high, StandsIn, Fault, Large, Deep, Pair, first_some, fault_unless, under, first_fault, first_broken, top_fault, fault, place_unless, token_fits, place_from, top_fits, fault_place}
+use Rattle.pm_tokens.specs.FirstFaults.{IsFirst, fits_at, pair_at, sound_at, FaultAt, FirstFault, IsFault, large, deep, broken, top, inside, IsLeastPlace}
 use Rattle.pm_tokens.proofs.ValidLaws.{under-is}
-
--- The token at place n is the first that the test refuses. The test has the tokens before, the token, and those behind.
-pub record IsFirst (test : List Token → Token → List Token → Bool) (ts : List Token) (n : ℕ) : Type 0 where
-  pub before : List Token
-  pub token : Token
-  pub behind : List Token
-  pub stands : StandsIn ts before token behind
-  pub place : length before ≡ n
-  pub refused : test before token behind ≡ false
-  pub earlier : (b : List Token) (t : Token) (f : List Token) → StandsIn ts b t f → length b < n → test b t f ≡ true
 
 -- one token more in front, which the test does not refuse
 one-more : (test later : List Token → Token → List Token → Bool) (x : Token) (ts : List Token) (n : ℕ) → test [] x ts ≡ true → ((b : List Token) (t : Token) (f : List Token) → test (x ∷ b) t f ≡ later b t f)
@@ -47,9 +37,6 @@ at-once test x ts h = record { before = []; token = x; behind = ts; stands = ref
 
 -- ---- the least place
 
-abbrev pub fits_at : Schema → List ℕ → Option Marks → List Token → Token → List Token → Bool
-fits_at s ps high before t behind = token_fits s (head_of (unclosed ps before)) (last_high high before) t behind
-
 place-cases : (b : Bool) (later : Option ℕ) (p : ℕ) → place_unless b later ≡ Some p → ((b ≡ false) × (p ≡ 0)) ⊎ ((b ≡ true) × ((q : ℕ) × (later ≡ Some q) × (p ≡ suc q)))
 place-cases true None p h = absurd (cc)
 place-cases true (Some q) p h = inr (refl, (q, refl, (let e : q + 1 ≡ p = cc in omega (arith, e))))
@@ -66,8 +53,7 @@ place-first s ps high (x ∷ ts) p h =
     ]
 
 -- the least faulty place of a document: the top node's, or the first token that has a fault
-pub fault-place-least : (s : Schema) (d : Doc) (p : ℕ) → fault_place s d ≡ Some p
-    → ((top_fits s d ≡ false) × (p ≡ 0)) ⊎ ((top_fits s d ≡ true) × ((q : ℕ) × IsFirst (fits_at s (d.kind ∷ []) None) d.tokens q × (p ≡ suc q)))
+pub fault-place-least : (s : Schema) (d : Doc) (p : ℕ) → fault_place s d ≡ Some p → IsLeastPlace s d p
 fault-place-least s d p h =
     elim (place-cases (top_fits s d) (place_from s (d.kind ∷ []) None d.tokens) p h) [
       | inl e ↦ inl e
@@ -75,9 +61,6 @@ fault-place-least s d p h =
     ]
 
 -- ---- the first broken unit
-
-abbrev pub pair_at : Option Marks → List Token → Token → List Token → Bool
-pair_at high before t behind = pair_fits (last_high high before) t behind
 
 pub broken-first : (at : ℕ) (high : Option Marks) (ts : List Token) (f : Fault) → first_broken at high ts ≡ Some f → (n : ℕ) × IsFirst (pair_at high) ts n × (f ≡ Pair (at + n))
 broken-first at high [] f h = absurd (cc)
@@ -92,24 +75,11 @@ broken-first at high (x ∷ ts) f h = by (λ k. broken-first (at + 1) (high_of x
 
 -- ---- the first fault of attributes, marks or content
 
--- the token has none of these faults
-abbrev pub sound_at : Schema → List ℕ → List Token → Token → List Token → Bool
-sound_at s ps before t behind = attrs_fit s t && marks_fit s (head_of (unclosed ps before)) t && content_fits s t behind
-
--- which of the three it is, at a place
-abbrev pub FaultAt : Bool → Bool → Bool → ℕ → Fault → Type 0
-FaultAt attrs marks content at f = fault_unless attrs marks content at ≡ Some f
-
 unless-cases : (a m c : Bool) (at : ℕ) (later : Option Fault) (f : Fault) → first_some (fault_unless a m c at) later ≡ Some f → (((a && m && c) ≡ false) × FaultAt a m c at f) ⊎ (((a && m && c) ≡ true) × (later ≡ Some f))
 unless-cases true true true at later f h = inr (refl, h)
 unless-cases true true false at later f h = inl (refl, h)
 unless-cases true false c at later f h = inl (refl, h)
 unless-cases false m c at later f h = inl (refl, h)
-
-pub record FirstFault (s : Schema) (ps : List ℕ) (at : ℕ) (ts : List Token) (f : Fault) : Type 0 where
-  pub place : ℕ
-  pub first : IsFirst (sound_at s ps) ts place
-  pub which : FaultAt (attrs_fit s first.token) (marks_fit s (head_of (unclosed ps first.before)) first.token) (content_fits s first.token first.behind) (at + place) f
 
 pub fault-first : (s : Schema) (ps : List ℕ) (at : ℕ) (ts : List Token) (f : Fault) → first_fault s at ps ts ≡ Some f → FirstFault s ps at ts f
 unfolding at-once one-more
@@ -133,17 +103,6 @@ fault-first s ps at (x ∷ ts) f h =
     ]
 
 -- ---- the first fault of a document
-
--- The fault of a document that is not valid. It is too large; or else too deep; or else its first broken unit; or else a
--- fault of the top node; or else of the first token that has one. There attributes come before marks, and marks before content.
-pub data IsFault (s : Schema) (d : Doc) : Fault → Type 0 where
-  large : max_size < length d.tokens → IsFault s d Large
-  deep : length d.tokens ≤ max_size → max_depth < deepest 0 d.tokens → IsFault s d Deep
-  broken : length d.tokens ≤ max_size → deepest 0 d.tokens ≤ max_depth → (n : ℕ) → IsFirst (pair_at None) d.tokens n → IsFault s d (Pair (1 + n))
-  top : length d.tokens ≤ max_size → deepest 0 d.tokens ≤ max_depth → first_broken 1 None d.tokens ≡ None
-      → (f : Fault) → FaultAt (s.node_attrs d.kind d.attrs) (no_marks d.marks) (s.accepts d.kind (kids s.text 0 None d.tokens)) 0 f → IsFault s d f
-  inside : length d.tokens ≤ max_size → deepest 0 d.tokens ≤ max_depth → first_broken 1 None d.tokens ≡ None → top_fault s d ≡ None
-      → (f : Fault) → FirstFault s (d.kind ∷ []) 1 d.tokens f → IsFault s d f
 
 some-cases : (x y : Option Fault) (f : Fault) → first_some x y ≡ Some f → (x ≡ Some f) ⊎ ((x ≡ None) × (y ≡ Some f))
 some-cases None y f h = inr (refl, h)

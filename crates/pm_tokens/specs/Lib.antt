@@ -4,5 +4,6 @@ pub mod Scan
 pub mod Marks
 pub mod Kids
 pub mod Faults
+pub mod FirstFaults
 pub mod Slices
 pub mod Loose
