@@ -26,6 +26,12 @@ new_at [] r = 0
 new_at (s ∷ ss) zero = s.new_size
 new_at (s ∷ ss) (suc r) = new_at ss r
 
+-- range number r
+abbrev pub range_at : List Span → ℕ → Option Span
+range_at [] r = None
+range_at (s ∷ ss) zero = Some s
+range_at (s ∷ ss) (suc r) = range_at ss r
+
 -- a place within the old size of one of these ranges
 abbrev pub IsIn : List Span → Recover → Type 0
 IsIn ranges r = (r.range < length ranges) × (r.offset ≤ old_at ranges r.range)

@@ -1,7 +1,7 @@
 //! The map of one step: at most two ranges.
 ghost use Rattle.std.specs.Prelude.{◌≡◌, ◌+◌, ◌≤◌, ◌<◌, ◌^◌, ◌↔◌, length, IsTrue, IfSome, if◌then◌else◌};
 ghost use Rattle.pm_map.specs.Moves.{moved, inverted_ranges, ranges_of, AreInOrder, IsSide};
-ghost use Rattle.pm_map.specs.Through.{result_start, new_at, IsIn};
+ghost use Rattle.pm_map.specs.Through.{result_start, new_at, IsIn, range_at};
 ghost use Rattle.pm_map.specs.Mirrors.{fit, gap_for, AreMirrors};
 
 use crate::ranges::{back, decide, kept, last};
@@ -73,6 +73,26 @@ impl StepMap {
         }
     }
 
+    /// Range number `i`, counted from 0. None exactly where there is no such range.
+    pub fn span(&self, i: u8) -> Option<Span>
+        ensures { result ≡ range_at self.now i }
+    {
+        match (self.first, self.second) {
+            (Some(r), Some(s)) => {
+                if i == 0 {
+                    Some(r)
+                } else if i == 1 {
+                    Some(s)
+                } else {
+                    None
+                }
+            }
+            (Some(r), None) => { if i == 0 { Some(r) } else { None } }
+            (None, Some(s)) => { if i == 0 { Some(s) } else { None } }
+            (None, None) => None,
+        }
+    }
+
     /// The map back: each range at its place in the result, with its old and new size exchanged.
     pub fn inverted(&self) -> StepMap
         ensures { result ≡ inverted_ranges self.now }
@@ -100,6 +120,13 @@ impl StepMap {
     /// The ranges of a map are in order.
     pub fn ordered(&self)
         ensures { AreInOrder self.now 0 0 0 }
+    {
+        let _ = &self.first;
+    }
+
+    /// A map has at most two ranges.
+    pub fn few(&self)
+        ensures { length self.now ≤ 2 }
     {
         let _ = &self.first;
     }
@@ -135,7 +162,7 @@ impl StepMap {
 
     /// The position `offset` tokens behind the start of range number `range` (from 0) in the result. The offset is at most
     /// that range's new size.
-    pub(crate) fn result_place(&self, range: u8, offset: u64) -> u64
+    pub fn result_place(&self, range: u8, offset: u64) -> u64
         requires range_in { range < length self.now }
         requires offset_in { offset ≤ new_at self.now range }
         ensures { result ≡ result_start self.now range + offset }
