@@ -2,7 +2,7 @@
 ghost use Rattle.pm_change.specs.Failing.{Answers};
 ghost use Rattle.pm_tokens.specs.Faults.{Valid};
 ghost use Rattle.pm_meaning.specs.Outcomes.{outcome};
-ghost use Rattle.pm_node.specs.Documents.{doc_of, doc_with};
+ghost use Rattle.pm_node.specs.Documents.{doc_with};
 ghost use Rattle.pm_schema.specs.Documents.{documents_of};
 ghost use Rattle.pm_step.specs.Steps.{step_of};
 
@@ -12,7 +12,7 @@ use crate::marking::Marking;
 use crate::replace::replace;
 use pm_change::Failed;
 use pm_meaning::Reason;
-use pm_node::{Body, Document, Fragment, Node, text_alone};
+use pm_node::{Document, Fragment, Node};
 use pm_schema::Schema;
 use pm_step::Step;
 use std::alloc::Global;
@@ -32,30 +32,7 @@ pub fn apply(
     requires { Valid (documents_of schema.now.spec) doc.now }
     ensures { Answers (outcome (documents_of schema.now.spec) (step_of step.now) doc.now) result }
 {
-    let top = doc.top();
-    apply_below(alloc, schema, step, top)
-}
-
-fn apply_below(
-    alloc: Global,
-    schema: &Schema,
-    step: &Step,
-    top: &Node,
-) -> Result<Document, Failed<Reason>>
-    requires { Valid (documents_of schema.now.spec) (doc_of top.now) }
-    ensures { Answers (outcome (documents_of schema.now.spec) (step_of step.now) (doc_of top.now)) result }
-{
-    match &top.body {
-        Body::Children(content) => apply_in(alloc, schema, step, top, content),
-        Body::Leaf => {
-            let content = Fragment::new(alloc);
-            apply_in(alloc, schema, step, top, &content)
-        }
-        Body::Text(units) => {
-            let content = text_alone(alloc, &top.marks, units)?;
-            apply_in(alloc, schema, step, top, &content)
-        }
-    }
+    apply_in(alloc, schema, step, doc.top(), doc.content())
 }
 
 /// The same for the document with the top node's type, attributes and marks and this content.

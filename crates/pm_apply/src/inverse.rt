@@ -4,7 +4,7 @@ ghost use Rattle.pm_tokens.specs.Tokens.{Doc};
 ghost use Rattle.pm_tokens.specs.Faults.{Valid};
 ghost use Rattle.pm_meaning.specs.Outcomes.{outcome};
 ghost use Rattle.pm_meaning.specs.Inverses.{inverse};
-ghost use Rattle.pm_node.specs.Documents.{doc_of, doc_with};
+ghost use Rattle.pm_node.specs.Documents.{doc_with};
 ghost use Rattle.pm_schema.specs.Documents.{documents_of};
 ghost use Rattle.pm_step.specs.Steps.{step_of};
 
@@ -14,7 +14,7 @@ use crate::marking::Marking;
 use crate::node_back::node_back;
 use crate::range_back::range_back;
 use crate::replace_back::{around_back, replace_back};
-use pm_node::{Body, Document, Fragment, Node, text_alone};
+use pm_node::{Document, Fragment, Node};
 use pm_schema::Schema;
 use pm_step::Step;
 use std::alloc::{AllocError, Global};
@@ -30,31 +30,7 @@ pub fn inverse(
     requires applies { ((next : Doc) × (outcome (documents_of schema.now.spec) (step_of step.now) doc.now ≡ Ok next)) }
     ensures { IfOk result (λ v. v.items ≡ inverse (documents_of schema.now.spec) (step_of step.now) doc.now) }
 {
-    let top = doc.top();
-    inverse_below(alloc, schema, step, top)
-}
-
-fn inverse_below(
-    alloc: Global,
-    schema: &Schema,
-    step: &Step,
-    top: &Node,
-) -> Result<Vec<DocChange>, AllocError>
-    requires good { Valid (documents_of schema.now.spec) (doc_of top.now) }
-    requires applies { ((next : Doc) × (outcome (documents_of schema.now.spec) (step_of step.now) (doc_of top.now) ≡ Ok next)) }
-    ensures { IfOk result (λ v. v.items ≡ inverse (documents_of schema.now.spec) (step_of step.now) (doc_of top.now)) }
-{
-    match &top.body {
-        Body::Children(content) => inverse_in(alloc, schema, step, top, content),
-        Body::Leaf => {
-            let content = Fragment::new(alloc);
-            inverse_in(alloc, schema, step, top, &content)
-        }
-        Body::Text(units) => {
-            let content = text_alone(alloc, &top.marks, units)?;
-            inverse_in(alloc, schema, step, top, &content)
-        }
-    }
+    inverse_in(alloc, schema, step, doc.top(), doc.content())
 }
 
 /// The same for the document with the top node's type, attributes and marks and this content.

@@ -1,12 +1,10 @@
 -- Nodes in normal form: their trees, and what each is where all can be written.
 use Rattle.std.proofs.Common.{◌≡◌, ◌<◌, ℕ, ◌+◌, List, [], ◌∷◌, ◌++◌, length, map, Bool, true, false, ◌&&◌, cond, refl, ap, sym, subst, ◌∙◌, append_assoc, arith}
 use Rattle.std.specs.Prelude.{Option, Some, None}
-use Rattle.std.proofs.lemmas.List.{append-nil}
 use Rattle.std.specs.List.{AllByRecursion}
 use Rattle.std.specs.Char.Utf16.{is_high_surrogate}
 use Rattle.std.specs.Arc.{arc_value}
 use Rattle.std.specs.declared.sync.Arc.{Arc}
-use Rattle.serde_json.specs.Data.{no_items, item}
 use Rattle.serde_json.specs.View.{items_of}
 use Rattle.pm_tokens.specs.Tokens.{Attrs, Marks, Token, Open, Close, Leaf, CodeUnit}
 use Rattle.pm_tokens.specs.Scan.{Balanced, none as empty, leaf, unit}
@@ -22,7 +20,7 @@ use Rattle.pm_node.proofs.TreeLaws.{balanced-node}
 use Rattle.pm_node.proofs.KindLaws.{ends-apart}
 use Rattle.pm_schema.specs.declared.spec.SchemaSpec.{SchemaSpec}
 use Rattle.pm_docjson.specs.Trees.{Tree, text, branch, none, tree, trees_of}
-use Rattle.pm_docjson.specs.Writing.{text_written, tree_written, trees_written, nodes_written, body_written, node_written}
+use Rattle.pm_docjson.specs.Writing.{tree_written, trees_written, nodes_written, body_written, node_written}
 use Rattle.pm_docjson.specs.Writable.{is_writable, are_writable, IsWritable, AreWritable}
 use Rattle.pm_docjson.proofs.TreeLaws.{trees-leaf, trees-branch, trees-text}
 use Rattle.pm_docjson.proofs.Pairs.{broken-behind, broken-before_close, broken-closed, broken-text, from_place}
@@ -83,23 +81,6 @@ nodes-written s (x ∷ xs) normal whole =
     let first : trees_of (node_tokens n ++ list_tokens xs) ≡ tree (tree_by n.kind n.attrs n.marks n.body) (trees_of (list_tokens xs)) =
     trees-node n.kind n.attrs n.marks n.body whole.0 normal.0 (ends-body n n.body xs refl normal.1 normal.2) (balanced-list xs whole.1) in
     ap (trees_written s) first ∙ rw (written-tree s n.kind n.attrs n.marks n.body, nodes-written s xs normal.2 whole.1) refl
-
--- the units of one text are written as that text
-pub units-written : (s : SchemaSpec) (m : Marks) (us : List ℕ) → 0 < length us → nodes_written s (text_tokens m us) ≡ item (text_written s us m) no_items
-unfolding tree_written trees_written
-units-written s m [] some = absurd (omega arith)
-units-written s m (u ∷ us) some =
-    let one : trees_of (text_tokens m (u ∷ us)) ≡ tree (text (u ∷ us) m) none = ap trees_of (sym (append-nil (text_tokens m (u ∷ us)))) ∙ trees-text u us m empty tt in
-    ap (trees_written s) one
-
-pub no_units-written : (s : SchemaSpec) (m : Marks) (us : List ℕ) → length us ≡ 0 → nodes_written s (text_tokens m us) ≡ no_items
-unfolding trees_written
-no_units-written s m [] size = refl
-no_units-written s m (u ∷ us) size = absurd (omega arith)
-
-pub nothing-written : (s : SchemaSpec) → nodes_written s [] ≡ no_items
-unfolding trees_written
-nothing-written s = refl
 
 -- ---- what can be written
 

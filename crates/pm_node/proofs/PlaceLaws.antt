@@ -3,14 +3,12 @@ use Rattle.std.specs.Prelude.{◌≡◌, ℕ, ◌+◌, ◌≤◌, min, Bool, tru
 use Rattle.std.proofs.Common.{refl, ap, sym, ◌∙◌, arith}
 use Rattle.pm_tokens.specs.Tokens.{Marks, Token}
 use Rattle.pm_tokens.specs.Schemas.{Schema}
-use Rattle.pm_tokens.specs.Scan.{head_of, deepest}
-use Rattle.pm_tokens.specs.Kids.{kids, text_tokens}
+use Rattle.pm_tokens.specs.Scan.{head_of}
+use Rattle.pm_tokens.specs.Kids.{kids}
 use Rattle.pm_tokens.specs.Faults.{Fault, Pair, attrs_fit, marks_fit, content_fits, pair_fits, high_of, under, fault_unless, first_some, first_fault, first_broken, one_on, place_unless, place_from, no_marks, top_fits, fault_place}
 use Rattle.pm_node.specs.Places.{place_in, least}
 use Rattle.pm_node.specs.declared.node.Node.{Node}
-use Rattle.pm_node.specs.declared.node.Body.{Body}
-use Rattle.pm_node.specs.declared.node.Body.TheVariants.{Text, Leaf as Childless, Children}
-use Rattle.pm_node.specs.Documents.{content_tokens, doc_with}
+use Rattle.pm_node.specs.Documents.{doc_with}
 
 -- counted from another start
 abbrev pub moved : ℕ → Option ℕ → Option ℕ
@@ -113,16 +111,3 @@ below-top s n ts broken a m k e =
     placed : (o : Option ℕ) → o ≡ place_in (option_map Pair o)
     placed None = refl
     placed (Some p) = refl
-
--- ---- depths
-
--- a text opens nothing
-flat-text : (m : Marks) (us : List ℕ) → deepest 0 (text_tokens m us) ≡ 0
-flat-text m [] = refl
-flat-text m (u ∷ us) = flat-text m us
-
--- a text or a leaf at the top opens nothing
-pub flat-content : (m : Marks) (b : Body) → ((ts : List Token) → b ≡ Children ts → ⊥) → deepest 0 (content_tokens m b) ≡ 0
-flat-content m (Text us) h = flat-text m us
-flat-content m Childless h = refl
-flat-content m (Children ts) h = absurd (h ts refl)

@@ -19,15 +19,6 @@ use Rattle.pm_node.specs.Trees.{WholeBody}
 use Rattle.pm_node.specs.Documents.{content_tokens, doc_of}
 use Rattle.pm_node.specs.Checks.{Tells, Checks}
 
--- the content of a document is a whole number of nodes
-pub whole-doc : (n : Node) → WholeBody n.body → is_whole (doc_of n).tokens ≡ true
-whole-doc n w = of-whole (content_tokens n.marks n.body) (balanced-whole (by n.marks n.body w))
-  where
-    by : (m : Marks) (b : Body) → WholeBody b → Balanced (content_tokens m b)
-    by m (Text us) w = balanced-text m us
-    by m Childless w = none
-    by m (Children ts) w = w
-
 pub valid-answer : (s : Schema) (d : Doc) (r : Result (Unit {0}) CheckError) → is_whole d.tokens ≡ true → Checks r (fault s d) → OnOk r (Valid s d)
 valid-answer s d (Ok u) w h = fault-valid s d w h
 valid-answer s d (Err e) w h = tt
@@ -44,6 +35,3 @@ told s d error.NoMemory h n f = n refl
 pub invalid-answer : (s : Schema) (d : Doc) (r : Result (Unit {0}) CheckError) → Checks r (fault s d) → IfErr r (λ e. e ≢ error.NoMemory → ¬ Valid s d)
 invalid-answer s d (Ok u) h = tt
 invalid-answer s d (Err e) h = λ n v. told s d e h n (valid-fault s d v)
-
-pub too-large : (s : Schema) (d : Doc) → max_size < length d.tokens → fault s d ≡ Some Large
-too-large s d h = let e : nat_le (length d.tokens) max_size ≡ false = grind (arith, nat_tests) in rw e refl

@@ -12,6 +12,12 @@ content_tokens marks (Text us) = text_tokens marks us
 content_tokens marks Childless = []
 content_tokens marks (Children ts) = ts
 
+-- the body is a fragment
+abbrev pub IsParent : Body → Type 0
+IsParent (Text us) = ⊥
+IsParent Childless = ⊥
+IsParent (Children ts) = Unit {0}
+
 -- the document with this top node
 abbrev pub doc_of : Node → Doc
 doc_of n = record { kind = n.kind; attrs = n.attrs; marks = n.marks; tokens = content_tokens n.marks n.body }

@@ -1,11 +1,10 @@
 //! The check of a document.
-ghost use Rattle.std.specs.Prelude.{◌≡◌, ◌≢◌, ◌+◌, ◌<◌, ◌≤◌, ◌^◌, ◌&&◌, ◌∷◌, List, ℕ, true, length, IsTrue, IfOk, OnOk, IfErr};
-ghost use Rattle.pm_tokens.specs.Kids.{text_tokens};
+ghost use Rattle.std.specs.Prelude.{◌≡◌, ◌≢◌, ◌+◌, ◌<◌, ◌≤◌, ◌^◌, ◌&&◌, ◌∷◌, List, ℕ, true, length, IsTrue, OnOk, IfErr};
 ghost use Rattle.pm_tokens.specs.Marks.{have_attrs, is_set, are_allowed};
 ghost use Rattle.pm_tokens.specs.Faults.{Valid, fault, first_fault, fault_unless};
 ghost use Rattle.pm_schema.specs.Documents.{documents_of};
 ghost use Rattle.pm_node.specs.Trees.{node_tokens};
-ghost use Rattle.pm_node.specs.Documents.{doc_of, doc_with};
+ghost use Rattle.pm_node.specs.Documents.{doc_with};
 ghost use Rattle.pm_node.specs.Checks.{Checks};
 
 use crate::depth::nests_within;
@@ -17,13 +16,11 @@ use crate::rules::{
     accepts, content_fits, leaf_fits, marks_are_allowed, marks_are_set, marks_have_attrs,
     node_attrs_fit,
 };
-use crate::units::Units;
 use pm_attrs::Attrs;
 use pm_auto::TypeId;
 use pm_marks::MarkSet;
 use pm_schema::Schema;
-use std::alloc::{AllocError, Global};
-use std::sync::Arc;
+use std::alloc::Global;
 
 /// The greatest number of tokens of a document.
 pub const MAX_SIZE: usize = 500_000;
@@ -39,46 +36,10 @@ impl Document {
         ensures valid { OnOk result (Valid (documents_of schema.now.spec) self.now) }
         ensures invalid { IfErr result (λ e. e ≢ CheckError.NoMemory → ¬ Valid (documents_of schema.now.spec) self.now) }
     {
-        let top = self.top();
-        let _ = top.size();
-        first_fault(alloc, schema, top)
+        let content = self.content();
+        let _ = content.size();
+        content_fault(alloc, schema, self.top(), content)
     }
-}
-
-fn first_fault(alloc: Global, schema: &Schema, top: &Node) -> Result<(), CheckError>
-    ensures { Checks result (fault (documents_of schema.now.spec) (doc_of top.now)) }
-{
-    match &top.body {
-        Body::Children(content) => content_fault(alloc, schema, top, content),
-        Body::Leaf => content_fault(alloc, schema, top, &Fragment::new(alloc)),
-        Body::Text(units) => {
-            if units.len() > MAX_SIZE {
-                return Err(CheckError::Large);
-            }
-            let content = text_alone(alloc, &top.marks, units)?;
-            content_fault(alloc, schema, top, &content)
-        }
-    }
-}
-
-/// The content that is one text: nothing for a text of no units.
-pub fn text_alone(
-    alloc: Global,
-    marks: &MarkSet<Attrs>,
-    units: &Units,
-) -> Result<Fragment, AllocError>
-    requires { length units.now < 2 ^ 32 }
-    ensures { IfOk result (λ f. f ≡ text_tokens marks.now units.now) }
-{
-    let text = Node {
-        kind: 0,
-        attrs: Attrs::new(Vec::new(alloc)),
-        marks: marks.copy(alloc)?,
-        body: Body::Text(units.copy(alloc)?),
-    };
-    let mut content = Fragment::new(alloc);
-    content.push(alloc, Arc::new(alloc, text)?)?;
-    Ok(content)
 }
 
 /// The first fault of the document with the top node's type, attributes and marks and this content.

@@ -1,18 +1,21 @@
 //! Fragments: made of nodes, copied, and their children by number.
 ghost use Rattle.std.specs.Prelude.{◌≡◌, ◌<◌, ◌≤◌, ◌+◌, ◌^◌, length, slice_index_or, [], ◌++◌, ◌↔◌, IsTrue, IfOk, OnOk};
 ghost use Rattle.pm_tokens.specs.Scan.{part};
-ghost use Rattle.pm_tokens.specs.Kids.{children};
+ghost use Rattle.pm_tokens.specs.Kids.{children, text_tokens};
 ghost use Rattle.pm_node.specs.Among.{Appended};
 ghost use Rattle.pm_node.specs.Trees.{node_tokens, nodes_tokens, list_tokens, Meets, IsNormal, EachWhole};
 
 use crate::children::Children;
 use crate::chunks::CHUNK;
 use crate::node::{Body, Fragment, Node};
+use crate::units::Units;
+use pm_attrs::Attrs;
+use pm_marks::MarkSet;
 use std::alloc::{AllocError, Global};
 use std::sync::Arc;
 
-/// The greatest number of tokens of a fragment.
-const MAX_TOKENS: usize = 0xFFFF_FFFF;
+/// The greatest number of tokens of a fragment. A text of more units has no room in one.
+pub(crate) const MAX_TOKENS: usize = 0xFFFF_FFFF;
 
 impl Fragment {
     /// Whether the nodes have at most 2^32 - 1 tokens together. It takes no memory.
@@ -53,6 +56,26 @@ impl Fragment {
         if let Some(node) = last {
             made.push(alloc, Arc::new(alloc, node)?)?;
         }
+        Ok(made)
+    }
+
+    /// One text of these units with these marks, or no node for no units.
+    pub fn from_text(
+        alloc: Global,
+        marks: &MarkSet<Attrs>,
+        units: &Units,
+    ) -> Result<Fragment, AllocError>
+        requires { length units.now < 2 ^ 32 }
+        ensures { IfOk result (λ f. f ≡ text_tokens marks.now units.now) }
+    {
+        let text = Node {
+            kind: 0,
+            attrs: Attrs::new(Vec::new(alloc)),
+            marks: marks.copy(alloc)?,
+            body: Body::Text(units.copy(alloc)?),
+        };
+        let mut made = Fragment::new(alloc);
+        made.push(alloc, Arc::new(alloc, text)?)?;
         Ok(made)
     }
 

@@ -19,7 +19,7 @@ mod units;
 mod values;
 
 pub use around::{Difference, stays_valid_around};
-pub use check::{MAX_DEPTH, MAX_SIZE, text_alone};
+pub use check::{MAX_DEPTH, MAX_SIZE};
 pub use children::{Children, Found};
 pub use document::Document;
 pub use fault::CheckError;

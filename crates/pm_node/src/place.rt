@@ -3,15 +3,15 @@ ghost use Rattle.std.specs.Prelude.{◌≡◌, ◌≤◌, ◌<◌, ◌^◌, ◌�
 ghost use Rattle.pm_tokens.specs.Scan.{deepest};
 ghost use Rattle.pm_tokens.specs.Faults.{Fault, fault_place};
 ghost use Rattle.pm_schema.specs.Documents.{documents_of};
-ghost use Rattle.pm_node.specs.Documents.{doc_of, doc_with};
+ghost use Rattle.pm_node.specs.Documents.{doc_with};
 ghost use Rattle.pm_node.specs.Checks.{Checks};
 ghost use Rattle.pm_node.specs.Places.{place_in, least};
 
-use crate::check::{MAX_SIZE, nodes_fault, text_alone};
+use crate::check::nodes_fault;
 use crate::depth::nests_within;
 use crate::document::Document;
 use crate::fault::CheckError;
-use crate::node::{Body, Fragment, Node};
+use crate::node::{Fragment, Node};
 use crate::pairs::first_broken;
 use crate::rules::{accepts, node_attrs_fit};
 use pm_schema::Schema;
@@ -22,41 +22,15 @@ impl Document {
     pub fn nests_within(&self, levels: usize) -> bool
         ensures { IsTrue result ↔ (deepest 0 self.now.tokens ≤ levels) }
     {
-        let top = self.top();
-        top_nests_within(top, levels)
+        nests_within(self.content(), levels)
     }
 
     /// The least place with a fault of attributes, marks or children, or with a broken unit. Place 0 is the top node, and
     /// place p + 1 the node or unit whose token is the p-th.
     pub fn fault_place(&self, alloc: Global, schema: &Schema) -> Result<Option<usize>, AllocError>
-        requires { length self.now.tokens ≤ MAX_SIZE }
         ensures { IfOk result (λ p. p ≡ fault_place (documents_of schema.now.spec) self.now) }
     {
-        let top = self.top();
-        least_place(alloc, schema, top)
-    }
-}
-
-fn top_nests_within(top: &Node, levels: usize) -> bool
-    ensures { IsTrue result ↔ (deepest 0 (doc_of top.now).tokens ≤ levels) }
-{
-    match &top.body {
-        Body::Children(content) => nests_within(content, levels),
-        _ => true,
-    }
-}
-
-fn least_place(alloc: Global, schema: &Schema, top: &Node) -> Result<Option<usize>, AllocError>
-    requires { length (doc_of top.now).tokens ≤ MAX_SIZE }
-    ensures { IfOk result (λ p. p ≡ fault_place (documents_of schema.now.spec) (doc_of top.now)) }
-{
-    match &top.body {
-        Body::Children(content) => content_place(alloc, schema, top, content),
-        Body::Leaf => content_place(alloc, schema, top, &Fragment::new(alloc)),
-        Body::Text(units) => {
-            let content = text_alone(alloc, &top.marks, units)?;
-            content_place(alloc, schema, top, &content)
-        }
+        content_place(alloc, schema, self.top(), self.content())
     }
 }
 

@@ -2,7 +2,7 @@
 use Rattle.std.specs.Prelude.{◌≡◌, ℕ, ◌+◌, ◌-◌, ◌≤◌, ◌<◌, ◌==◌, Bool, true, false, ◌&&◌, not, nat_le, List, [], ◌∷◌, length, Result, Ok, Err}
 use Rattle.std.proofs.Common.{refl, ap, sym, ◌∙◌, subst, arith}
 use Rattle.std.proofs.lemmas.Bool.{leb-true, le-leb, lt-leb, ne_eqb, and_from}
-use Rattle.pm_tokens.specs.Tokens.{Attrs, Marks, Token, Doc, with_tokens}
+use Rattle.pm_tokens.specs.Tokens.{Token, Doc, with_tokens}
 use Rattle.pm_node.specs.declared.node.Node.{Node}
 use Rattle.pm_node.specs.Documents.{doc_with}
 use Rattle.pm_node.specs.Changes.{Changed, Keeps}
@@ -170,9 +170,3 @@ spliced-changed s ts made from to new_to sl b w h i e is n =
       ends = omega (arith, n, slice-length sl (slice-is sl w));
       is = is ∙ spliced-plain (compatible s) ts from to sl (balanced-whole b) (slice-is sl w) h i d.0 d.1;
     }
-
--- a document with the head of a node and other content
-pub same-head : (n : Node) (ts : List Token) (attrs : Attrs) (marks : Marks) (d : Doc) → attrs ≡ n.attrs → marks ≡ n.marks
-    → d ≡ (let e : Doc = record { kind = n.kind; attrs = attrs; marks = marks; tokens = ts } in e) → d ≡ doc_with n ts
-same-head n ts attrs marks d a m e =
-    e ∙ (ap (λ z. (let e : Doc = record { kind = n.kind; attrs = z; marks = marks; tokens = ts } in e)) a ∙ ap (λ z. (let e : Doc = record { kind = n.kind; attrs = n.attrs; marks = z; tokens = ts } in e)) m)

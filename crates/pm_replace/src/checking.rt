@@ -1,5 +1,5 @@
 //! The check of a document that a step made.
-ghost use Rattle.std.specs.Prelude.{◌≡◌, ◌≤◌, length, IfOk};
+ghost use Rattle.std.specs.Prelude.{◌≤◌, length};
 ghost use Rattle.pm_change.specs.Failing.{Answers};
 ghost use Rattle.pm_meaning.specs.Outcomes.{checked};
 ghost use Rattle.pm_node.specs.Documents.{doc_with};
@@ -8,13 +8,10 @@ ghost use Rattle.pm_schema.specs.Documents.{documents_of};
 ghost use Rattle.pm_tokens.specs.Faults.{Valid};
 
 use pm_change::Failed;
-use pm_marks::Same;
 use pm_meaning::Reason;
-use pm_node::{
-    Body, Difference, Document, Fragment, MAX_DEPTH, MAX_SIZE, Node, stays_valid_around,
-};
+use pm_node::{Difference, Document, Fragment, MAX_DEPTH, MAX_SIZE, Node, stays_valid_around};
 use pm_schema::Schema;
-use std::alloc::{AllocError, Global};
+use std::alloc::Global;
 
 /// The document, unless it has more than 500,000 tokens (Large), a position is in more than 48 nodes (Deep), or a node or
 /// unit has a fault of attributes, marks or children or is a broken unit (Content, with the least such place).
@@ -45,7 +42,7 @@ pub fn checked_content(
 ) -> Result<Document, Failed<Reason>>
     ensures { Answers (checked (documents_of schema.now.spec) (doc_with top.now content)) result }
 {
-    let next = document_with(alloc, top, content)?;
+    let next = Document::with_content(alloc, top, content)?;
     checked(alloc, schema, next)
 }
 
@@ -70,22 +67,6 @@ pub fn checked_change(
     if !stays {
         return checked_content(alloc, schema, top, content);
     }
-    let next = document_with(alloc, top, content)?;
-    Ok(next)
-}
-
-/// The document with the type, attributes and marks of a node and this content.
-fn document_with(alloc: Global, top: &Node, content: Fragment) -> Result<Document, AllocError>
-    ensures { IfOk result (λ d. d ≡ doc_with top.now content) }
-{
-    let attrs = top.attrs.copy(alloc)?;
-    let marks = top.marks.copy(alloc)?;
-    let next = Node {
-        kind: top.kind,
-        attrs,
-        marks,
-        body: Body::Children(content),
-    };
-    let next = Document::new(alloc, next)?;
+    let next = Document::with_content(alloc, top, content)?;
     Ok(next)
 }

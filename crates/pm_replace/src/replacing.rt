@@ -6,7 +6,7 @@ ghost use Rattle.pm_tokens.specs.Faults.{Valid};
 ghost use Rattle.pm_change.specs.Failing.{Answers};
 ghost use Rattle.pm_meaning.specs.Steps.{Replace};
 ghost use Rattle.pm_meaning.specs.Outcomes.{outcome};
-ghost use Rattle.pm_node.specs.Documents.{doc_of, doc_with};
+ghost use Rattle.pm_node.specs.Documents.{doc_with};
 ghost use Rattle.pm_schema.specs.Documents.{documents_of};
 ghost use Rattle.pm_replace.specs.Splices.{spliced_outcome, Made};
 
@@ -16,7 +16,7 @@ use crate::splicing::{join, splice};
 use pm_build::{depth_at, parts_pair};
 use pm_change::Failed;
 use pm_meaning::Reason;
-use pm_node::{Body, Difference, Document, Fragment, MAX_SIZE, Node, text_alone};
+use pm_node::{Difference, Document, Fragment, MAX_SIZE, Node};
 use pm_schema::Schema;
 use pm_slice::Slice;
 use std::alloc::Global;
@@ -38,31 +38,16 @@ pub fn replace(
     ensures { Answers (outcome (documents_of schema.now.spec) (Replace from to slice.now false) doc.now) result }
 {
     let top = doc.top();
-    replace_below(alloc, schema, top, from as usize, to as usize, slice)
-}
-
-fn replace_below(
-    alloc: Global,
-    schema: &Schema,
-    top: &Node,
-    from: usize,
-    to: usize,
-    slice: &Slice,
-) -> Result<Document, Failed<Reason>>
-    requires { Valid (documents_of schema.now.spec) (doc_of top.now) }
-    ensures { Answers (outcome (documents_of schema.now.spec) (Replace from to slice.now false) (doc_of top.now)) result }
-{
-    match &top.body {
-        Body::Children(content) => replace_in(alloc, schema, top, content, from, to, slice),
-        Body::Leaf => {
-            let content = Fragment::new(alloc);
-            replace_in(alloc, schema, top, &content, from, to, slice)
-        }
-        Body::Text(units) => {
-            let content = text_alone(alloc, &top.marks, units)?;
-            replace_in(alloc, schema, top, &content, from, to, slice)
-        }
-    }
+    let content = doc.content();
+    replace_in(
+        alloc,
+        schema,
+        top,
+        content,
+        from as usize,
+        to as usize,
+        slice,
+    )
 }
 
 /// The document with the top node's type, attributes and marks and this content, with the range from..to replaced.

@@ -1,24 +1,22 @@
 -- A position among children: how many end at or before it, and how deep it is.
-use Rattle.std.specs.Prelude.{◌≡◌, ℕ, zero, suc, ◌+◌, ◌-◌, ◌≤◌, ◌<◌, Bool, true, false, ◌&&◌, nat_le, nat_lt, cond, if◌then◌else◌, List, [], ◌∷◌, ◌++◌, length, take, get_or}
+use Rattle.std.specs.Prelude.{◌≡◌, ℕ, zero, suc, ◌+◌, ◌-◌, ◌≤◌, ◌<◌, nat_le, cond, List, [], ◌∷◌, ◌++◌, length, take, get_or}
 use Rattle.std.specs.List.{filter}
 use Rattle.std.specs.declared.sync.Arc.{Arc}
 use Rattle.std.specs.Arc.{arc_value}
-use Rattle.std.proofs.Common.{refl, ap, sym, ◌∙◌, arith, length-append, inl, inr}
-use Rattle.std.proofs.lemmas.Bool.{le-leb, lt-leb, lt-ltb, cases_lt}
-use Rattle.std.proofs.lemmas.List.{append-nil, take_all, take-append-le}
+use Rattle.std.proofs.Common.{refl, ap, ◌∙◌, arith, length-append, inl, inr}
+use Rattle.std.proofs.lemmas.Bool.{le-leb, lt-leb, cases_lt}
+use Rattle.std.proofs.lemmas.List.{take_all, take-append-le}
 use Rattle.pm_tokens.specs.Tokens.{Attrs, Marks, Token}
 use Rattle.pm_tokens.specs.Scan.{unclosed, depth_at, Balanced, none}
-use Rattle.pm_tokens.specs.Kids.{text_tokens, children}
+use Rattle.pm_tokens.specs.Kids.{text_tokens}
 use Rattle.pm_tokens.proofs.ListLaws.{take_over, take-nil}
 use Rattle.pm_tokens.proofs.ScanLaws.{unclosed-append}
 use Rattle.pm_tokens.proofs.BalanceLaws.{unclosed-balanced, balanced-append}
-use Rattle.pm_tokens.proofs.ChildLaws.{children-text}
 use Rattle.pm_node.specs.declared.node.Node.{Node}
 use Rattle.pm_node.specs.declared.node.Body.{Body}
 use Rattle.pm_node.specs.declared.node.Body.TheVariants.{Text, Leaf as Childless, Children}
 use Rattle.pm_node.specs.Trees.{node_tokens, body_tokens, list_tokens, IsNormal, EachWhole}
 use Rattle.pm_node.specs.Among.{Stands}
-use Rattle.pm_node.proofs.TreeLaws.{length-text_tokens}
 use Rattle.pm_node.proofs.WalkLaws.{front, whole-node}
 use Rattle.pm_node.proofs.KindLaws.{child_tokens, children-list}
 use Rattle.pm_resolve.specs.Places.{ends, ended}
@@ -53,22 +51,6 @@ pub ended-stands : {Z : Type 0} (xs : List (Arc Node Z)) (pos i r : ℕ) → IsN
 ended-stands xs pos i r n w s =
     ap (λ cs. length (filter (λ e. nat_le e pos) (ends 0 cs))) (children-list xs n w) ∙ counted xs 0 i r pos (omega (arith, s.offset)) s.within s.inside
 
-one-ended : (b : Bool) (x : ℕ) → length (cond b (x ∷ []) []) ≡ cond b 1 0
-one-ended true x = refl
-one-ended false x = refl
-
--- of a content that is one text
-pub text-children : (m : Marks) (u : ℕ) (us : List ℕ) → children (text_tokens m (u ∷ us)) ≡ text_tokens m (u ∷ us) ∷ []
-text-children m u us = ap children (sym (append-nil (text_tokens m (u ∷ us)))) ∙ children-text m u us [] tt
-
-pub ended-text : (m : Marks) (us : List ℕ) (p : ℕ) → ended (text_tokens m us) p ≡ (if nat_lt 0 (length us) && nat_le (length us) p then 1 else 0)
-ended-text m [] p = refl
-ended-text m (u ∷ us) p =
-    let n : 0 + length (text_tokens m (u ∷ us)) ≡ length (u ∷ us) = omega (arith, length-text_tokens m (u ∷ us)) in
-    ap (λ cs. length (filter (λ e. nat_le e p) (ends 0 cs))) (text-children m u us)
-    ∙ (one-ended (nat_le (0 + length (text_tokens m (u ∷ us))) p) (0 + length (text_tokens m (u ∷ us)))
-    ∙ (ap (λ z. cond (nat_le z p) 1 0) n ∙ ap (λ b. cond (b && nat_le (length (u ∷ us)) p) 1 0) (sym (lt-ltb 0 (length (u ∷ us)) (omega arith)))))
-
 -- ---- how deep it is
 
 pub front-whole : {Z : Type 0} (xs : List (Arc Node Z)) (i : ℕ) → EachWhole xs → Balanced (front xs i)
@@ -92,9 +74,6 @@ unclosed-flat k a m (Text us) n h = unclosed-text [] n m us
 unclosed-flat k a m Childless zero h = refl
 unclosed-flat k a m Childless (suc n) h = ap (unclosed []) (take-nil n)
 unclosed-flat k a m (Children ts) n h = absurd (h ts refl)
-
-pub depth-text : (m : Marks) (us : List ℕ) (p : ℕ) → depth_at (text_tokens m us) p ≡ 0
-depth-text m us p = ap length (unclosed-text [] p m us)
 
 -- nor is it in a text or a leaf
 pub depth-flat : (xs ys : List Token) (n : Node) (p r : ℕ) → Balanced xs → p ≡ length xs + r → r ≤ length (node_tokens n) → ((ts : List Token) → n.body ≡ Children ts → ⊥) → depth_at (xs ++ (node_tokens n ++ ys)) p ≡ 0

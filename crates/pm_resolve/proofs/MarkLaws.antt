@@ -12,17 +12,15 @@ use Rattle.pm_marks.proofs.Laws.{same-equal, same-itself}
 use Rattle.pm_attrs.specs.Attrs.{same_attrs}
 use Rattle.pm_attrs.specs.Lawful.{same_attrs-decides}
 use Rattle.pm_tokens.specs.Tokens.{Attrs, Marks, Token}
-use Rattle.pm_tokens.specs.Kids.{text_tokens, children}
+use Rattle.pm_tokens.specs.Kids.{children}
 use Rattle.pm_node.specs.declared.node.Node.{Node}
 use Rattle.pm_node.specs.declared.node.Body.{Body}
 use Rattle.pm_node.specs.declared.node.Body.TheVariants.{Text, Leaf as Childless, Children}
 use Rattle.pm_node.specs.Trees.{node_tokens, body_tokens, list_tokens, IsNormal, EachWhole}
 use Rattle.pm_node.specs.Among.{Stands}
-use Rattle.pm_node.proofs.TreeLaws.{length-text_tokens}
 use Rattle.pm_node.proofs.WalkLaws.{front}
 use Rattle.pm_node.proofs.KindLaws.{child_tokens, children-list}
 use Rattle.pm_resolve.specs.Places.{Beside, Within, Between, beside, first_marks, going_on, marks_beside}
-use Rattle.pm_resolve.proofs.AmongLaws.{text-children}
 
 -- a mark is kept where its type is inclusive, or the other neighbour has it
 abbrev pub is_kept : (ℕ → Bool) → Marks → Mark Attrs → Bool
@@ -135,30 +133,6 @@ module _ {Z : Type 0} (inclusive : ℕ → Bool) (xs : List (Arc Node Z)) (pos i
         let t = node_tokens (arc_value x) in
         sym (ap (marks_beside inclusive) (stood ∙ (ap (beside (last_of None xs i) r) (next-is x h q) ∙ (before-first (last_of None xs i) t (child_tokens (drop (i + 1) xs)) r z ∙ ap (λ o. Between o (Some t)) y-last)))
         ∙ (ap (λ v. going_on inclusive v (first_marks (node_tokens (arc_value y)))) (node-marks (arc_value x) (normal-full xs i x n h q)) ∙ ap (going_on inclusive (arc_value x).marks) y-marks))
-
--- ---- at a content that is one text
-
-module _ (inclusive : ℕ → Bool) (m : Marks) where
-  pub text-none : (us : List ℕ) (p : ℕ) → length us ≡ 0 → ◌≡◌ {A = Marks} [] (marks_beside inclusive (beside None p (children (text_tokens m us))))
-  text-none [] p h = refl
-  text-none (u ∷ us) p h = absurd (omega (arith, h))
-
-  pub text-inside : (us : List ℕ) (p : ℕ) → 0 < p → p < length us → m ≡ marks_beside inclusive (beside None p (children (text_tokens m us)))
-  text-inside [] p h l = absurd (omega (arith, l))
-  text-inside (u ∷ us) p h l =
-      sym (ap (λ cs. marks_beside inclusive (beside None p cs)) (text-children m u us) ∙ ap (marks_beside inclusive) (within-first None (text_tokens m (u ∷ us)) [] p h (omega (arith, l, length-text_tokens m (u ∷ us)))))
-
-  pub text-start : (us : List ℕ) (p : ℕ) → 0 < length us → p ≡ 0 → going_on inclusive [] m ≡ marks_beside inclusive (beside None p (children (text_tokens m us)))
-  text-start [] p h z = absurd (omega (arith, h))
-  text-start (u ∷ us) p h z =
-      sym (ap (λ cs. marks_beside inclusive (beside None p cs)) (text-children m u us) ∙ ap (marks_beside inclusive) (before-first None (text_tokens m (u ∷ us)) [] p z))
-
-  pub text-end : (us : List ℕ) (p : ℕ) → 0 < length us → p ≡ length us → going_on inclusive [] m ≡ marks_beside inclusive (beside None p (children (text_tokens m us)))
-  text-end [] p h z = absurd (omega (arith, h))
-  text-end (u ∷ us) p h z =
-      let t = text_tokens m (u ∷ us) in
-      let e : p ≡ length t + 0 = omega (arith, z, length-text_tokens m (u ∷ us)) in
-      sym (ap (λ cs. marks_beside inclusive (beside None p cs)) (text-children m u us) ∙ (ap (λ q. marks_beside inclusive (beside None q (t ∷ []))) e ∙ ap (marks_beside inclusive) (step-behind None t [] 0 (omega arith))))
 
 -- ---- marks that go on
 

@@ -3,43 +3,17 @@ ghost use Rattle.std.specs.Prelude.{◌≡◌, ◌≤◌, ◌||◌, None, length
 ghost use Rattle.pm_marks.specs.Sets.{has};
 ghost use Rattle.pm_attrs.specs.Attrs.{same_attrs};
 ghost use Rattle.pm_tokens.specs.Kids.{children};
-ghost use Rattle.pm_node.specs.Documents.{doc_of};
 ghost use Rattle.pm_node.specs.Trees.{list_tokens, IsNormal, EachWhole};
 ghost use Rattle.pm_resolve.specs.Places.{beside, marks_beside, going_on, inclusive_in};
 
 use pm_attrs::Attrs;
 use pm_marks::{Mark, MarkSet};
-use pm_node::{Body, Children, Node};
+use pm_node::Children;
 use pm_schema::Schema;
 use std::alloc::{AllocError, Global};
 
-/// The marks at a position of the node's content.
-pub fn marks_in(
-    alloc: Global,
-    schema: &Schema,
-    node: &Node,
-    pos: usize,
-) -> Result<MarkSet<Attrs>, AllocError>
-    requires { pos ≤ length (doc_of node.now).tokens }
-    ensures { IfOk result (λ m. m ≡ marks_beside (inclusive_in schema.now.spec) (beside None pos (children (doc_of node.now).tokens))) }
-{
-    match &node.body {
-        Body::Text(units) => {
-            if units.len() == 0 {
-                Ok(MarkSet::empty(alloc))
-            } else if 0 < pos && pos < units.len() {
-                node.marks.copy(alloc)
-            } else {
-                going_on(alloc, schema, &node.marks, &MarkSet::empty(alloc))
-            }
-        }
-        Body::Leaf => Ok(MarkSet::empty(alloc)),
-        Body::Children(content) => marks_among(alloc, schema, &content.children(), pos),
-    }
-}
-
 /// The marks at a position among children.
-fn marks_among(
+pub fn marks_among(
     alloc: Global,
     schema: &Schema,
     nodes: &Children<'_>,

@@ -7,7 +7,7 @@ ghost use Rattle.pm_resolve.specs.Places.{node_around, whole_tokens, start_at, e
 ghost use Rattle.pm_resolve.specs.Levels.{Path};
 
 use crate::level::Level;
-use crate::marks::marks_in;
+use crate::marks::marks_among;
 use pm_attrs::Attrs;
 use pm_marks::MarkSet;
 use pm_node::{Document, Node};
@@ -109,6 +109,11 @@ impl<'a> Place<'a> {
         ensures { IfOk result (λ m. m ≡ marks_at (inclusive_in schema.now.spec) self.now.doc self.now.pos) }
     {
         let level = &self.levels[self.depth()];
-        marks_in(alloc, schema, level.node, self.pos - level.start)
+        marks_among(
+            alloc,
+            schema,
+            &level.content.children(),
+            self.pos - level.start,
+        )
     }
 }

@@ -1,12 +1,12 @@
 //! The place of a position.
-ghost use Rattle.std.specs.Prelude.{◌≡◌, ◌<◌, ◌≤◌, ◌-◌, ◌↔◌, ◌&&◌, if◌then◌else◌, nat_lt, nat_le, Err, length, IfOk, OnOk};
+ghost use Rattle.std.specs.Prelude.{◌≡◌, ◌<◌, ◌≤◌, ◌-◌, ◌↔◌, Err, length, IfOk, OnOk};
 ghost use Rattle.pm_node.specs.Documents.{doc_of};
 ghost use Rattle.pm_resolve.specs.Levels.{Entered};
 
 use crate::fault::PlaceError;
 use crate::level::Level;
 use crate::place::Place;
-use pm_node::{Body, Document, Node};
+use pm_node::{Body, Document, Fragment, Node};
 use std::alloc::{AllocError, Global};
 
 /// The place of a position of a document's content, counted in tokens. `OutOfRange` comes exactly where the position passes the size of the
@@ -21,59 +21,38 @@ pub fn resolve<'a>(alloc: Global, doc: &'a Document, pos: usize) -> Result<Place
         return Err(PlaceError::OutOfRange);
     }
     let mut levels = Vec::new(alloc);
-    enter(&mut levels, doc.top(), 0, pos)?;
+    enter(&mut levels, doc.top(), doc.content(), 0, pos)?;
     Ok(Place::new(doc, pos, levels))
 }
 
-/// Puts a level for the node, whose content starts at `start`, and then one for each node in it around the position.
+/// Puts a level for the node with this content, which starts at `start`, and then one for each node in it around the
+/// position.
 fn enter<'a>(
     levels: &mut Vec<Level<'a>>,
     node: &'a Node,
+    content: &'a Fragment,
     start: usize,
     pos: usize,
 ) -> Result<(), AllocError>
+    requires content { content.now ≡ (doc_of node.now).tokens }
     requires started { start ≤ pos }
-    requires within { pos - start ≤ length (doc_of node.now).tokens }
+    requires within { pos - start ≤ length content.now }
     ensures { OnOk result (Entered pos start node.now levels.old.items levels.new.items) }
 {
-    match &node.body {
-        Body::Text(units) => {
-            let index = ended_texts(units.len(), pos - start);
-            levels.push(Level { node, start, index })?;
-            Ok(())
-        }
-        Body::Leaf => {
-            levels.push(Level {
-                node,
-                start,
-                index: 0,
-            })?;
-            Ok(())
-        }
-        Body::Children(content) => {
-            let _ = content.size();
-            let children = content.children();
-            let found = children.find(pos - start);
-            levels.push(Level {
-                node,
-                start,
-                index: found.index,
-            })?;
-            if found.rest > 0 {
-                let child: &'a Node = children.get(found.index);
-                if let Body::Children(inner) = &child.body {
-                    let _ = inner.size();
-                    return enter(levels, child, pos - found.rest + 1, pos);
-                }
-            }
-            Ok(())
+    let children = content.children();
+    let found = children.find(pos - start);
+    levels.push(Level {
+        node,
+        content,
+        start,
+        index: found.index,
+    })?;
+    if found.rest > 0 {
+        let child: &'a Node = children.get(found.index);
+        if let Body::Children(inner) = &child.body {
+            let _ = inner.size();
+            return enter(levels, child, inner, pos - found.rest + 1, pos);
         }
     }
-}
-
-/// How many texts end at or before a position of a content that is one text of so many units, or none.
-fn ended_texts(units: usize, pos: usize) -> usize
-    ensures { result ≡ (if nat_lt 0 units && nat_le units pos then 1 else 0) }
-{
-    if units > 0 && units <= pos { 1 } else { 0 }
+    Ok(())
 }

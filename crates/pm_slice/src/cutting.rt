@@ -1,7 +1,6 @@
 //! Cutting a slice out of a document.
 ghost use Rattle.std.specs.Prelude.{◌≡◌, ◌≤◌, ◌<◌, length, IfOk, IfSome, IsNone};
 ghost use Rattle.pm_tokens.specs.Slices.{cut};
-ghost use Rattle.pm_node.specs.Documents.{doc_of};
 ghost use Rattle.pm_node.specs.Trees.{node_tokens};
 ghost use Rattle.pm_slice.specs.Cuts.{Cuts, Inside, HoldsNone, Flat};
 
@@ -9,7 +8,7 @@ use crate::clipping::clip;
 use crate::fault::CutError;
 use crate::slice::Slice;
 use pm_build::depth_at;
-use pm_node::{Body, Document, Fragment, Node, text_alone};
+use pm_node::{Body, Document, Fragment, Node};
 use std::alloc::{AllocError, Global};
 
 /// The part from..to of a document as a slice. Its tokens are the document's from..to. Nodes that are around one of the two
@@ -18,42 +17,7 @@ use std::alloc::{AllocError, Global};
 pub fn cut(alloc: Global, doc: &Document, from: usize, to: usize) -> Result<Slice, CutError>
     ensures { Cuts doc.now.tokens from to result }
 {
-    let top = doc.top();
-    cut_below(alloc, top, from, to)
-}
-
-fn cut_below(alloc: Global, top: &Node, from: usize, to: usize) -> Result<Slice, CutError>
-    ensures { Cuts (doc_of top.now).tokens from to result }
-{
-    match &top.body {
-        Body::Children(content) => cut_range(alloc, content, from, to),
-        Body::Leaf => {
-            let content = Fragment::new(alloc);
-            cut_range(alloc, &content, from, to)
-        }
-        Body::Text(units) => {
-            if to < from {
-                return Err(CutError::Range);
-            }
-            let len = units.len();
-            if len < to {
-                return Err(CutError::Range);
-            }
-            if len > MAX_TOKENS {
-                return Err(CutError::NoMemory);
-            }
-            let content = text_alone(alloc, &top.marks, units)?;
-            cut_range(alloc, &content, from, to)
-        }
-    }
-}
-
-/// The greatest number of tokens of a fragment. A text of more units has no room in one.
-const MAX_TOKENS: usize = 0xFFFF_FFFF;
-
-fn cut_range(alloc: Global, content: &Fragment, from: usize, to: usize) -> Result<Slice, CutError>
-    ensures { Cuts content.now from to result }
-{
+    let content = doc.content();
     if to < from {
         return Err(CutError::Range);
     }

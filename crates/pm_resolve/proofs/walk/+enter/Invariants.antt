@@ -1,6 +1,5 @@
 use Rattle.std.proofs.Common.{length}
-use Rattle.pm_node.specs.Trees.{node_tokens}
 use Rattle.pm_resolve.proofs.walk.+enter.Given as goal
 
 abbrev pub decreases-enter : goal.decreases-enter
-decreases-enter l = length (node_tokens l.node.now)
+decreases-enter l = length l.content.now
