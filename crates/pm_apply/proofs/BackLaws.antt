@@ -8,12 +8,13 @@ use Rattle.pm_tokens.specs.Scan.{parts_pair}
 use Rattle.pm_meaning.specs.Inverses.{same_tokens, gives, one_or_runs, inverse}
 use Rattle.pm_meaning.specs.Outcomes.{outcome}
 use Rattle.pm_meaning.specs.Runs.{run_steps, close_run}
-use Rattle.pm_apply.specs.declared.marking.Marking.{Marking}
-use Rattle.pm_apply.specs.declared.marking.Marking.TheVariants.{Add, Remove}
+use Rattle.pm_step.specs.declared.marking.Marking.{Marking}
+use Rattle.pm_step.specs.declared.marking.Marking.TheVariants.{Add, Remove}
 use Rattle.pm_apply.specs.declared.runs.Runs.{Runs}
 use Rattle.pm_apply.specs.declared.runs.Place.TheVariants.{Range, Node}
 use Rattle.pm_apply.specs.declared.marking.Reach.TheVariants.{Inline}
-use Rattle.pm_apply.specs.Markings.{marked_in, new_marks, opposite, range_step, node_step}
+use Rattle.pm_step.specs.Steps.{opposite, range_step, node_step}
+use Rattle.pm_apply.specs.Markings.{marked_in, new_marks}
 use Rattle.pm_apply.specs.Backs.{marked_twice}
 use Rattle.pm_apply.specs.Walks.{due_all, run_after, Took, run_of, place_step}
 use Rattle.pm_apply.proofs.MarkedLaws.{read-is, read-length}
@@ -77,9 +78,7 @@ module _ (s : Schema) (m : Marking) (from to : ℕ) (d : Doc) (v : Valid s d) (h
 
 -- the step that does this to a range, as the step at a place
 pub place-range : (b : Marking) (from to : ℕ) → place_step (Range from to) b ≡ range_step b from to
-place-range (Add k) from to = refl
-place-range (Remove k) from to = refl
+place-range b from to = refl
 
 pub place-node : (b : Marking) (pos : ℕ) → place_step (Node pos) b ≡ node_step b pos
-place-node (Add k) pos = refl
-place-node (Remove k) pos = refl
+place-node b pos = refl

@@ -10,7 +10,8 @@ use Rattle.pm_meaning.specs.Steps.{Step, AddMark, RemoveMark, AddNodeMark, Remov
 use Rattle.pm_meaning.specs.Inverses.{first_lost}
 use Rattle.pm_apply.specs.declared.runs.Place.{Place}
 use Rattle.pm_apply.specs.declared.runs.Place.TheVariants.{Range, Node}
-use Rattle.pm_apply.specs.declared.marking.Marking.TheVariants.{Add, Remove}
+use Rattle.pm_step.specs.declared.marking.Marking.{Marking}
+use Rattle.pm_step.specs.declared.marking.Marking.TheVariants.{Add, Remove}
 use Rattle.pm_apply.specs.Walks.{place_step, given_back}
 
 -- ---- the first mark that is lost
@@ -54,6 +55,10 @@ removed-push (Node pos) ms m =
 
 upto : (xs : Marks) (i : ℕ) (x : Mark Attrs) → i < length xs → x ≡ get_or xs i x → take (i + 1) xs ≡ take i xs ++ (x ∷ [])
 upto xs i x l r = take_more xs i x l ∙ ap (λ z. take i xs ++ (z ∷ [])) (sym r)
+
+-- a step with a copy of the mark
+pub copied : (p : Place) (does : Mark Attrs → Marking) (x y : Mark Attrs) (b c : List Step) → y ≡ x → c ≡ b ++ (place_step p (does y) ∷ []) → c ≡ b ++ (place_step p (does x) ∷ [])
+copied p does x y b c same e = e ∙ ap (λ z. b ++ (place_step p (does z) ∷ [])) same
 
 pub added-more : (p : Place) (xs : Marks) (i : ℕ) (x : Mark Attrs) (a b c : List Step) → i < length xs → x ≡ get_or xs i x
     → b ≡ a ++ given_back p (take i xs) [] → c ≡ b ++ (place_step p (Add x) ∷ []) → c ≡ a ++ given_back p (take (i + 1) xs) []

@@ -15,10 +15,10 @@ use Rattle.pm_meaning.proofs.ReplaceLaws.{not-true, of-depths, replaced}
 use Rattle.pm_meaning.proofs.AroundLaws.{moved}
 use Rattle.pm_meaning.proofs.MarkStepLaws.{range-order, node-order, node-stands}
 use Rattle.pm_apply.specs.declared.around.Ends.{Ends}
-use Rattle.pm_apply.specs.declared.marking.Marking.{Marking}
-use Rattle.pm_apply.specs.declared.marking.Marking.TheVariants.{Add, Remove}
+use Rattle.pm_step.specs.declared.marking.Marking.{Marking}
+use Rattle.pm_step.specs.declared.marking.Marking.TheVariants.{Add, Remove}
 use Rattle.pm_apply.specs.Around.{IsPlaced}
-use Rattle.pm_apply.specs.Markings.{range_step, node_step}
+use Rattle.pm_step.specs.Steps.{range_step, node_step}
 use Rattle.pm_apply.specs.Nodes.{marks_first}
 use Rattle.std.proofs.lemmas.Bool.{and_parts}
 

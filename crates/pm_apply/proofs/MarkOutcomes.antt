@@ -13,10 +13,11 @@ use Rattle.pm_meaning.specs.declared.reason.Reason.TheVariants.{Range, Pair, NoN
 use Rattle.pm_meaning.specs.Marked.{with_marks, marked, starts_node, with_node_marks, node_marked}
 use Rattle.pm_meaning.specs.Outcomes.{unless, and_unless, in_order, parts_no_pair, checked, outcome, range_outcome, node_outcome}
 use Rattle.pm_meaning.proofs.OutcomeLaws.{valid-checks}
-use Rattle.pm_apply.specs.declared.marking.Marking.{Marking}
-use Rattle.pm_apply.specs.declared.marking.Marking.TheVariants.{Add, Remove}
+use Rattle.pm_step.specs.declared.marking.Marking.{Marking}
+use Rattle.pm_step.specs.declared.marking.Marking.TheVariants.{Add, Remove}
 use Rattle.pm_apply.specs.declared.marking.Reach.TheVariants.{Inline, Nodes}
-use Rattle.pm_apply.specs.Markings.{changed, new_marks, marked_in, range_step, node_step}
+use Rattle.pm_step.specs.Steps.{range_step, node_step}
+use Rattle.pm_apply.specs.Markings.{changed, new_marks, marked_in}
 use Rattle.pm_apply.specs.Nodes.{marks_first}
 use Rattle.pm_replace.proofs.OutcomeAnswers.{passes, fails}
 

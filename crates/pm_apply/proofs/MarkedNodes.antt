@@ -14,7 +14,7 @@ use Rattle.pm_node.specs.declared.node.Body.TheVariants.{Text, Leaf as Childless
 use Rattle.pm_node.specs.Trees.{node_tokens, body_tokens}
 use Rattle.pm_node.proofs.TreeLaws.{node_tokens_at}
 use Rattle.pm_meaning.specs.Marked.{takes_marks, is_inline_token, starts_node}
-use Rattle.pm_apply.specs.declared.marking.Marking.{Marking}
+use Rattle.pm_step.specs.declared.marking.Marking.{Marking}
 use Rattle.pm_apply.specs.declared.marking.Sort.{Sort}
 use Rattle.pm_apply.specs.declared.marking.Reach.{Reach}
 use Rattle.pm_apply.specs.Markings.{new_marks, sort_marks, marked_in}

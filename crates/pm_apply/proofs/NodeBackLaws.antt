@@ -15,9 +15,10 @@ use Rattle.pm_meaning.specs.Marked.{starts_node, with_node_marks, node_marked}
 use Rattle.pm_meaning.specs.Inverses.{same_token, same_tokens, gives, node_marks, one_or, inverse}
 use Rattle.pm_meaning.specs.Outcomes.{and_unless, parts_no_pair, checked, outcome, node_outcome}
 use Rattle.pm_meaning.specs.Runs.{node_steps}
-use Rattle.pm_apply.specs.declared.marking.Marking.{Marking}
-use Rattle.pm_apply.specs.declared.marking.Marking.TheVariants.{Add, Remove}
-use Rattle.pm_apply.specs.Markings.{changed, node_step}
+use Rattle.pm_step.specs.declared.marking.Marking.{Marking}
+use Rattle.pm_step.specs.declared.marking.Marking.TheVariants.{Add, Remove}
+use Rattle.pm_step.specs.Steps.{node_step}
+use Rattle.pm_apply.specs.Markings.{changed}
 use Rattle.pm_apply.specs.Nodes.{marks_first}
 use Rattle.pm_apply.specs.Backs.{back_step}
 use Rattle.pm_apply.proofs.SameTokens.{and-yes-right, open-same, leaf-same, tokens-itself, same-append, checked-gives}

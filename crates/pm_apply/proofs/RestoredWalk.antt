@@ -16,7 +16,7 @@ use Rattle.pm_node.proofs.TreeLaws.{node_tokens_at, length-text_tokens}
 use Rattle.pm_node.proofs.WalkLaws.{front, rest, front-more, list-split}
 use Rattle.pm_meaning.specs.Inverses.{same_tokens}
 use Rattle.pm_meaning.specs.Marked.{takes_marks, is_inline_token, starts_node}
-use Rattle.pm_apply.specs.declared.marking.Marking.{Marking}
+use Rattle.pm_step.specs.declared.marking.Marking.{Marking}
 use Rattle.pm_apply.specs.declared.marking.Sort.{Sort}
 use Rattle.pm_apply.specs.declared.marking.Reach.TheVariants.{Inline}
 use Rattle.pm_apply.specs.Markings.{new_marks, sort_marks}

@@ -20,7 +20,7 @@ use Rattle.pm_node.proofs.WalkLaws.{front, rest, front-more, list-split}
 use Rattle.pm_meaning.specs.Marked.{takes_marks}
 use Rattle.pm_meaning.specs.Runs.{close_run, continues, due, next_run}
 use Rattle.pm_apply.specs.declared.runs.Runs.{Runs}
-use Rattle.pm_apply.specs.declared.marking.Marking.{Marking}
+use Rattle.pm_step.specs.declared.marking.Marking.{Marking}
 use Rattle.pm_apply.specs.declared.marking.Reach.TheVariants.{Inline}
 use Rattle.pm_apply.specs.Markings.{marked_in, new_marks}
 use Rattle.pm_apply.specs.Walks.{Took, run_of}

@@ -10,7 +10,7 @@ use Rattle.pm_tokens.specs.Scan.{Balanced, head_of, is_high, ends_high, starts_l
 use Rattle.pm_tokens.specs.Schemas.{Schema}
 use Rattle.pm_tokens.proofs.MarkLaws.{marks-equal}
 use Rattle.pm_meaning.specs.Inverses.{same_token, same_tokens}
-use Rattle.pm_apply.specs.declared.marking.Marking.{Marking}
+use Rattle.pm_step.specs.declared.marking.Marking.{Marking}
 use Rattle.pm_apply.specs.declared.marking.Reach.TheVariants.{Inline}
 use Rattle.pm_apply.specs.Markings.{marked_in, new_marks}
 use Rattle.pm_apply.specs.Backs.{marked_twice, twice}

@@ -6,8 +6,8 @@ use Rattle.pm_tokens.specs.Tokens.{Marks, Token}
 use Rattle.pm_tokens.specs.Schemas.{Schema}
 use Rattle.pm_meaning.specs.Steps.{Step, AddNodeMark, RemoveNodeMark}
 use Rattle.pm_meaning.specs.Inverses.{add_node_back}
-use Rattle.pm_apply.specs.declared.marking.Marking.{Marking}
-use Rattle.pm_apply.specs.declared.marking.Marking.TheVariants.{Add, Remove}
+use Rattle.pm_step.specs.declared.marking.Marking.{Marking}
+use Rattle.pm_step.specs.declared.marking.Marking.TheVariants.{Add, Remove}
 use Rattle.pm_apply.specs.declared.marking.Reach.TheVariants.{Inline}
 use Rattle.pm_apply.specs.Markings.{marked_in, new_marks}
 

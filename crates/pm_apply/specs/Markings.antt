@@ -3,10 +3,9 @@ use Rattle.std.specs.Prelude.{ℕ, ◌<◌, Bool, ◌&&◌, cond, List, [], ◌�
 use Rattle.pm_tokens.specs.Tokens.{Marks, Token, Open, Close, Leaf, CodeUnit}
 use Rattle.pm_tokens.specs.Scan.{unclosed, part}
 use Rattle.pm_tokens.specs.Schemas.{Schema}
-use Rattle.pm_meaning.specs.Steps.{Step, AddMark, RemoveMark, AddNodeMark, RemoveNodeMark}
 use Rattle.pm_meaning.specs.Marked.{add, remove, takes_marks, is_inline_token, with_marks, starts_node}
-use Rattle.pm_apply.specs.declared.marking.Marking.{Marking}
-use Rattle.pm_apply.specs.declared.marking.Marking.TheVariants.{Add, Remove}
+use Rattle.pm_step.specs.declared.marking.Marking.{Marking}
+use Rattle.pm_step.specs.declared.marking.Marking.TheVariants.{Add, Remove}
 use Rattle.pm_apply.specs.declared.marking.Sort.{Sort}
 use Rattle.pm_apply.specs.declared.marking.Reach.{Reach}
 use Rattle.pm_apply.specs.declared.marking.Reach.TheVariants.{Inline, Nodes}
@@ -15,20 +14,6 @@ use Rattle.pm_apply.specs.declared.marking.Reach.TheVariants.{Inline, Nodes}
 abbrev pub changed : Schema → Marking → Marks → Marks
 changed s (Add m) old = add s m old
 changed s (Remove m) old = remove m old
-
--- what takes the marking of a range back, where one step does
-abbrev pub opposite : Marking → Marking
-opposite (Add m) = Remove m
-opposite (Remove m) = Add m
-
--- the step that does this to a range, or to the node that begins at a position
-abbrev pub range_step : Marking → ℕ → ℕ → Step
-range_step (Add m) from to = AddMark from to m
-range_step (Remove m) from to = RemoveMark from to m
-
-abbrev pub node_step : Marking → ℕ → Step
-node_step (Add m) pos = AddNodeMark pos m
-node_step (Remove m) pos = RemoveNodeMark pos m
 
 -- Whether a token under a parent of the type is changed. takes: the token takes marks; inline: it is inline; node: it is an open
 -- or a leaf.

@@ -4,7 +4,7 @@ use Rattle.pm_attrs.specs.Attrs.{same_attrs}
 use Rattle.pm_marks.specs.Sets.{same_marks}
 use Rattle.pm_tokens.specs.Tokens.{Marks, Token, marks_of}
 use Rattle.pm_tokens.specs.Schemas.{Schema}
-use Rattle.pm_meaning.specs.Steps.{Step, AddMark, RemoveMark, AddNodeMark, RemoveNodeMark}
+use Rattle.pm_meaning.specs.Steps.{Step}
 use Rattle.pm_meaning.specs.Marked.{takes_marks}
 use Rattle.pm_meaning.specs.Runs as runs
 use Rattle.pm_meaning.specs.Runs.{range_steps, node_steps, continues, due, next_run}
@@ -12,15 +12,13 @@ use Rattle.pm_apply.specs.declared.runs.Run.{Run}
 use Rattle.pm_apply.specs.declared.runs.Runs.{Runs}
 use Rattle.pm_apply.specs.declared.runs.Place.{Place}
 use Rattle.pm_apply.specs.declared.runs.Place.TheVariants.{Range, Node}
-use Rattle.pm_apply.specs.declared.marking.Marking.{Marking}
-use Rattle.pm_apply.specs.declared.marking.Marking.TheVariants.{Add, Remove}
+use Rattle.pm_step.specs.declared.marking.Marking.{Marking}
+use Rattle.pm_step.specs.Steps.{node_step, range_step}
 
 -- the step that adds a mark at the place, or removes it
 abbrev pub place_step : Place → Marking → Step
-place_step (Range from to) (Add m) = AddMark from to m
-place_step (Range from to) (Remove m) = RemoveMark from to m
-place_step (Node pos) (Add m) = AddNodeMark pos m
-place_step (Node pos) (Remove m) = RemoveNodeMark pos m
+place_step (Range from to) marking = range_step marking from to
+place_step (Node pos) marking = node_step marking pos
 
 -- the steps that give the old marks back at the place
 abbrev pub given_back : Place → Marks → Marks → List Step

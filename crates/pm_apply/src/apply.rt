@@ -6,9 +6,9 @@ ghost use Rattle.pm_node.specs.Documents.{doc_with};
 ghost use Rattle.pm_schema.specs.Documents.{documents_of};
 ghost use Rattle.pm_step.specs.Steps.{step_of};
 
-use crate::around::{Ends, replace_around};
-use crate::mark_steps::{mark_node, mark_range};
-use crate::marking::Marking;
+use crate::around::replace_around;
+use crate::mark::mark_range;
+use crate::node_mark::mark_node;
 use crate::replace::replace;
 use pm_change::Failed;
 use pm_meaning::Reason;
@@ -47,70 +47,9 @@ fn apply_in(
     ensures { Answers (outcome (documents_of schema.now.spec) (step_of step.now) (doc_with top.now content.now)) result }
 {
     match step {
-        Step::Replace {
-            from,
-            to,
-            slice,
-            structure,
-        } => replace(
-            alloc,
-            schema,
-            top,
-            content,
-            *from as usize,
-            *to as usize,
-            slice,
-            *structure,
-        ),
-        Step::ReplaceAround {
-            from,
-            to,
-            gap_from,
-            gap_to,
-            slice,
-            insert,
-            structure,
-        } => {
-            let ends = Ends {
-                from: *from as usize,
-                to: *to as usize,
-                gap_from: *gap_from as usize,
-                gap_to: *gap_to as usize,
-                insert: *insert as usize,
-            };
-            replace_around(alloc, schema, top, content, ends, slice, *structure)
-        }
-        Step::AddMark { from, to, mark } => {
-            let marking = Marking::Add(mark.copy(alloc)?);
-            mark_range(
-                alloc,
-                schema,
-                top,
-                content,
-                *from as usize,
-                *to as usize,
-                &marking,
-            )
-        }
-        Step::RemoveMark { from, to, mark } => {
-            let marking = Marking::Remove(mark.copy(alloc)?);
-            mark_range(
-                alloc,
-                schema,
-                top,
-                content,
-                *from as usize,
-                *to as usize,
-                &marking,
-            )
-        }
-        Step::AddNodeMark { pos, mark } => {
-            let marking = Marking::Add(mark.copy(alloc)?);
-            mark_node(alloc, schema, top, content, *pos as usize, &marking)
-        }
-        Step::RemoveNodeMark { pos, mark } => {
-            let marking = Marking::Remove(mark.copy(alloc)?);
-            mark_node(alloc, schema, top, content, *pos as usize, &marking)
-        }
+        Step::Replace(step) => replace(alloc, schema, top, content, step),
+        Step::ReplaceAround(step) => replace_around(alloc, schema, top, content, step),
+        Step::Mark(step) => mark_range(alloc, schema, top, content, step),
+        Step::NodeMark(step) => mark_node(alloc, schema, top, content, step),
     }
 }

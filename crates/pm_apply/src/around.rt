@@ -4,11 +4,11 @@ ghost use Rattle.pm_change.specs.Failing.{Answers};
 ghost use Rattle.pm_tokens.specs.Scan.{parts_pair, part};
 ghost use Rattle.pm_tokens.specs.Schemas.{compatible};
 ghost use Rattle.pm_tokens.specs.Slices.{is_slice, slice_size, slice_tokens, spliced_around};
-ghost use Rattle.pm_meaning.specs.Steps.{ReplaceAround};
 ghost use Rattle.pm_meaning.specs.Outcomes.{in_order, keeps_structure, outcome, parts_no_pair};
 ghost use Rattle.pm_node.specs.Documents.{doc_with};
 ghost use Rattle.pm_schema.specs.Documents.{documents_of};
 ghost use Rattle.pm_replace.specs.Splices.{Joins, Splices, spliced_outcome};
+ghost use Rattle.pm_step.specs.Steps.{step_of};
 ghost use Rattle.pm_apply.specs.Around.{IsPlaced};
 
 use crate::sides::{is_whole, keeps_structure, sides_fit};
@@ -19,6 +19,7 @@ use pm_node::{Document, Fragment, MAX_SIZE, Node};
 use pm_replace::{checked_content, failed};
 use pm_schema::Schema;
 use pm_slice::Slice;
+use pm_step::{ReplaceAroundStep, Step};
 use std::alloc::{AllocError, Global};
 
 /// A range, the gap in it that is kept, and how many tokens of a slice come before the gap.
@@ -31,25 +32,30 @@ pub struct Ends {
     pub insert: usize,
 }
 
-/// The document with the top node's head and this content, with what is around the gap replaced by the slice, or the first
+/// The document with the top node's head and this content, with what is around the step's gap replaced by its slice, or the first
 /// reason why not, in the order Range, Structure, Gap, Depth, Pair, Join, Large, Deep, Content.
 pub fn replace_around(
     alloc: Global,
     schema: &Schema,
     top: &Node,
     content: &Fragment,
-    ends: Ends,
-    slice: &Slice,
-    structure: bool,
+    step: &ReplaceAroundStep,
 ) -> Result<Document, Failed<Reason>>
-    ensures { Answers (outcome (documents_of schema.now.spec)
-        (ReplaceAround ends.from ends.to ends.gap_from ends.gap_to slice.now ends.insert structure) (doc_with top.now content.now)) result }
+    ensures { Answers (outcome (documents_of schema.now.spec) (step_of (Step.ReplaceAround step.now)) (doc_with top.now content.now)) result }
 {
+    let ends = Ends {
+        from: step.from as usize,
+        to: step.to as usize,
+        gap_from: step.gap_from as usize,
+        gap_to: step.gap_to as usize,
+        insert: step.insert as usize,
+    };
+    let slice = &step.slice;
     let ordered = are_ordered(content, ends, slice);
     if !ordered {
         return Err(Failed::Reason(Reason::Range));
     }
-    let keeps = keeps_around(alloc, content, ends, structure)?;
+    let keeps = keeps_around(alloc, content, ends, step.structure)?;
     if !keeps {
         return Err(Failed::Reason(Reason::Structure));
     }

@@ -8,12 +8,11 @@ ghost use Rattle.pm_node.specs.Documents.{doc_with};
 ghost use Rattle.pm_schema.specs.Documents.{documents_of};
 ghost use Rattle.pm_step.specs.Steps.{step_of};
 
-use crate::around::Ends;
+use crate::around_back::around_back;
 use crate::change::DocChange;
-use crate::marking::Marking;
-use crate::node_back::node_back;
-use crate::range_back::range_back;
-use crate::replace_back::{around_back, replace_back};
+use crate::mark::range_back;
+use crate::node_mark::node_back;
+use crate::replace::replace_back;
 use pm_node::{Document, Fragment, Node};
 use pm_schema::Schema;
 use pm_step::Step;
@@ -46,66 +45,10 @@ fn inverse_in(
     ensures { IfOk result (λ v. v.items ≡ inverse (documents_of schema.now.spec) (step_of step.now) (doc_with top.now content.now)) }
 {
     match step {
-        Step::Replace {
-            from,
-            to,
-            slice,
-            structure: _,
-        } => {
-            let back = replace_back(alloc, top, content, *from as usize, *to as usize, slice)?;
-            one(alloc, back)
-        }
-        Step::ReplaceAround {
-            from,
-            to,
-            gap_from,
-            gap_to,
-            slice,
-            insert,
-            structure,
-        } => {
-            let ends = Ends {
-                from: *from as usize,
-                to: *to as usize,
-                gap_from: *gap_from as usize,
-                gap_to: *gap_to as usize,
-                insert: *insert as usize,
-            };
-            let back = around_back(alloc, schema, top, content, ends, slice, *structure)?;
-            one(alloc, back)
-        }
-        Step::AddMark { from, to, mark } => {
-            let marking = Marking::Add(mark.copy(alloc)?);
-            range_back(
-                alloc,
-                schema,
-                top,
-                content,
-                *from as usize,
-                *to as usize,
-                &marking,
-            )
-        }
-        Step::RemoveMark { from, to, mark } => {
-            let marking = Marking::Remove(mark.copy(alloc)?);
-            range_back(
-                alloc,
-                schema,
-                top,
-                content,
-                *from as usize,
-                *to as usize,
-                &marking,
-            )
-        }
-        Step::AddNodeMark { pos, mark } => {
-            let marking = Marking::Add(mark.copy(alloc)?);
-            node_back(alloc, schema, top, content, *pos as usize, &marking)
-        }
-        Step::RemoveNodeMark { pos, mark } => {
-            let marking = Marking::Remove(mark.copy(alloc)?);
-            node_back(alloc, schema, top, content, *pos as usize, &marking)
-        }
+        Step::Replace(step) => one(alloc, replace_back(alloc, top, content, step)?),
+        Step::ReplaceAround(step) => one(alloc, around_back(alloc, schema, top, content, step)?),
+        Step::Mark(step) => range_back(alloc, schema, top, content, step),
+        Step::NodeMark(step) => node_back(alloc, schema, top, content, step),
     }
 }
 

@@ -1,18 +1,17 @@
-//! Steps as changes of documents: what a step makes of a document, and the steps that take it back.
+//! Steps as changes of documents, a file for each kind: what a step makes of a document, and the steps that take it back.
 #![tactic(auto)]
 
 mod apply;
 mod around;
+mod around_back;
 mod between;
 mod change;
 mod inverse;
-mod mark_steps;
+mod mark;
 mod marking;
 mod marks;
-mod node_back;
-mod range_back;
+mod node_mark;
 mod replace;
-mod replace_back;
 mod restoring;
 mod runs;
 mod sides;

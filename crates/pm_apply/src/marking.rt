@@ -1,20 +1,14 @@
 //! Changes of the marks of a token.
 ghost use Rattle.std.specs.Prelude.{◌≡◌, ◌<◌, ◌&&◌, ◌||◌, true, length, IfOk};
 ghost use Rattle.pm_schema.specs.Documents.{documents_of};
-ghost use Rattle.pm_apply.specs.Markings.{changed, acts, opposite, sort_marks};
+ghost use Rattle.pm_apply.specs.Markings.{changed, acts, sort_marks};
 
 use pm_attrs::Attrs;
 use pm_auto::TypeId;
-use pm_marks::{Mark, MarkSet};
+use pm_marks::MarkSet;
 use pm_schema::Schema;
+use pm_step::Marking;
 use std::alloc::{AllocError, Global};
-
-/// What is done to a set of marks.
-#[derive(Drop)]
-pub enum Marking {
-    Add(Mark<Attrs>),
-    Remove(Mark<Attrs>),
-}
 
 /// Which tokens a mark step acts on: those that are inline, or the opens and leaves.
 #[derive(Clone, Copy)]
@@ -41,38 +35,28 @@ pub const UNIT: Sort = Sort {
     node: false,
 };
 
-impl Marking {
-    /// The set with the mark added, or without it.
-    pub fn change(
-        &self,
-        alloc: Global,
-        schema: &Schema,
-        set: &MarkSet<Attrs>,
-    ) -> Result<MarkSet<Attrs>, AllocError>
-        ensures { IfOk result (λ s. s ≡ changed (documents_of schema.now.spec) self.now set.now) }
-    {
-        match self {
-            Marking::Add(mark) => set.add(alloc, schema.rules(), mark),
-            Marking::Remove(mark) => set.remove(alloc, mark),
-        }
+/// The set with the mark added, or without it.
+pub fn change(
+    alloc: Global,
+    schema: &Schema,
+    marking: &Marking,
+    set: &MarkSet<Attrs>,
+) -> Result<MarkSet<Attrs>, AllocError>
+    ensures { IfOk result (λ s. s ≡ changed (documents_of schema.now.spec) marking.now set.now) }
+{
+    match marking {
+        Marking::Add(mark) => set.add(alloc, schema.rules(), mark),
+        Marking::Remove(mark) => set.remove(alloc, mark),
     }
+}
 
-    /// What takes the marking of a range back in most cases.
-    pub fn opposite(&self, alloc: Global) -> Result<Marking, AllocError>
-        ensures { IfOk result (λ m. m ≡ opposite self.now) }
-    {
-        match self {
-            Marking::Add(mark) => Ok(Marking::Remove(mark.copy(alloc)?)),
-            Marking::Remove(mark) => Ok(Marking::Add(mark.copy(alloc)?)),
-        }
-    }
-
+impl Reach {
     /// Whether the step acts on a token of this sort in a node of the type `parent`.
-    pub fn acts(&self, schema: &Schema, reach: Reach, sort: Sort, parent: TypeId) -> bool
+    pub fn acts(self, schema: &Schema, marking: &Marking, sort: Sort, parent: TypeId) -> bool
         requires { parent < length schema.now.spec.nodes }
-        ensures { result ≡ acts (documents_of schema.now.spec) self.now reach sort.takes sort.inline sort.node parent }
+        ensures { result ≡ acts (documents_of schema.now.spec) marking.now self sort.takes sort.inline sort.node parent }
     {
-        match (reach, self) {
+        match (self, marking) {
             (Reach::Inline, Marking::Add(mark)) => sort.takes && schema.allows(parent, mark.kind),
             (Reach::Inline, Marking::Remove(_)) => sort.inline,
             (Reach::Nodes, _) => sort.node,
@@ -81,19 +65,19 @@ impl Marking {
 
     /// The marks that come of the marks `old` of a token of this sort in a node of the type `parent`.
     pub fn made(
-        &self,
+        self,
         alloc: Global,
         schema: &Schema,
-        reach: Reach,
+        marking: &Marking,
         sort: Sort,
         parent: TypeId,
         old: &MarkSet<Attrs>,
     ) -> Result<MarkSet<Attrs>, AllocError>
         requires { parent < length schema.now.spec.nodes }
-        ensures { IfOk result (λ s. s ≡ sort_marks (documents_of schema.now.spec) self.now reach sort parent old.now) }
+        ensures { IfOk result (λ s. s ≡ sort_marks (documents_of schema.now.spec) marking.now self sort parent old.now) }
     {
-        if self.acts(schema, reach, sort, parent) {
-            self.change(alloc, schema, old)
+        if self.acts(schema, marking, sort, parent) {
+            change(alloc, schema, marking, old)
         } else {
             old.copy(alloc)
         }

@@ -9,12 +9,13 @@ ghost use Rattle.pm_schema.specs.Documents.{documents_of};
 ghost use Rattle.pm_apply.specs.Markings.{AreKnown, marked_in, new_marks};
 
 use crate::between::children_in;
-use crate::marking::{Marking, Reach, Sort, UNIT};
+use crate::marking::{Reach, Sort, UNIT};
 use pm_attrs::Attrs;
 use pm_auto::TypeId;
 use pm_marks::{MarkSet, Same};
 use pm_node::{Body, Fragment, Node, Units};
 use pm_schema::Schema;
+use pm_step::Marking;
 use std::alloc::{AllocError, Global};
 use std::sync::Arc;
 
@@ -123,12 +124,12 @@ fn mark_part(
 {
     match &node.body {
         Body::Text(units) => {
-            let marks = marking.made(alloc, schema, reach, UNIT, parent, &node.marks)?;
+            let marks = reach.made(alloc, schema, marking, UNIT, parent, &node.marks)?;
             mark_text(alloc, node, units, from, to, &marks, made)
         }
         Body::Leaf => {
             let sort = Sort::of(schema, node.kind, true);
-            let marks = marking.made(alloc, schema, reach, sort, parent, &node.marks)?;
+            let marks = reach.made(alloc, schema, marking, sort, parent, &node.marks)?;
             push_with(alloc, node, marks, Body::Leaf, made)
         }
         Body::Children(inner) => {
@@ -168,7 +169,7 @@ fn mark_open(
 {
     if from == 0 {
         let sort = Sort::of(schema, node.kind, false);
-        marking.made(alloc, schema, reach, sort, parent, &node.marks)
+        reach.made(alloc, schema, marking, sort, parent, &node.marks)
     } else {
         node.marks.copy(alloc)
     }

@@ -10,12 +10,13 @@ ghost use Rattle.pm_apply.specs.Markings.{AreKnown, sort_marks};
 ghost use Rattle.pm_apply.specs.Backs.{marked_twice, twice};
 
 use crate::between::children_in;
-use crate::marking::{Marking, Reach, Sort, UNIT};
+use crate::marking::{Reach, Sort, UNIT};
 use pm_attrs::Attrs;
 use pm_auto::TypeId;
 use pm_marks::MarkSet;
 use pm_node::{Body, Fragment, Node};
 use pm_schema::Schema;
+use pm_step::Marking;
 use std::alloc::{AllocError, Global};
 
 /// Whether the marking `back` gives the tokens from..to their marks back, behind the marking.
@@ -144,7 +145,7 @@ fn restores_marks(
         (sort_marks (documents_of schema.now.spec) back.now Reach.Inline sort parent
         (sort_marks (documents_of schema.now.spec) marking.now Reach.Inline sort parent old.now)) old.now) }
 {
-    let new = marking.made(alloc, schema, Reach::Inline, sort, parent, old)?;
-    let restored = back.made(alloc, schema, Reach::Inline, sort, parent, &new)?;
+    let new = Reach::Inline.made(alloc, schema, marking, sort, parent, old)?;
+    let restored = Reach::Inline.made(alloc, schema, back, sort, parent, &new)?;
     Ok(restored.same(old))
 }

@@ -9,10 +9,9 @@ ghost use Rattle.pm_step.specs.Steps.{step_of};
 ghost use Rattle.pm_apply.specs.Walks.{Took, given_back, place_step, run_of};
 
 use crate::change::DocChange;
-use crate::marking::Marking;
 use pm_attrs::Attrs;
 use pm_marks::{Mark, MarkSet};
-use pm_step::Step;
+use pm_step::{MarkStep, Marking, NodeMarkStep, Step};
 use std::alloc::{AllocError, Global};
 
 /// Where marks are given back: in a range, or at one node.
@@ -40,62 +39,22 @@ pub struct Runs {
 
 /// Puts the step that does this at the place behind the others.
 pub fn push_step(
-    alloc: Global,
     steps: &mut Vec<DocChange>,
     place: Place,
-    marking: &Marking,
+    marking: Marking,
 ) -> Result<(), AllocError>
-    ensures { OnOk result (steps.new.items ≡ steps.old.items ++ place_step place marking.now ∷ []) }
+    ensures { OnOk result (steps.new.items ≡ steps.old.items ++ place_step place marking ∷ []) }
 {
-    match marking {
-        Marking::Add(mark) => push_add(alloc, steps, place, mark),
-        Marking::Remove(mark) => push_remove(alloc, steps, place, mark),
-    }
-}
-
-fn push_add(
-    alloc: Global,
-    steps: &mut Vec<DocChange>,
-    place: Place,
-    mark: &Mark<Attrs>,
-) -> Result<(), AllocError>
-    ensures { OnOk result (steps.new.items ≡ steps.old.items ++ place_step place (Marking.Add mark.now) ∷ []) }
-{
-    let mark = mark.copy(alloc)?;
     let step = match place {
-        Place::Range { from, to } => Step::AddMark {
+        Place::Range { from, to } => Step::Mark(MarkStep {
             from: from as u64,
             to: to as u64,
-            mark,
-        },
-        Place::Node { pos } => Step::AddNodeMark {
+            marking,
+        }),
+        Place::Node { pos } => Step::NodeMark(NodeMarkStep {
             pos: pos as u64,
-            mark,
-        },
-    };
-    steps.push(DocChange::new(step))?;
-    Ok(())
-}
-
-fn push_remove(
-    alloc: Global,
-    steps: &mut Vec<DocChange>,
-    place: Place,
-    mark: &Mark<Attrs>,
-) -> Result<(), AllocError>
-    ensures { OnOk result (steps.new.items ≡ steps.old.items ++ place_step place (Marking.Remove mark.now) ∷ []) }
-{
-    let mark = mark.copy(alloc)?;
-    let step = match place {
-        Place::Range { from, to } => Step::RemoveMark {
-            from: from as u64,
-            to: to as u64,
-            mark,
-        },
-        Place::Node { pos } => Step::RemoveNodeMark {
-            pos: pos as u64,
-            mark,
-        },
+            marking,
+        }),
     };
     steps.push(DocChange::new(step))?;
     Ok(())
@@ -125,7 +84,7 @@ fn remove_all(
     ensures { OnOk result (steps.new.items ≡ steps.old.items ++ given_back place [] marks.now) }
 {
     for mark in marks {
-        push_remove(alloc, steps, place, mark)?;
+        push_step(steps, place, Marking::Remove(mark.copy(alloc)?))?;
     }
     Ok(())
 }
@@ -139,7 +98,7 @@ fn add_all(
     ensures { OnOk result (steps.new.items ≡ steps.old.items ++ given_back place marks.now []) }
 {
     for mark in marks {
-        push_add(alloc, steps, place, mark)?;
+        push_step(steps, place, Marking::Add(mark.copy(alloc)?))?;
     }
     Ok(())
 }

@@ -7,11 +7,12 @@ ghost use Rattle.pm_apply.specs.Markings.{AreKnown, marked_in, new_marks};
 ghost use Rattle.pm_apply.specs.Walks.{Took};
 
 use crate::between::children_in;
-use crate::marking::{Marking, Reach, Sort, UNIT};
+use crate::marking::{Reach, Sort, UNIT};
 use crate::runs::Runs;
 use pm_auto::TypeId;
 use pm_node::{Body, Fragment, Node};
 use pm_schema::Schema;
+use pm_step::Marking;
 use std::alloc::{AllocError, Global};
 
 impl Runs {
@@ -86,14 +87,14 @@ impl Runs {
             Body::Text(units) => {
                 let len = units.len();
                 let end = len.min(to);
-                let new = marking.made(alloc, schema, Reach::Inline, UNIT, parent, &node.marks)?;
+                let new = Reach::Inline.made(alloc, schema, marking, UNIT, parent, &node.marks)?;
                 self.pass(alloc, at, from)?;
                 self.token(alloc, at + from, true, &node.marks, &new)?;
                 self.pass(alloc, at + end, len - end)
             }
             Body::Leaf => {
                 let sort = Sort::of(schema, node.kind, true);
-                let new = marking.made(alloc, schema, Reach::Inline, sort, parent, &node.marks)?;
+                let new = Reach::Inline.made(alloc, schema, marking, sort, parent, &node.marks)?;
                 self.token(alloc, at, sort.takes, &node.marks, &new)
             }
             Body::Children(inner) => {
@@ -136,7 +137,7 @@ impl Runs {
             return self.pass(alloc, at, 1);
         }
         let sort = Sort::of(schema, node.kind, false);
-        let new = marking.made(alloc, schema, Reach::Inline, sort, parent, &node.marks)?;
+        let new = Reach::Inline.made(alloc, schema, marking, sort, parent, &node.marks)?;
         self.token(alloc, at, sort.takes, &node.marks, &new)
     }
 }

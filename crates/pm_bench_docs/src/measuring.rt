@@ -79,19 +79,27 @@ fn of_edit<R: Clock + AllocGlobal>(
 ) -> Result<Round>
     requires { Valid (documents_of inputs.now.schema.spec) inputs.now.document }
 {
-    let Step::Replace {
-        from,
-        to,
-        slice,
-        ..
-    } = step
-    else {
+    let Step::Replace(step) = step else {
         bail!("no step that replaces a range");
     };
     let document = &inputs.document;
     match call {
-        Call::Resolve => edits::resolve_at(rt, document, *from),
-        Call::Splice => edits::splice_in(rt, &inputs.schema, document, *from, *to, slice),
-        _ => edits::replace_in(rt, &inputs.schema, document, *from, *to, slice),
+        Call::Resolve => edits::resolve_at(rt, document, step.from),
+        Call::Splice => edits::splice_in(
+            rt,
+            &inputs.schema,
+            document,
+            step.from,
+            step.to,
+            &step.slice,
+        ),
+        _ => edits::replace_in(
+            rt,
+            &inputs.schema,
+            document,
+            step.from,
+            step.to,
+            &step.slice,
+        ),
     }
 }

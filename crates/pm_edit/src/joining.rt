@@ -12,7 +12,7 @@ use crate::refusal::EditRefusal;
 use pm_node::Document;
 use pm_schema::Schema;
 use pm_slice::Slice;
-use pm_step::Step;
+use pm_step::{ReplaceStep, Step};
 use std::alloc::{AllocError, Global};
 
 /// Joins the nodes that end at a position with those that begin there, `depth` of them within one another. `Range` comes
@@ -38,12 +38,12 @@ pub fn join(
     if !met {
         return Err(EditRefusal::NotThere);
     }
-    Ok(Step::Replace {
+    Ok(Step::Replace(ReplaceStep {
         from: pos - depth,
         to: pos + depth,
         slice: Slice::empty(alloc),
         structure: true,
-    })
+    }))
 }
 
 /// Whether so many closes stand before the position, and so many opens behind it: as many nodes more are around the positions

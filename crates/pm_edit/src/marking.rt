@@ -10,7 +10,7 @@ use pm_attrs::Attrs;
 use pm_marks::Mark;
 use pm_node::Document;
 use pm_schema::Schema;
-use pm_step::Step;
+use pm_step::{MarkStep, Marking, Step};
 use std::alloc::Global;
 
 /// Adds a mark to what is inline from..to. `Range` comes exactly where not from <= to <= size, and `NotThere` where the range
@@ -33,8 +33,8 @@ pub fn add_mark(
     if from == to {
         return Err(EditRefusal::NotThere);
     }
-    let mark = mark.copy(alloc)?;
-    Ok(Step::AddMark { from, to, mark })
+    let marking = Marking::Add(mark.copy(alloc)?);
+    Ok(Step::Mark(MarkStep { from, to, marking }))
 }
 
 /// Takes a mark from what is inline from..to. `Range` comes exactly where not from <= to <= size, and `NotThere` where the
@@ -57,6 +57,6 @@ pub fn remove_mark(
     if from == to {
         return Err(EditRefusal::NotThere);
     }
-    let mark = mark.copy(alloc)?;
-    Ok(Step::RemoveMark { from, to, mark })
+    let marking = Marking::Remove(mark.copy(alloc)?);
+    Ok(Step::Mark(MarkStep { from, to, marking }))
 }

@@ -9,7 +9,7 @@ ghost use Rattle.pm_edit.specs.Found.{Finds};
 use crate::places::place_at;
 use pm_node::{Document, Node};
 use pm_slice::Slice;
-use pm_step::Step;
+use pm_step::{ReplaceAroundStep, Step};
 use std::alloc::{AllocError, Global};
 
 /// A node that is no leaf, and the position behind it.
@@ -29,7 +29,7 @@ impl Found<'_> {
         let end = self.end;
         let gap_to = end - 1;
         let gap_from = pos + 1;
-        Step::ReplaceAround {
+        Step::ReplaceAround(ReplaceAroundStep {
             from: pos,
             to: end,
             gap_from,
@@ -37,7 +37,7 @@ impl Found<'_> {
             slice,
             insert,
             structure: true,
-        }
+        })
     }
 }
 

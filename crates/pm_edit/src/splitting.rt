@@ -15,7 +15,7 @@ use pm_node::{Document, Fragment};
 use pm_resolve::Place;
 use pm_schema::Schema;
 use pm_slice::Slice;
-use pm_step::Step;
+use pm_step::{ReplaceStep, Step};
 use std::alloc::{AllocError, Global};
 
 /// Splits the `depth` innermost nodes around a position: they end there, and nodes with the same types, attributes and marks
@@ -44,12 +44,12 @@ pub fn split(
         return Err(EditRefusal::NotThere);
     }
     let slice = split_slice(alloc, &place, depth as usize)?;
-    Ok(Step::Replace {
+    Ok(Step::Replace(ReplaceStep {
         from: pos,
         to: pos,
         slice,
         structure: true,
-    })
+    }))
 }
 
 /// The innermost nodes around the place without content, twice, with all of them open.

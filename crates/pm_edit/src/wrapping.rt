@@ -12,7 +12,7 @@ use pm_auto::TypeId;
 use pm_marks::MarkSet;
 use pm_node::Document;
 use pm_schema::Schema;
-use pm_step::Step;
+use pm_step::{ReplaceAroundStep, Step};
 use std::alloc::Global;
 
 /// Puts a node of the type, without marks, around from..to. `Range` comes exactly where not from <= to <= size, and `NotThere`
@@ -44,7 +44,7 @@ pub fn wrap(
         return Err(EditRefusal::NotThere);
     }
     let slice = empty_node(alloc, kind, attrs, MarkSet::empty(alloc))?;
-    Ok(Step::ReplaceAround {
+    Ok(Step::ReplaceAround(ReplaceAroundStep {
         from,
         to,
         gap_from: from,
@@ -52,5 +52,5 @@ pub fn wrap(
         slice,
         insert: 1,
         structure: true,
-    })
+    }))
 }

@@ -44,7 +44,7 @@ pub use pm_apply::DocChange;
 pub use pm_change::{Change, Failed};
 pub use pm_map::{Mapping, Moved, Recover, StepMap};
 pub use pm_replace::{Reason, replace};
-pub use pm_step::Step;
+pub use pm_step::{MarkStep, Marking, NodeMarkStep, ReplaceAroundStep, ReplaceStep, Step};
 
 // Edits: what an editor asks for, the steps that do it, and a slice fitted to a place.
 pub use pm_edit::{EditRefusal, steps_for};

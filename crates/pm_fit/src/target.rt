@@ -10,7 +10,7 @@ use pm_node::{Document, Fragment};
 use pm_replace::replace;
 use pm_schema::Schema;
 use pm_slice::Slice;
-use pm_step::Step;
+use pm_step::{ReplaceStep, Step};
 use std::alloc::{AllocError, Global};
 
 /// The range from..to of a document. Positions are in tokens.
@@ -50,12 +50,12 @@ impl Target<'_> {
             ≡ step_with (documents_of self.now.schema.now.spec) self.now.doc.now self.now.from self.now.to (Some slice)) }
     {
         match replace(alloc, self.schema, self.doc, self.from, self.to, &slice) {
-            Ok(_) => Ok(Some(Step::Replace {
+            Ok(_) => Ok(Some(Step::Replace(ReplaceStep {
                 from: self.from,
                 to: self.to,
                 slice,
                 structure: false,
-            })),
+            }))),
             Err(Failed::Reason(_)) => Ok(None),
             Err(Failed::NoMemory) => Err(AllocError),
         }

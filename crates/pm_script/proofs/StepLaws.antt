@@ -1,10 +1,10 @@
 -- Steps as they are read.
-use Rattle.std.proofs.Common.{◌≡◌, ℕ, refl, Result, Ok, ap, sym, subst}
+use Rattle.std.proofs.Common.{◌≡◌, ℕ, Result, Ok, ap, sym, subst}
 use Rattle.pm_list.specs.Readings.{◌>>=◌}
 use Rattle.pm_meaning.specs.Steps as steps
 use Rattle.pm_step.specs.declared.step.Step.{Step}
-use Rattle.pm_step.specs.declared.step.Step.TheVariants.{Replace, ReplaceAround, AddMark, RemoveMark, AddNodeMark, RemoveNodeMark}
-use Rattle.pm_step.specs.Steps.{step_of}
+use Rattle.pm_step.specs.Steps.{as_step, step_of}
+use Rattle.pm_step.proofs.Meant.{step-meant}
 use Rattle.pm_stepjson.specs.declared.fault.StepReadError.{StepReadError}
 use Rattle.pm_stepjson.specs.declared.fault.StepReadError.TheVariants.{Shape, UnknownKind, Slice, Mark, NoMemory}
 use Rattle.pm_stepjson.specs.Answers as step
@@ -13,16 +13,7 @@ use Rattle.pm_head.specs.Answers.{Fails}
 use Rattle.pm_head.specs.Codes.{node_code}
 use Rattle.pm_script.specs.Codes.{step_code, coded}
 use Rattle.pm_script.specs.Faults.{fault_of}
-use Rattle.pm_script.specs.Parts.{as_step}
 use Rattle.pm_script.proofs.PartLaws.{with-code}
-
-pub step-back : (s : Step) → as_step (step_of s) ≡ s
-step-back (Replace from to slice structure) = refl
-step-back (ReplaceAround from to gap_from gap_to slice insert structure) = refl
-step-back (AddMark from to mark) = refl
-step-back (RemoveMark from to mark) = refl
-step-back (AddNodeMark pos mark) = refl
-step-back (RemoveNodeMark pos mark) = refl
 
 -- a reading of a step as the reading of a line
 abbrev of_line : Result steps.Step StepReadError → Result Step ℕ
@@ -40,7 +31,7 @@ pub step-fault : (e : StepReadError) (line : LineError) (r : Result steps.Step S
 step-fault e line r f h = subst (λ (l : LineError). Fails l (of_line r)) (sym h) (line-of e r f)
 
 pub step-read : (s : Step) (r : Result steps.Step StepReadError) → r ≡ Ok (step_of s) → (coded r >>= (λ x. Ok (as_step x))) ≡ Ok s
-step-read s r h = rw h (ap Ok (step-back s))
+step-read s r h = rw h (ap Ok (step-meant s))
 
 -- the same of a step that is presented
 change-line : (e : StepReadError) (r : Result steps.Step StepReadError) → step.Fails e r → Fails (fault_of (step_code e)) (coded r)

@@ -17,19 +17,10 @@ use Rattle.pm_docjson.specs.Reading.{attrs_read, mark_of, node_of}
 use Rattle.pm_slicejson.specs.Reading.{slice_of}
 use Rattle.pm_meaning.specs.Steps as steps
 use Rattle.pm_step.specs.declared.step.Step.{Step}
-use Rattle.pm_step.specs.declared.step.Step.TheVariants.{Replace, ReplaceAround, AddMark, RemoveMark, AddNodeMark, RemoveNodeMark}
+use Rattle.pm_step.specs.Steps.{as_step}
 use Rattle.pm_stepjson.specs.Reading.{step_read}
 use Rattle.pm_script.specs.Codes.{coded, node_coded}
 use Rattle.pm_script.specs.Fields.{text_in}
-
--- the step, as it is told apart by its kind and fields
-abbrev pub as_step : steps.Step → Step
-as_step (steps.Replace from to slice structure) = Replace from to slice structure
-as_step (steps.ReplaceAround from to gap_from gap_to slice insert structure) = ReplaceAround from to gap_from gap_to slice insert structure
-as_step (steps.AddMark from to mark) = AddMark from to mark
-as_step (steps.RemoveMark from to mark) = RemoveMark from to mark
-as_step (steps.AddNodeMark pos mark) = AddNodeMark pos mark
-as_step (steps.RemoveNodeMark pos mark) = RemoveNodeMark pos mark
 
 module _ (s : SchemaSpec) where
   -- the value as a step

@@ -1,8 +1,18 @@
-//! The six kinds of steps, how positions move over a step, and how a step is carried over the steps of others.
+//! Steps as values, a file for each kind: its fields, its copy, how positions move over it, and how it is carried over the steps
+//! of others.
 #![tactic(auto)]
 
-mod carrying;
-mod maps;
+mod around;
+mod ends;
+mod mark;
+mod marking;
+mod node_mark;
+mod replace;
 mod step;
 
+pub use around::ReplaceAroundStep;
+pub use mark::MarkStep;
+pub use marking::Marking;
+pub use node_mark::NodeMarkStep;
+pub use replace::ReplaceStep;
 pub use step::Step;

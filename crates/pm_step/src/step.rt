@@ -1,109 +1,68 @@
-//! Steps.
+//! Steps of any kind.
 ghost use Rattle.std.specs.Prelude.{◌≡◌, IfOk};
+ghost use Rattle.std.specs.Option.{option_map};
+ghost use Rattle.pm_change.specs.Changes.{MayCarry};
+ghost use Rattle.pm_meaning.specs.Maps.{carry, is_within, step_map};
+ghost use Rattle.pm_step.specs.Steps.{step_of, HasSize};
 
-use pm_attrs::Attrs;
-use pm_marks::Mark;
-use pm_slice::Slice;
+use crate::around::ReplaceAroundStep;
+use crate::mark::MarkStep;
+use crate::node_mark::NodeMarkStep;
+use crate::replace::ReplaceStep;
+use pm_map::{Mapping, StepMap};
 use std::alloc::{AllocError, Global};
 
-/// A small change of a document. Positions are in tokens. With `structure` a step may overwrite closes followed by opens
-/// alone.
+/// A small change of a document. Positions are in tokens. Each kind is a type of its own; what they have in common is said here.
 #[derive(Drop)]
 pub enum Step {
-    /// Puts a slice in place of what stands from `from` to `to`.
-    Replace {
-        from: u64,
-        to: u64,
-        slice: Slice,
-        structure: bool,
-    },
-    /// Puts a slice in place of what stands from `from` to `to`, and keeps what stands from `gap_from` to `gap_to`: it comes
-    /// behind the first `insert` tokens of the slice.
-    ReplaceAround {
-        from: u64,
-        to: u64,
-        gap_from: u64,
-        gap_to: u64,
-        slice: Slice,
-        insert: u64,
-        structure: bool,
-    },
-    /// Adds a mark to the units and the inline leaves and atoms from `from` to `to`, where their parents allow it.
-    AddMark {
-        from: u64,
-        to: u64,
-        mark: Mark<Attrs>,
-    },
-    /// Takes a mark from all that is inline from `from` to `to`.
-    RemoveMark {
-        from: u64,
-        to: u64,
-        mark: Mark<Attrs>,
-    },
-    /// Adds a mark to the node that begins at `pos`.
-    AddNodeMark {
-        pos: u64,
-        mark: Mark<Attrs>,
-    },
-    /// Takes a mark from the node that begins at `pos`.
-    RemoveNodeMark {
-        pos: u64,
-        mark: Mark<Attrs>,
-    },
+    /// Puts a slice in place of a range.
+    Replace(ReplaceStep),
+    /// Puts a slice in place of a range, and keeps a part of it.
+    ReplaceAround(ReplaceAroundStep),
+    /// Adds a mark to a range, or takes it away.
+    Mark(MarkStep),
+    /// Adds a mark to one node, or takes it away.
+    NodeMark(NodeMarkStep),
 }
 
 impl Step {
-    /// A step equal to this one. It shares the nodes of the slice.
+    /// A step equal to this one. It shares the nodes of a slice.
     pub fn copy(&self, alloc: Global) -> Result<Step, AllocError>
         ensures { IfOk result (λ s. s ≡ self.now) }
     {
         match self {
-            Step::Replace {
-                from,
-                to,
-                slice,
-                structure,
-            } => Ok(Step::Replace {
-                from: *from,
-                to: *to,
-                slice: slice.copy(alloc)?,
-                structure: *structure,
-            }),
-            Step::ReplaceAround {
-                from,
-                to,
-                gap_from,
-                gap_to,
-                slice,
-                insert,
-                structure,
-            } => Ok(Step::ReplaceAround {
-                from: *from,
-                to: *to,
-                gap_from: *gap_from,
-                gap_to: *gap_to,
-                slice: slice.copy(alloc)?,
-                insert: *insert,
-                structure: *structure,
-            }),
-            Step::AddMark { from, to, mark } => Ok(Step::AddMark {
-                from: *from,
-                to: *to,
-                mark: mark.copy(alloc)?,
-            }),
-            Step::RemoveMark { from, to, mark } => Ok(Step::RemoveMark {
-                from: *from,
-                to: *to,
-                mark: mark.copy(alloc)?,
-            }),
-            Step::AddNodeMark { pos, mark } => Ok(Step::AddNodeMark {
-                pos: *pos,
-                mark: mark.copy(alloc)?,
-            }),
-            Step::RemoveNodeMark { pos, mark } => Ok(Step::RemoveNodeMark {
-                pos: *pos,
-                mark: mark.copy(alloc)?,
-            }),
+            Step::Replace(step) => Ok(Step::Replace(step.copy(alloc)?)),
+            Step::ReplaceAround(step) => Ok(Step::ReplaceAround(step.copy(alloc)?)),
+            Step::Mark(step) => Ok(Step::Mark(step.copy(alloc)?)),
+            Step::NodeMark(step) => Ok(Step::NodeMark(step.copy(alloc)?)),
+        }
+    }
+
+    /// How positions move over this step, by the ranges that it replaces. The step must be within some size below 2^32 tokens:
+    /// its positions are in order and do not pass it, and `insert` does not pass the size of the slice. It takes no memory.
+    pub fn step_map(&self) -> StepMap
+        requires { HasSize (step_of self.now) }
+        ensures { result ≡ step_map (step_of self.now) }
+    {
+        match self {
+            Step::Replace(step) => step.step_map(),
+            Step::ReplaceAround(step) => step.step_map(),
+            Step::Mark(step) => step.step_map(),
+            Step::NodeMark(step) => step.step_map(),
+        }
+    }
+
+    /// The step over a mapping, or None where it is lost, as `carry` of its kind says. The mapping must lead from a document of
+    /// a size that the step is within.
+    pub fn carry(&self, alloc: Global, mapping: &Mapping) -> Result<Option<Step>, AllocError>
+        requires { MayCarry is_within (step_of self.now) mapping.now }
+        ensures { IfOk result (λ o. option_map step_of o ≡ carry (step_of self.now) mapping.now) }
+    {
+        match self {
+            Step::Replace(step) => Ok(step.carry(alloc, mapping)?.map(Step::Replace)),
+            Step::ReplaceAround(step) => Ok(step.carry(alloc, mapping)?.map(Step::ReplaceAround)),
+            Step::Mark(step) => Ok(step.carry(alloc, mapping)?.map(Step::Mark)),
+            Step::NodeMark(step) => Ok(step.carry(alloc, mapping)?.map(Step::NodeMark)),
         }
     }
 }

@@ -1,7 +1,7 @@
 -- Steps that are written are read again.
 use Rattle.std.proofs.Common.{◌≡◌, ◌==◌, ◌<◌, ℕ, ◌^◌, Bool, true, false, cond, refl, ap, sym, subst, ◌∙◌, nat_lt, arith}
 use Rattle.std.proofs.lemmas.Bool.Decides.{nat_tests}
-use Rattle.std.specs.Prelude.{None, Ok, codes}
+use Rattle.std.specs.Prelude.{None, Result, Ok, Err, IfOk, OnOk, codes}
 use Rattle.serde_json.specs.Data.{Data, null, string}
 use Rattle.pm_marks.specs.declared.mark.Mark.{Mark}
 use Rattle.pm_tokens.specs.Tokens.{Attrs}
@@ -15,10 +15,18 @@ use Rattle.pm_slice.specs.Sides.{no_slice, or_none}
 use Rattle.pm_slicejson.specs.Reading.{slice_of}
 use Rattle.pm_slicejson.specs.Writing.{sides_written, slice_written}
 use Rattle.pm_meaning.specs.Steps.{Step, Replace, ReplaceAround, AddMark, RemoveMark, AddNodeMark, RemoveNodeMark}
+use Rattle.pm_step.specs.declared.marking.Marking.{Marking}
+use Rattle.pm_step.specs.declared.marking.Marking.TheVariants.{Add, Remove}
+use Rattle.pm_step.specs.Steps.{mark_in, node_step, range_step}
 use Rattle.pm_stepjson.specs.Members.{SliceAgain}
-use Rattle.pm_stepjson.specs.Reading.{as_slice, slice_in, replace_from, around_from, range_from, node_from, step_read}
+use Rattle.pm_stepjson.specs.Fields.{as_slice, slice_in, count}
+use Rattle.pm_stepjson.specs.Replace.{replace_from, replace_written}
+use Rattle.pm_stepjson.specs.Around.{around_from, around_written}
+use Rattle.pm_stepjson.specs.Mark.{range_from, range_written}
+use Rattle.pm_stepjson.specs.NodeMark.{node_from, node_written}
+use Rattle.pm_stepjson.specs.Reading.{step_read}
+use Rattle.pm_stepjson.specs.Writing.{step_written}
 use Rattle.pm_stepjson.specs.Writable.{CanBeWritten, HasCounts}
-use Rattle.pm_stepjson.specs.Writing.{count, replace_written, around_written, range_written, node_written}
 use Rattle.pm_stepjson.proofs.ObjectLaws.{replace_type, replace_to, replace_slice, replace_structure, around_type, around_to, around_slice, around_structure}
 
 small : (n : ℕ) → n < 2 ^ 32 → nat_lt 4294967295 n ≡ false
@@ -110,45 +118,33 @@ remove_node_mark-read : (s : SchemaSpec) (pos : ℕ) (mark : Mark Attrs) → pos
 unfolding step_read node_from
 remove_node_mark-read s pos mark hp again = rw (small pos hp, again) refl
 
--- what was written of a step is read as the step
-abbrev pub ReadAgain : SchemaSpec → Data → Step → Type 0
-ReadAgain s d st = step_read s d ≡ Ok st
+-- what is written of a step is read as the step, where it can be written
+abbrev pub IsReadAgain : SchemaSpec → Step → Type 0
+IsReadAgain s step = CanBeWritten s step → HasCounts step → step_read s (step_written s step) ≡ Ok step
 
-pub replace-again : (s : SchemaSpec) (st : Step) (d : Data) (from to : ℕ) (sl : Slice) (structure : Bool) → st ≡ Replace from to sl structure → d ≡ replace_written s from to sl structure → (AreWritable s sl.content → SliceAgain s sl) → CanBeWritten s st → HasCounts st → ReadAgain s d st
-replace-again s st d from to sl structure is wrote again can counts =
-    let w : CanBeWritten s (Replace from to sl structure) = subst (CanBeWritten s) is can in
-    let h : HasCounts (Replace from to sl structure) = subst HasCounts is counts in
-    ap (step_read s) wrote ∙ (replace-read s from to sl structure h.0 h.1 (again w) ∙ ap Ok (sym is))
+pub replace-again : (s : SchemaSpec) (from to : ℕ) (sl : Slice) (structure : Bool) → (AreWritable s sl.content → SliceAgain s sl) → IsReadAgain s (Replace from to sl structure)
+replace-again s from to sl structure again = λ can h. replace-read s from to sl structure h.0 h.1 (again can)
 
-pub around-again : (s : SchemaSpec) (st : Step) (d : Data) (from to gap_from gap_to : ℕ) (sl : Slice) (insert : ℕ) (structure : Bool) → st ≡ ReplaceAround from to gap_from gap_to sl insert structure → d ≡ around_written s from to gap_from gap_to sl insert structure
-    → (AreWritable s sl.content → SliceAgain s sl) → CanBeWritten s st → HasCounts st → ReadAgain s d st
-around-again s st d from to gap_from gap_to sl insert structure is wrote again can counts =
-    let w : CanBeWritten s (ReplaceAround from to gap_from gap_to sl insert structure) = subst (CanBeWritten s) is can in
-    let h : HasCounts (ReplaceAround from to gap_from gap_to sl insert structure) = subst HasCounts is counts in
-    ap (step_read s) wrote ∙ (around-read s from to gap_from gap_to sl insert structure h.0 h.1 h.2 h.3 h.4 (again w) ∙ ap Ok (sym is))
+pub around-again : (s : SchemaSpec) (from to gap_from gap_to : ℕ) (sl : Slice) (insert : ℕ) (structure : Bool) → (AreWritable s sl.content → SliceAgain s sl) → IsReadAgain s (ReplaceAround from to gap_from gap_to sl insert structure)
+around-again s from to gap_from gap_to sl insert structure again = λ can h. around-read s from to gap_from gap_to sl insert structure h.0 h.1 h.2 h.3 h.4 (again can)
 
-module _ (s : SchemaSpec) (st : Step) (d : Data) (from to : ℕ) (mark : Mark Attrs) (again : mark_fits s mark ≡ true → mark_of s (mark_written s mark) ≡ Ok mark) (can : CanBeWritten s st) (counts : HasCounts st) where
-  pub add_mark-again : st ≡ AddMark from to mark → d ≡ range_written s (codes "addMark") from to mark → ReadAgain s d st
-  add_mark-again is wrote =
-      let w : CanBeWritten s (AddMark from to mark) = subst (CanBeWritten s) is can in
-      let h : HasCounts (AddMark from to mark) = subst HasCounts is counts in
-      ap (step_read s) wrote ∙ (add_mark-read s from to mark h.0 h.1 (again w) ∙ ap Ok (sym is))
+-- the mark of a step is read as the mark, where it can be written
+abbrev pub IsMarkAgain : SchemaSpec → Mark Attrs → Type 0
+IsMarkAgain s mark = mark_fits s mark ≡ true → mark_of s (mark_written s mark) ≡ Ok mark
 
-  pub remove_mark-again : st ≡ RemoveMark from to mark → d ≡ range_written s (codes "removeMark") from to mark → ReadAgain s d st
-  remove_mark-again is wrote =
-      let w : CanBeWritten s (RemoveMark from to mark) = subst (CanBeWritten s) is can in
-      let h : HasCounts (RemoveMark from to mark) = subst HasCounts is counts in
-      ap (step_read s) wrote ∙ (remove_mark-read s from to mark h.0 h.1 (again w) ∙ ap Ok (sym is))
+pub range-again : (s : SchemaSpec) (m : Marking) (from to : ℕ) → IsMarkAgain s (mark_in m) → IsReadAgain s (range_step m from to)
+range-again s (Add mark) from to again = λ can h. add_mark-read s from to mark h.0 h.1 (again can)
+range-again s (Remove mark) from to again = λ can h. remove_mark-read s from to mark h.0 h.1 (again can)
 
-module _ (s : SchemaSpec) (st : Step) (d : Data) (pos : ℕ) (mark : Mark Attrs) (again : mark_fits s mark ≡ true → mark_of s (mark_written s mark) ≡ Ok mark) (can : CanBeWritten s st) (counts : HasCounts st) where
-  pub add_node_mark-again : st ≡ AddNodeMark pos mark → d ≡ node_written s (codes "addNodeMark") pos mark → ReadAgain s d st
-  add_node_mark-again is wrote =
-      let w : CanBeWritten s (AddNodeMark pos mark) = subst (CanBeWritten s) is can in
-      let h : HasCounts (AddNodeMark pos mark) = subst HasCounts is counts in
-      ap (step_read s) wrote ∙ (add_node_mark-read s pos mark h (again w) ∙ ap Ok (sym is))
+pub node-again : (s : SchemaSpec) (m : Marking) (pos : ℕ) → IsMarkAgain s (mark_in m) → IsReadAgain s (node_step m pos)
+node-again s (Add mark) pos again = λ can h. add_node_mark-read s pos mark h (again can)
+node-again s (Remove mark) pos again = λ can h. remove_node_mark-read s pos mark h (again can)
 
-  pub remove_node_mark-again : st ≡ RemoveNodeMark pos mark → d ≡ node_written s (codes "removeNodeMark") pos mark → ReadAgain s d st
-  remove_node_mark-again is wrote =
-      let w : CanBeWritten s (RemoveNodeMark pos mark) = subst (CanBeWritten s) is can in
-      let h : HasCounts (RemoveNodeMark pos mark) = subst HasCounts is counts in
-      ap (step_read s) wrote ∙ (remove_node_mark-read s pos mark h (again w) ∙ ap Ok (sym is))
+-- what a call wrote of a step is read as the step
+module _ (s : SchemaSpec) {J E Again : Type 0} (view : J → Data) where
+  pub reads-again : (step here : Step) (r : Result J E) → here ≡ step → IfOk r (λ j. view j ≡ step_written s step) → OnOk r Again → (Again → IsReadAgain s step)
+      → IfOk r (λ j. CanBeWritten s here → HasCounts here → step_read s (view j) ≡ Ok here)
+  reads-again step here (Ok j) is wrote again read =
+      subst (λ (x : Step). CanBeWritten s x → HasCounts x → step_read s (view j) ≡ Ok x) (sym is)
+      (λ can counts. ap (step_read s) wrote ∙ read again can counts)
+  reads-again step here (Err e) is wrote again read = tt

@@ -6,7 +6,7 @@ use Rattle.pm_docjson.specs.declared.fault.DocReadError.TheVariants.{Shape, Unkn
 use Rattle.pm_docjson.specs.Answers as doc
 use Rattle.pm_stepjson.specs.Answers.{Fails}
 use Rattle.pm_stepjson.specs.Faults.{slice_fault, mark_fault}
-use Rattle.pm_stepjson.specs.Reading.{as_slice, as_mark}
+use Rattle.pm_stepjson.specs.Fields.{as_slice, as_mark}
 
 pub slice-fails : {Y : Type 0} → (e : DocReadError) (r : Result Y DocReadError) → doc.Fails e r → Fails (slice_fault e) (as_slice r)
 slice-fails Shape r h = ap as_slice h

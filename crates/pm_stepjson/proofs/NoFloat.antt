@@ -12,7 +12,10 @@ use Rattle.pm_docjson.proofs.NoFloat.{neither, mark-whole}
 use Rattle.pm_slicejson.specs.Writing.{slice_written}
 use Rattle.pm_slicejson.proofs.NoFloat.{slice-whole}
 use Rattle.pm_meaning.specs.Steps.{Step, Replace, ReplaceAround, AddMark, RemoveMark, AddNodeMark, RemoveNodeMark}
-use Rattle.pm_stepjson.specs.Writing.{count, typed, with_structure, with_slice, replaced, range_written, node_written, step_written}
+use Rattle.pm_stepjson.specs.Fields.{count, typed, with_structure, with_slice, replaced}
+use Rattle.pm_stepjson.specs.Mark.{range_written}
+use Rattle.pm_stepjson.specs.NodeMark.{node_written}
+use Rattle.pm_stepjson.specs.Writing.{step_written}
 
 -- one more member without a float
 more : (k : List ℕ) (d : Data) (ms : Members) → has_float d ≡ false → members_have_float ms ≡ false → members_have_float (member k d ms) ≡ false

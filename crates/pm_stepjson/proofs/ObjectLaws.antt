@@ -7,8 +7,7 @@ use Rattle.pm_docjson.specs.Fields.{non_null, field}
 use Rattle.pm_schema.specs.declared.spec.SchemaSpec.{SchemaSpec}
 use Rattle.pm_tokens.specs.Slices.{Slice, slice_size}
 use Rattle.pm_slicejson.specs.Writing.{slice_written}
-use Rattle.pm_stepjson.specs.Reading.{structure_at}
-use Rattle.pm_stepjson.specs.Writing.{count, with_structure, replaced}
+use Rattle.pm_stepjson.specs.Fields.{structure_at, count, with_structure, replaced}
 use Rattle.pm_stepjson.specs.Members.{put_structure, put_slice}
 
 -- the members from `slice` to `to`, where `b` says that the slice is empty

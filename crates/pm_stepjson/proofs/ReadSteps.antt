@@ -26,11 +26,16 @@ use Rattle.pm_meaning.specs.Steps as steps
 use Rattle.pm_meaning.specs.Steps.{Step}
 use Rattle.pm_stepjson.specs.declared.kind.Kind.{Kind}
 use Rattle.pm_stepjson.specs.declared.kind.Kind.TheVariants.{Replace, ReplaceAround, AddMark, RemoveMark, AddNodeMark, RemoveNodeMark}
-use Rattle.pm_stepjson.specs.declared.reading.Ranged.{Ranged}
-use Rattle.pm_stepjson.specs.declared.reading.AtNode.{AtNode}
+use Rattle.pm_stepjson.specs.declared.mark.Ranged.{Ranged}
+use Rattle.pm_stepjson.specs.declared.node_mark.AtNode.{AtNode}
 use Rattle.pm_stepjson.specs.declared.fault.StepReadError.TheVariants.{Shape, UnknownKind}
 use Rattle.pm_stepjson.specs.Kinds.{kind_named}
-use Rattle.pm_stepjson.specs.Reading.{number_at, text_at, structure_at, as_slice, as_mark, slice_in, slice_at, mark_at, replace_from, around_from, range_from, node_from, kind_from, step_read}
+use Rattle.pm_stepjson.specs.Fields.{number_at, text_at, structure_at, as_slice, as_mark, slice_in, slice_at, mark_at}
+use Rattle.pm_stepjson.specs.Replace.{replace_from}
+use Rattle.pm_stepjson.specs.Around.{around_from}
+use Rattle.pm_stepjson.specs.Mark.{range_from}
+use Rattle.pm_stepjson.specs.NodeMark.{node_from}
+use Rattle.pm_stepjson.specs.Reading.{kind_from, step_read}
 use Rattle.pm_stepjson.specs.Writable.{CanBeWritten, IsCount, HasCounts}
 
 -- ---- fields

@@ -12,7 +12,12 @@ use Rattle.pm_stepjson.specs.declared.kind.Kind.{Kind}
 use Rattle.pm_stepjson.specs.declared.kind.Kind.TheVariants.{Replace, ReplaceAround, AddMark, RemoveMark, AddNodeMark, RemoveNodeMark}
 use Rattle.pm_stepjson.specs.declared.fault.StepReadError.TheVariants.{Shape, UnknownKind}
 use Rattle.pm_stepjson.specs.Kinds.{kind_named}
-use Rattle.pm_stepjson.specs.Reading.{number_at, text_at, structure_at, as_slice, as_mark, slice_in, slice_at, mark_at, replace_from, around_from, range_from, node_from, kind_from, step_read}
+use Rattle.pm_stepjson.specs.Fields.{number_at, text_at, structure_at, as_slice, as_mark, slice_in, slice_at, mark_at}
+use Rattle.pm_stepjson.specs.Replace.{replace_from}
+use Rattle.pm_stepjson.specs.Around.{around_from}
+use Rattle.pm_stepjson.specs.Mark.{range_from}
+use Rattle.pm_stepjson.specs.NodeMark.{node_from}
+use Rattle.pm_stepjson.specs.Reading.{kind_from, step_read}
 
 module _ (s t : SchemaSpec) (slices : (d : Data) → slice_of s d ≡ slice_of t d) (marks : (d : Data) → mark_of s d ≡ mark_of t d) where
   slice-in-alike : (o : Option Data) → slice_in s o ≡ slice_in t o

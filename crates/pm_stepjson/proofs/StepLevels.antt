@@ -10,7 +10,8 @@ use Rattle.pm_docjson.proofs.Levels.{mark-low, nodes-low}
 use Rattle.pm_slicejson.specs.Writing.{with_count, sides_written, slice_written}
 use Rattle.pm_meaning.specs.Steps.{Step, Replace, ReplaceAround, AddMark, RemoveMark, AddNodeMark, RemoveNodeMark}
 use Rattle.pm_stepjson.specs.Writable.{CanBeWritten, IsNested, NestsWithin}
-use Rattle.pm_stepjson.specs.Writing.{count, typed, with_structure, replaced, step_written}
+use Rattle.pm_stepjson.specs.Fields.{count, typed, with_structure, replaced}
+use Rattle.pm_stepjson.specs.Writing.{step_written}
 
 count-deep : (k : List ℕ) (n : ℕ) (ms : Members) → members_depth (with_count k n ms) ≤ members_depth ms
 count-deep k n ms = pick (n == 0)

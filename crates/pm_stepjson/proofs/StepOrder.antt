@@ -10,7 +10,8 @@ use Rattle.pm_docjson.specs.Writing.{nodes_written}
 use Rattle.pm_docjson.proofs.KeyOrder.{mark-ordered, nodes-ordered}
 use Rattle.pm_slicejson.specs.Writing.{sides_written, slice_written}
 use Rattle.pm_meaning.specs.Steps.{Step, Replace, ReplaceAround, AddMark, RemoveMark, AddNodeMark, RemoveNodeMark}
-use Rattle.pm_stepjson.specs.Writing.{count, typed, with_structure, replaced, step_written}
+use Rattle.pm_stepjson.specs.Fields.{count, typed, with_structure, replaced}
+use Rattle.pm_stepjson.specs.Writing.{step_written}
 
 module _ (s : SchemaSpec) where
   slice-ordered : (sl : Slice) → HasOrderedKeys (slice_written s sl)

@@ -1,6 +1,11 @@
 pub mod Answers
 pub mod Faults
 pub mod Kinds
+pub mod Fields
+pub mod Replace
+pub mod Around
+pub mod Mark
+pub mod NodeMark
 pub mod Reading
 pub mod Writing
 pub mod Writable

@@ -5,7 +5,7 @@ use Rattle.pm_tokens.specs.Slices.{Slice, slice_size}
 use Rattle.pm_schema.specs.declared.spec.SchemaSpec.{SchemaSpec}
 use Rattle.pm_docjson.specs.Fields.{non_null}
 use Rattle.pm_slicejson.specs.Writing.{slice_written}
-use Rattle.pm_stepjson.specs.Reading.{slice_in}
+use Rattle.pm_stepjson.specs.Fields.{slice_in}
 
 -- a flag, put in where it is true
 abbrev pub put_structure : Bool → Members → Members

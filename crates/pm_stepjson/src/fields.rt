@@ -3,7 +3,7 @@ ghost use Rattle.serde_json.specs.View.{view};
 ghost use Rattle.pm_stepjson.specs.Answers.{Gives};
 ghost use Rattle.pm_docjson.specs.Reading.{mark_of};
 ghost use Rattle.pm_slicejson.specs.Reading.{slice_of};
-ghost use Rattle.pm_stepjson.specs.Reading.{as_mark, as_slice, mark_at, number_at, slice_at, structure_at, text_at};
+ghost use Rattle.pm_stepjson.specs.Fields.{as_mark, as_slice, mark_at, number_at, slice_at, structure_at, text_at};
 
 use crate::fault::{StepReadError, mark_fault, slice_fault};
 use pm_attrs::Attrs;

@@ -1,11 +1,16 @@
-//! Steps as JSON values.
+//! Steps as JSON values, a file for each kind: how it is read, and how it is written.
 #![tactic(auto)]
 
+mod around;
 mod fault;
 mod fields;
 mod kind;
 pub mod laws;
+mod mark;
+mod members;
+mod node_mark;
 mod reading;
+mod replace;
 mod texts;
 mod writing;
 

@@ -5,7 +5,7 @@ ghost use Rattle.pm_tokens.specs.Slices.{slice_size};
 use pm_marks::MarkSet;
 use pm_node::{Units, text_alone};
 use pm_slice::Slice;
-use pm_step::Step;
+use pm_step::{ReplaceAroundStep, Step};
 use std::alloc::Global;
 use std::test::Fail;
 
@@ -24,7 +24,7 @@ fn letters(alloc: Global) -> Result<Slice, Fail>
 #[test]
 fn maps_have_the_ranges_of_their_steps(rt: HostRuntime) -> Result<(), Fail> {
     let alloc = rt.alloc();
-    let step = Step::ReplaceAround {
+    let step = Step::ReplaceAround(ReplaceAroundStep {
         from: 2,
         to: 9,
         gap_from: 3,
@@ -32,7 +32,7 @@ fn maps_have_the_ranges_of_their_steps(rt: HostRuntime) -> Result<(), Fail> {
         slice: letters(alloc)?,
         insert: 2,
         structure: true,
-    };
+    });
     let shown = format!(in alloc; "{:?}", step.step_map())?;
     let first = "first: Some(Span { start: 2, old_size: 1, new_size: 2 })";
     let second = "second: Some(Span { start: 8, old_size: 1, new_size: 0 })";

@@ -22,12 +22,7 @@ pub(crate) fn fitted(
     requires { Valid (documents_of schema.now.spec) before.now }
 {
     match step {
-        Step::Replace {
-            from,
-            to,
-            slice,
-            structure: _,
-        } => fitted_in(alloc, schema, before, *from, *to, slice),
+        Step::Replace(step) => fitted_in(alloc, schema, before, step.from, step.to, &step.slice),
         _ => Err(Fail::new("no range to fit into")),
     }
 }

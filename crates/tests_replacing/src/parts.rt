@@ -9,7 +9,7 @@ use pm_node::Fragment;
 use pm_replace::{Reason, checked, checked_content, failed, join, laws};
 use pm_schema::Schema;
 use pm_slice::Slice;
-use pm_step::Step;
+use pm_step::{MarkStep, Marking, ReplaceStep, Step};
 use pm_value::Value;
 use std::alloc::Global;
 use std::test::Fail;
@@ -64,23 +64,23 @@ fn of_one(alloc: Global, schema: &Schema, step: Step) -> Result<String, Fail> {
 
 /// A step far behind any document.
 fn far(alloc: Global) -> Step {
-    Step::Replace {
+    Step::Replace(ReplaceStep {
         from: u64::MAX,
         to: u64::MAX,
         slice: Slice::empty(alloc),
         structure: false,
-    }
+    })
 }
 
 /// A step that adds an em with an attribute, which it does not have.
 fn unfit(alloc: Global) -> Result<Step, Fail> {
     let attrs = Attrs::new(vec![in alloc; Value::Null]?);
     let mark = Mark { kind: 0, attrs };
-    Ok(Step::AddMark {
+    Ok(Step::Mark(MarkStep {
         from: 1,
         to: 2,
-        mark,
-    })
+        marking: Marking::Add(mark),
+    }))
 }
 
 /// Whether both steps are refused with their reasons.

@@ -21,15 +21,10 @@ pub(crate) fn replaced(
     requires { Valid (documents_of schema.now.spec) before.now }
 {
     match step {
-        Step::Replace {
-            from,
-            to,
-            slice,
-            structure: _,
-        } => told(
+        Step::Replace(step) => told(
             alloc,
             schema,
-            replace(alloc, schema, before, *from, *to, slice),
+            replace(alloc, schema, before, step.from, step.to, &step.slice),
         ),
         _ => Err(Fail::new("no range to replace")),
     }

@@ -3,7 +3,7 @@ use crate::rows::answers;
 use pm_node::{Body, Document, Fragment};
 use pm_schema::Schema;
 use pm_slice::{Slice, clip, cut, cut_content};
-use pm_step::Step;
+use pm_step::{ReplaceStep, Step};
 use pm_stepjson::step_text;
 use std::alloc::Global;
 use std::test::Fail;
@@ -66,12 +66,12 @@ fn opened(
 
 /// The text of a step that puts the slice in place of as many tokens as it has.
 fn shown(alloc: Global, schema: &Schema, slice: Slice) -> Result<String, Fail> {
-    let step = Step::Replace {
+    let step = Step::Replace(ReplaceStep {
         from: 0,
         to: slice.size() as u64,
         slice,
         structure: false,
-    };
+    });
     Ok(step_text(alloc, schema, &step)?)
 }
 

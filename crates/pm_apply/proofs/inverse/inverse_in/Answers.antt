@@ -5,7 +5,7 @@ use Rattle.pm_node.specs.Documents.{doc_with}
 use Rattle.pm_meaning.specs.Outcomes.{outcome}
 use Rattle.pm_step.specs.declared.step.Step.{Step}
 use Rattle.pm_step.specs.Steps.{step_of}
-use Rattle.pm_apply.specs.declared.around.Ends.{Ends}
+use Rattle.pm_apply.specs.Around.{ends_of}
 use Rattle.pm_apply.proofs.InverseLaws.{around-placed}
 use Rattle.pm_apply.proofs.inverse.inverse_in.Goals as goal
 
@@ -14,6 +14,5 @@ around_back-requires c =
     let s = documents_of c.args.schema.now.spec in
     let d = doc_with c.args.top.now c.args.content.now in
     let i = c.in-ReplaceAround in
-    let ends : Ends = record { from = i.from; to = i.to; gap_from = i.gap_from; gap_to = i.gap_to; insert = i.insert } in
-    around-placed s ends i.slice i.structure d c.requires.applies.0
+    around-placed s (ends_of i.step) i.step.slice i.step.structure d c.requires.applies.0
     (subst (λ (z : Step). outcome s (step_of z) d ≡ Ok c.requires.applies.0) i.is c.requires.applies.1)

@@ -7,34 +7,34 @@ use Rattle.pm_apply.proofs.replace.replace.Goals as goal
 
 pub returns-then-to-from : goal.returns-then-to-from
 returns-then-to-from c =
-    replace-range (documents_of c.args.schema.now.spec) (doc_with c.args.top.now c.args.content.now) c.args.from c.args.to c.args.slice.now c.args.structure c.size.ensures.slice
+    replace-range (documents_of c.args.schema.now.spec) (doc_with c.args.top.now c.args.content.now) c.args.step.now.from c.args.step.now.to c.args.step.now.slice c.args.step.now.structure c.size.ensures.slice
     (λ h i. omega (arith, h, c.if-to-from.true))
 
 pub returns-then-size-to : goal.returns-then-size-to
 returns-then-size-to c =
-    replace-range (documents_of c.args.schema.now.spec) (doc_with c.args.top.now c.args.content.now) c.args.from c.args.to c.args.slice.now c.args.structure c.size.ensures.slice
+    replace-range (documents_of c.args.schema.now.spec) (doc_with c.args.top.now c.args.content.now) c.args.step.now.from c.args.step.now.to c.args.step.now.slice c.args.step.now.structure c.size.ensures.slice
     (λ h i. omega (arith, i, c.if-size-to.true, c.size-size.ensures.size))
 
 pub returns-then-not-keeps : goal.returns-then-not-keeps
 returns-then-not-keeps c =
-    replace-structure (documents_of c.args.schema.now.spec) (doc_with c.args.top.now c.args.content.now) c.args.from c.args.to c.args.slice.now c.args.structure c.size.ensures.slice
+    replace-structure (documents_of c.args.schema.now.spec) (doc_with c.args.top.now c.args.content.now) c.args.step.now.from c.args.step.now.to c.args.step.now.slice c.args.step.now.structure c.size.ensures.slice
     c.if-to-from.false (omega (arith, c.if-size-to.false, c.size-size.ensures.size)) (sym c.in_ok-keeps.ensures ∙ c.if-not-keeps.true)
 
 pub returns-then-not-fits : goal.returns-then-not-fits
 returns-then-not-fits c =
-    replace-depth (documents_of c.args.schema.now.spec) (doc_with c.args.top.now c.args.content.now) c.args.from c.args.to c.args.slice.now c.args.structure c.size.ensures.slice
+    replace-depth (documents_of c.args.schema.now.spec) (doc_with c.args.top.now c.args.content.now) c.args.step.now.from c.args.step.now.to c.args.step.now.slice c.args.step.now.structure c.size.ensures.slice
     c.if-to-from.false (omega (arith, c.if-size-to.false, c.size-size.ensures.size)) (sym c.in_ok-keeps.ensures ∙ c.if-not-keeps.false)
     (sym c.sides_fit-fits.ensures ∙ c.if-not-fits.true)
 
 pub returns-then-parts_pair : goal.returns-then-parts_pair
 returns-then-parts_pair c =
-    replace-pair (documents_of c.args.schema.now.spec) (doc_with c.args.top.now c.args.content.now) c.args.from c.args.to c.args.slice.now c.args.structure c.size.ensures.slice
+    replace-pair (documents_of c.args.schema.now.spec) (doc_with c.args.top.now c.args.content.now) c.args.step.now.from c.args.step.now.to c.args.step.now.slice c.args.step.now.structure c.size.ensures.slice
     c.if-to-from.false (omega (arith, c.if-size-to.false, c.size-size.ensures.size)) (sym c.in_ok-keeps.ensures ∙ c.if-not-keeps.false)
     (sym c.sides_fit-fits.ensures ∙ c.if-not-fits.false) true (sym c.parts_pair.ensures ∙ c.if-parts_pair.true) (λ e. absurd (cc))
 
 pub returns-then-parts_pair-2 : goal.returns-then-parts_pair-2
 returns-then-parts_pair-2 c =
-    replace-pair (documents_of c.args.schema.now.spec) (doc_with c.args.top.now c.args.content.now) c.args.from c.args.to c.args.slice.now c.args.structure c.size.ensures.slice
+    replace-pair (documents_of c.args.schema.now.spec) (doc_with c.args.top.now c.args.content.now) c.args.step.now.from c.args.step.now.to c.args.step.now.slice c.args.step.now.structure c.size.ensures.slice
     c.if-to-from.false (omega (arith, c.if-size-to.false, c.size-size.ensures.size)) (sym c.in_ok-keeps.ensures ∙ c.if-not-keeps.false)
     (sym c.sides_fit-fits.ensures ∙ c.if-not-fits.false) false (sym c.parts_pair.ensures ∙ c.if-parts_pair.false) (λ e. sym c.parts_pair-2.ensures ∙ c.if-parts_pair-2.true)
 
@@ -49,7 +49,7 @@ splice_valid-requires c = record {
 pub returns : goal.returns
 returns c =
     subst (λ z. Answers z c.splice_valid.result)
-    (sym (replace-spliced (documents_of c.args.schema.now.spec) (doc_with c.args.top.now c.args.content.now) c.args.from c.args.to c.args.slice.now c.args.structure c.size.ensures.slice
+    (sym (replace-spliced (documents_of c.args.schema.now.spec) (doc_with c.args.top.now c.args.content.now) c.args.step.now.from c.args.step.now.to c.args.step.now.slice c.args.step.now.structure c.size.ensures.slice
     c.if-to-from.false (omega (arith, c.if-size-to.false, c.size-size.ensures.size)) (sym c.in_ok-keeps.ensures ∙ c.if-not-keeps.false)
     (sym c.sides_fit-fits.ensures ∙ c.if-not-fits.false) (sym c.parts_pair.ensures ∙ c.if-parts_pair.false) (sym c.parts_pair-2.ensures ∙ c.if-parts_pair-2.false)))
     c.splice_valid.ensures

@@ -1,4 +1,5 @@
-use Rattle.pm_apply.proofs.FirstLost.{removed-more, all-removed, given-nothing}
+use Rattle.pm_step.specs.declared.marking.Marking.TheVariants.{Remove}
+use Rattle.pm_apply.proofs.FirstLost.{copied, removed-more, all-removed, given-nothing}
 use Rattle.pm_apply.proofs.runs.remove_all.Goals as goal
 
 pub loop-mark-init : goal.loop-mark-init
@@ -7,7 +8,7 @@ loop-mark-init c = given-nothing c.args.place c.args.steps.now.items
 pub loop-mark-preserved : goal.loop-mark-preserved
 loop-mark-preserved c =
     removed-more c.args.place c.args.marks.now c.loop-mark.mark-index c.mark-item.result c.args.steps.now.items _ _ c.loop-mark-test.true c.mark-item.is
-    c.loop-mark.invariant c.in_ok-push_remove.ensures
+    c.loop-mark.invariant (copied c.args.place Remove _ _ _ _ c.in_ok-copy.ensures c.in_ok-push_step.ensures)
 
 pub returns : goal.returns
 returns c = all-removed c.args.place c.args.marks.now c.loop-mark.mark-index c.args.steps.now.items _ c.loop-mark.invariant c.loop-mark-test.false

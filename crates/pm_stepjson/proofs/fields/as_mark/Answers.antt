@@ -3,7 +3,7 @@ use Rattle.serde_json.specs.View.{view}
 use Rattle.pm_docjson.specs.Reading.{mark_of}
 use Rattle.pm_stepjson.specs.declared.fault.StepReadError.{StepReadError}
 use Rattle.pm_stepjson.specs.Answers.{Fails}
-use Rattle.pm_stepjson.specs.Reading.{as_mark}
+use Rattle.pm_stepjson.specs.Fields.{as_mark}
 use Rattle.pm_stepjson.proofs.FaultLaws.{mark-fails}
 use Rattle.pm_stepjson.proofs.fields.as_mark.Goals as goal
 

@@ -3,7 +3,7 @@ use Rattle.serde_json.specs.View.{view}
 use Rattle.pm_slicejson.specs.Reading.{slice_of}
 use Rattle.pm_stepjson.specs.declared.fault.StepReadError.{StepReadError}
 use Rattle.pm_stepjson.specs.Answers.{Fails}
-use Rattle.pm_stepjson.specs.Reading.{as_slice}
+use Rattle.pm_stepjson.specs.Fields.{as_slice}
 use Rattle.pm_stepjson.proofs.FaultLaws.{slice-fails}
 use Rattle.pm_stepjson.proofs.fields.as_slice.Goals as goal
 

@@ -1,35 +1,34 @@
 use Rattle.std.proofs.Common.{ap}
 use Rattle.serde_json.specs.View.{view}
-use Rattle.pm_step.specs.Steps.{step_of}
-use Rattle.pm_stepjson.proofs.Again.{replace-again, around-again, add_mark-again, remove_mark-again, add_node_mark-again, remove_node_mark-again}
+use Rattle.pm_step.specs.Steps.{node_step, range_step, step_of}
+use Rattle.pm_meaning.specs.Steps.{Replace, ReplaceAround}
+use Rattle.pm_stepjson.proofs.Again.{replace-again, around-again, range-again, node-again, reads-again}
 use Rattle.pm_stepjson.proofs.writing.write_step.Goals as goal
 
-pub returns-in_ok-json-in-Replace-clause-again : goal.returns-in_ok-json-in-Replace-clause-again
-returns-in_ok-json-in-Replace-clause-again c =
-    λ can counts. let w = c.in-Replace in
-    replace-again c.args.schema.now.spec (step_of c.args.step.now) (view c.in_ok-json-in-Replace.json) w.from w.to w.slice w.structure (ap step_of w.is) c.in_ok-json-in-Replace.ensures.written c.in_ok-json-in-Replace.ensures.again can counts
+pub returns-in-Replace-clause-again : goal.returns-in-Replace-clause-again
+returns-in-Replace-clause-again c =
+    let s = c.args.schema.now.spec in
+    let r = c.in-Replace.step in
+    reads-again s view (Replace r.from r.to r.slice r.structure) (step_of c.args.step.now) c.replace_json.result (ap step_of c.in-Replace.is)
+    c.replace_json.ensures.written c.replace_json.ensures.again (replace-again s r.from r.to r.slice r.structure)
 
-pub returns-in_ok-json-in-ReplaceAround-clause-again : goal.returns-in_ok-json-in-ReplaceAround-clause-again
-returns-in_ok-json-in-ReplaceAround-clause-again c =
-    λ can counts. let w = c.in-ReplaceAround in
-    around-again c.args.schema.now.spec (step_of c.args.step.now) (view c.in_ok-json-in-ReplaceAround.json) w.from w.to w.gap_from w.gap_to w.slice w.insert w.structure (ap step_of w.is) c.in_ok-json-in-ReplaceAround.ensures.written c.in_ok-json-in-ReplaceAround.ensures.again can counts
+pub returns-in-ReplaceAround-clause-again : goal.returns-in-ReplaceAround-clause-again
+returns-in-ReplaceAround-clause-again c =
+    let s = c.args.schema.now.spec in
+    let r = c.in-ReplaceAround.step in
+    reads-again s view (ReplaceAround r.from r.to r.gap_from r.gap_to r.slice r.insert r.structure) (step_of c.args.step.now) c.around_json.result (ap step_of c.in-ReplaceAround.is)
+    c.around_json.ensures.written c.around_json.ensures.again (around-again s r.from r.to r.gap_from r.gap_to r.slice r.insert r.structure)
 
-pub returns-in_ok-json-in-AddMark-clause-again : goal.returns-in_ok-json-in-AddMark-clause-again
-returns-in_ok-json-in-AddMark-clause-again c =
-    λ can counts. let w = c.in-AddMark in
-    add_mark-again c.args.schema.now.spec (step_of c.args.step.now) (view c.in_ok-json-in-AddMark.json) w.from w.to w.mark c.in_ok-json-in-AddMark.ensures.again can counts (ap step_of w.is) c.in_ok-json-in-AddMark.ensures.written
+pub returns-in-Mark-clause-again : goal.returns-in-Mark-clause-again
+returns-in-Mark-clause-again c =
+    let s = c.args.schema.now.spec in
+    let m = c.in-Mark.step in
+    reads-again s view (range_step m.marking m.from m.to) (step_of c.args.step.now) c.range_json.result (ap step_of c.in-Mark.is)
+    c.range_json.ensures.written c.range_json.ensures.again (range-again s m.marking m.from m.to)
 
-pub returns-in_ok-json-in-RemoveMark-clause-again : goal.returns-in_ok-json-in-RemoveMark-clause-again
-returns-in_ok-json-in-RemoveMark-clause-again c =
-    λ can counts. let w = c.in-RemoveMark in
-    remove_mark-again c.args.schema.now.spec (step_of c.args.step.now) (view c.in_ok-json-in-RemoveMark.json) w.from w.to w.mark c.in_ok-json-in-RemoveMark.ensures.again can counts (ap step_of w.is) c.in_ok-json-in-RemoveMark.ensures.written
-
-pub returns-in_ok-json-in-AddNodeMark-clause-again : goal.returns-in_ok-json-in-AddNodeMark-clause-again
-returns-in_ok-json-in-AddNodeMark-clause-again c =
-    λ can counts. let w = c.in-AddNodeMark in
-    add_node_mark-again c.args.schema.now.spec (step_of c.args.step.now) (view c.in_ok-json-in-AddNodeMark.json) w.pos w.mark c.in_ok-json-in-AddNodeMark.ensures.again can counts (ap step_of w.is) c.in_ok-json-in-AddNodeMark.ensures.written
-
-pub returns-in_ok-json-in-RemoveNodeMark-clause-again : goal.returns-in_ok-json-in-RemoveNodeMark-clause-again
-returns-in_ok-json-in-RemoveNodeMark-clause-again c =
-    λ can counts. let w = c.in-RemoveNodeMark in
-    remove_node_mark-again c.args.schema.now.spec (step_of c.args.step.now) (view c.in_ok-json-in-RemoveNodeMark.json) w.pos w.mark c.in_ok-json-in-RemoveNodeMark.ensures.again can counts (ap step_of w.is) c.in_ok-json-in-RemoveNodeMark.ensures.written
+pub returns-in-NodeMark-clause-again : goal.returns-in-NodeMark-clause-again
+returns-in-NodeMark-clause-again c =
+    let s = c.args.schema.now.spec in
+    let m = c.in-NodeMark.step in
+    reads-again s view (node_step m.marking m.pos) (step_of c.args.step.now) c.node_json.result (ap step_of c.in-NodeMark.is)
+    c.node_json.ensures.written c.node_json.ensures.again (node-again s m.marking m.pos)

@@ -1,0 +1,24 @@
+//! Ends of steps over mappings.
+ghost use Rattle.std.specs.Prelude.{◌≡◌, ◌≤◌};
+ghost use Rattle.pm_change.specs.Changes.{MayCarry};
+ghost use Rattle.pm_meaning.specs.Maps.{ahead, back};
+
+use pm_map::{Mapping, Moved};
+
+/// A position over a mapping by 1.
+pub(crate) fn ahead(mapping: &Mapping, pos: u64) -> Moved
+    requires { MayCarry ◌≤◌ pos mapping.now }
+    ensures { result ≡ ahead mapping.now pos }
+{
+    mapping.paired();
+    mapping.map(pos, 1)
+}
+
+/// A position over a mapping by -1.
+pub(crate) fn back(mapping: &Mapping, pos: u64) -> Moved
+    requires { MayCarry ◌≤◌ pos mapping.now }
+    ensures { result ≡ back mapping.now pos }
+{
+    mapping.paired();
+    mapping.map(pos, -1)
+}

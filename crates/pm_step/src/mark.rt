@@ -1,0 +1,62 @@
+//! Steps that mark a range.
+ghost use Rattle.std.specs.Prelude.{◌≡◌, IfOk};
+ghost use Rattle.std.specs.Option.{option_map};
+ghost use Rattle.pm_change.specs.Changes.{MayCarry};
+ghost use Rattle.pm_meaning.specs.Maps.{carry, is_within, step_map};
+ghost use Rattle.pm_step.specs.Steps.{step_of};
+
+use crate::ends::{ahead, back};
+use crate::marking::Marking;
+use crate::step::Step;
+use pm_map::{Mapping, StepMap};
+use std::alloc::{AllocError, Global};
+
+/// Adds a mark to the units and the inline leaves and atoms from `from` to `to`, where their parents allow it, or takes it from
+/// all that is inline there.
+#[derive(Drop)]
+pub struct MarkStep {
+    pub from: u64,
+    pub to: u64,
+    pub marking: Marking,
+}
+
+impl MarkStep {
+    /// A step equal to this one.
+    pub fn copy(&self, alloc: Global) -> Result<MarkStep, AllocError>
+        ensures { IfOk result (λ s. s ≡ self.now) }
+    {
+        Ok(MarkStep {
+            from: self.from,
+            to: self.to,
+            marking: self.marking.copy(alloc)?,
+        })
+    }
+
+    /// How positions move over this step: it moves none. It takes no memory.
+    pub fn step_map(&self) -> StepMap
+        ensures { result ≡ step_map (step_of (Step.Mark self.now)) }
+    {
+        StepMap::new(None, None, false)
+    }
+
+    /// The step over a mapping: `from` by 1 and `to` by -1. It is lost where both ends are deleted, or nothing is left between
+    /// them.
+    pub fn carry(&self, alloc: Global, mapping: &Mapping) -> Result<Option<MarkStep>, AllocError>
+        requires { MayCarry is_within (step_of (Step.Mark self.now)) mapping.now }
+        ensures { IfOk result (λ o. option_map (λ s. step_of (Step.Mark s)) o ≡ carry (step_of (Step.Mark self.now)) mapping.now) }
+    {
+        let start = ahead(mapping, self.from);
+        let end = back(mapping, self.to);
+        if start.deleted && end.deleted {
+            return Ok(None);
+        }
+        if end.pos <= start.pos {
+            return Ok(None);
+        }
+        Ok(Some(MarkStep {
+            from: start.pos,
+            to: end.pos,
+            marking: self.marking.copy(alloc)?,
+        }))
+    }
+}

@@ -1,0 +1,58 @@
+//! Steps that mark one node.
+ghost use Rattle.std.specs.Prelude.{◌≡◌, IfOk};
+ghost use Rattle.std.specs.Option.{option_map};
+ghost use Rattle.pm_change.specs.Changes.{MayCarry};
+ghost use Rattle.pm_meaning.specs.Maps.{carry, is_within, step_map};
+ghost use Rattle.pm_step.specs.Steps.{step_of};
+
+use crate::ends::ahead;
+use crate::marking::Marking;
+use crate::step::Step;
+use pm_map::{Mapping, StepMap};
+use std::alloc::{AllocError, Global};
+
+/// Adds a mark to the node that begins at `pos`, or takes it away.
+#[derive(Drop)]
+pub struct NodeMarkStep {
+    pub pos: u64,
+    pub marking: Marking,
+}
+
+impl NodeMarkStep {
+    /// A step equal to this one.
+    pub fn copy(&self, alloc: Global) -> Result<NodeMarkStep, AllocError>
+        ensures { IfOk result (λ s. s ≡ self.now) }
+    {
+        Ok(NodeMarkStep {
+            pos: self.pos,
+            marking: self.marking.copy(alloc)?,
+        })
+    }
+
+    /// How positions move over this step: it moves none. It takes no memory.
+    pub fn step_map(&self) -> StepMap
+        ensures { result ≡ step_map (step_of (Step.NodeMark self.now)) }
+    {
+        StepMap::new(None, None, false)
+    }
+
+    /// The step over a mapping: `pos` by 1. It is lost where the token behind it is deleted.
+    pub fn carry(
+        &self,
+        alloc: Global,
+        mapping: &Mapping,
+    ) -> Result<Option<NodeMarkStep>, AllocError>
+        requires { MayCarry is_within (step_of (Step.NodeMark self.now)) mapping.now }
+        ensures { IfOk result (λ o. option_map (λ s. step_of (Step.NodeMark s)) o
+            ≡ carry (step_of (Step.NodeMark self.now)) mapping.now) }
+    {
+        let at = ahead(mapping, self.pos);
+        if at.after {
+            return Ok(None);
+        }
+        Ok(Some(NodeMarkStep {
+            pos: at.pos,
+            marking: self.marking.copy(alloc)?,
+        }))
+    }
+}
