@@ -7,7 +7,7 @@ ghost use Rattle.pm_edit.specs.Nodes.{closed, text_slice};
 
 use pm_attrs::Attrs;
 use pm_marks::{MarkSet, Same};
-use pm_node::{Body, Fragment, Node, Units, text_alone};
+use pm_node::{Body, Fragment, Node, Units};
 use pm_slice::Slice;
 use std::alloc::{AllocError, Global};
 use std::sync::Arc;
@@ -41,7 +41,7 @@ pub fn text_slice(alloc: Global, marks: &MarkSet<Attrs>, units: &Units) -> Resul
     if units.len() > MAX_TOKENS {
         return Err(AllocError);
     }
-    let content = text_alone(alloc, marks, units)?;
+    let content = Fragment::from_text(alloc, marks, units)?;
     Ok(closed(alloc, content))
 }
 

@@ -3,7 +3,7 @@ ghost use Rattle.std.specs.Prelude.{◌≡◌, IfOk};
 ghost use Rattle.pm_tokens.specs.Slices.{slice_size};
 
 use pm_marks::MarkSet;
-use pm_node::{Units, text_alone};
+use pm_node::{Fragment, Units};
 use pm_slice::Slice;
 use pm_step::{ReplaceAroundStep, Step};
 use std::alloc::Global;
@@ -14,7 +14,7 @@ fn letters(alloc: Global) -> Result<Slice, Fail>
     ensures { IfOk result (λ s. slice_size s ≡ 2) }
 {
     let units = Units::new(vec![in alloc; 97, 98]?);
-    let content = text_alone(alloc, &MarkSet::empty(alloc), &units)?;
+    let content = Fragment::from_text(alloc, &MarkSet::empty(alloc), &units)?;
     match Slice::new(alloc, content, 0, 0) {
         Ok(slice) => Ok(slice),
         Err(_) => Err("no slice")?,
