@@ -20,8 +20,8 @@ use pm_slice::{Slice, cut_content};
 use pm_step::{ReplaceAroundStep, Step};
 use std::alloc::{AllocError, Global};
 
-/// The step that puts what stands around the gap back in place of the slice. It has `structure` where the step had it and both parts of the
-/// slice are closes followed by opens.
+/// The step that puts what stands around the gap back in place of the slice. It has `structure` where the step had it and both
+/// parts of the slice are closes followed by opens.
 pub fn around_back(
     alloc: Global,
     schema: &Schema,

@@ -23,8 +23,8 @@ use pm_schema::Schema;
 use pm_step::{MarkStep, Step};
 use std::alloc::{AllocError, Global};
 
-/// The document with the top node's head and this content, with the marks in the step's range changed, or the first reason why not, in
-/// the order Range, Pair, Large, Deep, Content.
+/// The document with the top node's head and this content, with the marks in the step's range changed, or the first reason why
+/// not, in the order Range, Pair, Large, Deep, Content.
 pub fn mark_range(
     alloc: Global,
     schema: &Schema,
@@ -63,8 +63,7 @@ pub fn mark_range(
     checked_content(alloc, schema, top, made)
 }
 
-/// The steps that take the step back: one step where that gives the old marks, and else steps run by
-/// run.
+/// The steps that take the step back: one step where that gives the old marks, and else steps run by run.
 pub fn range_back(
     alloc: Global,
     schema: &Schema,
