@@ -26,6 +26,8 @@ use Rattle.pm_node.specs.Trees.{body_tokens, node_tokens}
 use Rattle.pm_node.specs.Documents.{content_tokens, doc_of}
 use Rattle.pm_node.specs.Filled.{Filling, IsFillFault}
 use Rattle.pm_docjson.specs.declared.leaves.LeafContent.TheVariants.{Kept}
+use Rattle.pm_head.specs.declared.code.Code.{Code}
+use Rattle.pm_head.specs.declared.code.Code.TheVariants.{InvalidDocument}
 use Rattle.pm_head.specs.Codes.{node_code, fill_code}
 use Rattle.pm_head.specs.Lines.{json_line}
 use Rattle.pm_head.specs.Schemas.{OfValue}
@@ -64,7 +66,7 @@ pub known-node : (n m : Node) → IsFront (node_tokens n) → node_tokens n ≡ 
 known-node n m f h = known n.kind n.attrs n.marks n.body m.kind m.attrs m.marks m.body f h
 
 -- the codes of a fill's fault are one
-fill-code : (e : FillError) (code : ℕ) → fill_code e ≡ Some code → code ≡ 16
+fill-code : (e : FillError) (code : Code) → fill_code e ≡ Some code → code ≡ InvalidDocument
 fill-code NotGeneratable code h = cc
 fill-code Deep code h = cc
 fill-code Large code h = cc
@@ -90,7 +92,7 @@ module _ (s t : Schema) (h : types_of_spec s.spec ≡ types_of_spec t.spec) (bs 
       let same : node_tokens n ≡ node_tokens m = cc in
       known-node n m (filling-front s (top_of s.spec) (node_tokens n) f.filled) same
 
-  filled-apart : (n : Node) → IsFilledTop s n → (e : FillError) (code : ℕ) → IsFillFault t (top_of t.spec) e → fill_code e ≡ Some code → ⊥
+  filled-apart : (n : Node) → IsFilledTop s n → (e : FillError) (code : Code) → IsFillFault t (top_of t.spec) e → fill_code e ≡ Some code → ⊥
   filled-apart n f NotGeneratable code g c = let made = f.made in let q = can-top in absurd (cc)
   filled-apart n f Deep code g c = let q : Some (node_tokens n) ≡ None = filling-top (Some (node_tokens n)) None f.filled g.1 in absurd (cc)
   filled-apart n f Large code g c =
@@ -110,13 +112,13 @@ module _ (s t : Schema) (h : types_of_spec s.spec ≡ types_of_spec t.spec) (bs 
       let same : n ≡ m = cc in
       ap doc_of same
 
-  read-apart : (d : Data) (n : Node) (code : ℕ) → ReadTop s d (Ok n) → NotRead t d code → ⊥
+  read-apart : (d : Data) (n : Node) (code : Code) → ReadTop s d (Ok n) → NotRead t d code → ⊥
   read-apart d n code f g =
       let q = node-of-alike s.spec t.spec h Kept d in
       let r = g.fault in
       absurd (cc)
 
-  read-code : (d : Data) (code other : ℕ) → NotRead s d code → NotRead t d other → code ≡ other
+  read-code : (d : Data) (code other : Code) → NotRead s d code → NotRead t d other → code ≡ other
   read-code d code other f g =
       let q = node-of-alike s.spec t.spec h Kept d in
       let x = f.fault in
@@ -136,14 +138,14 @@ module _ (s t : Schema) (h : types_of_spec s.spec ≡ types_of_spec t.spec) (bs 
       at true f g = filled-top n m f g
       at false f g = read-top d n m f g
 
-  pub top-code : (d : Data) (code other : ℕ) → TopNode s d (Err code) → TopNode t d (Err other) → code ≡ other
+  pub top-code : (d : Data) (code other : Code) → TopNode s d (Err code) → TopNode t d (Err other) → code ≡ other
   top-code d code other = at (is_some (as_null d))
     where
       at : (b : Bool) → MatchBool b (NotFilled s code) (NotRead s d code) → MatchBool b (NotFilled t other) (NotRead t d other) → code ≡ other
       at true f g = fill-code f.error code f.has_code ∙ sym (fill-code g.error other g.has_code)
       at false f g = read-code d code other f g
 
-  top-apart : (d : Data) (n : Node) (code : ℕ) → TopNode s d (Ok n) → TopNode t d (Err code) → ⊥
+  top-apart : (d : Data) (n : Node) (code : Code) → TopNode s d (Ok n) → TopNode t d (Err code) → ⊥
   top-apart d n code = at (is_some (as_null d))
     where
       at : (b : Bool) → MatchBool b (IsFilledTop s n) (ReadTop s d (Ok n)) → MatchBool b (NotFilled t code) (NotRead t d code) → ⊥
@@ -158,7 +160,7 @@ module _ (s t : Schema) (h : types_of_spec s.spec ≡ types_of_spec t.spec) (bs 
   doc-one : (d : Data) (x y : Doc) → DocIs s d (Ok x) → DocIs t d (Ok y) → x ≡ y
   doc-one d x y f g = f.3 ∙ top-doc d f.0 g.0 f.1 g.1 ∙ sym g.3
 
-  doc-apart : (d : Data) (x : Doc) (code : ℕ) → DocIs s d (Ok x) → DocIs t d (Err code) → ⊥
+  doc-apart : (d : Data) (x : Doc) (code : Code) → DocIs s d (Ok x) → DocIs t d (Err code) → ⊥
   doc-apart d x code f (inl g) = top-apart d f.0 code f.1 g
   doc-apart d x code f (inr g) =
       let q = first-alike f.0 g.0 (top-doc d f.0 g.0 f.1 g.1) in
@@ -166,7 +168,7 @@ module _ (s t : Schema) (h : types_of_spec s.spec ≡ types_of_spec t.spec) (bs 
       let v = g.2 in
       absurd (cc)
 
-pub doc-codes : (s t : Schema) → types_of_spec s.spec ≡ types_of_spec t.spec → IsBuilt s → IsBuilt t → (d : Data) (code other : ℕ) → DocIs s d (Err code) → DocIs t d (Err other) → code ≡ other
+pub doc-codes : (s t : Schema) → types_of_spec s.spec ≡ types_of_spec t.spec → IsBuilt s → IsBuilt t → (d : Data) (code other : Code) → DocIs s d (Err code) → DocIs t d (Err other) → code ≡ other
 doc-codes s t h bs bt d code other (inl f) (inl g) = top-code s t h bs bt d code other f g
 doc-codes s t h bs bt d code other (inl f) (inr g) = absurd (top-apart t s (sym h) bt bs d g.0 code g.1 f)
 doc-codes s t h bs bt d code other (inr f) (inl g) = absurd (top-apart s t h bs bt d f.0 other f.1 g)
@@ -178,20 +180,20 @@ module _ (s t : Schema) (h : types_of_spec s.spec ≡ types_of_spec t.spec) (bs 
   pub line-doc : (line : List ℕ) (x y : Doc) → DocLine s line (Ok x) → DocLine t line (Ok y) → x ≡ y
   line-doc line x y = at (json_line line)
     where
-      at : (v : Result Data ℕ) → OfValue (DocIs s) v (Ok x) → OfValue (DocIs t) v (Ok y) → x ≡ y
+      at : (v : Result Data Code) → OfValue (DocIs s) v (Ok x) → OfValue (DocIs t) v (Ok y) → x ≡ y
       at (Ok d) f g = doc-one s t h bs bt d x y f g
       at (Err code) f g = absurd (cc)
 
-  pub line-apart : (line : List ℕ) (x : Doc) (code : ℕ) → DocLine s line (Ok x) → DocLine t line (Err code) → ⊥
+  pub line-apart : (line : List ℕ) (x : Doc) (code : Code) → DocLine s line (Ok x) → DocLine t line (Err code) → ⊥
   line-apart line x code = at (json_line line)
     where
-      at : (v : Result Data ℕ) → OfValue (DocIs s) v (Ok x) → OfValue (DocIs t) v (Err code) → ⊥
+      at : (v : Result Data Code) → OfValue (DocIs s) v (Ok x) → OfValue (DocIs t) v (Err code) → ⊥
       at (Ok d) f g = doc-apart s t h bs bt d x code f g
       at (Err c) f g = absurd (cc)
 
-  pub line-code : (line : List ℕ) (code other : ℕ) → DocLine s line (Err code) → DocLine t line (Err other) → code ≡ other
+  pub line-code : (line : List ℕ) (code other : Code) → DocLine s line (Err code) → DocLine t line (Err other) → code ≡ other
   line-code line code other = at (json_line line)
     where
-      at : (v : Result Data ℕ) → OfValue (DocIs s) v (Err code) → OfValue (DocIs t) v (Err other) → code ≡ other
+      at : (v : Result Data Code) → OfValue (DocIs s) v (Err code) → OfValue (DocIs t) v (Err other) → code ≡ other
       at (Ok d) f g = doc-codes s t h bs bt d code other f g
       at (Err c) f g = cc

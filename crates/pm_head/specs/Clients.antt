@@ -5,7 +5,10 @@ use Rattle.std.specs.Cmp.Lexicographic.{pointwise}
 use Rattle.serde_json.specs.Data.{Data, null, boolean, number, string, array, object, Items, no_items, item}
 use Rattle.serde_json.specs.Find.{get, as_str, as_array}
 use Rattle.pm_list.specs.Readings.{◌>>=◌, or_fault}
+use Rattle.pm_head.specs.declared.code.Code.{Code}
+use Rattle.pm_head.specs.declared.code.Code.TheVariants.{WrongShape, BadClients}
 use Rattle.pm_head.specs.declared.clients.ClientEntry.{ClientEntry}
+use Rattle.pm_head.specs.declared.clients.TheConstants.{MAX_CLIENTS}
 use Rattle.pm_head.specs.Names.{is_name}
 use Rattle.pm_head.specs.Lines.{json_line}
 
@@ -32,13 +35,13 @@ abbrev pub is_new : List ClientEntry → ClientEntry → Bool
 is_new earlier c = is_name c.name && not (list_any (λ other. pointwise nat_eq c.name other.name) earlier)
 
 -- an entry behind these earlier ones
-abbrev pub next_client : List ClientEntry → Data → Result ClientEntry ℕ
+abbrev pub next_client : List ClientEntry → Data → Result ClientEntry Code
 next_client earlier d = do
-  entry ← or_fault 6 (entry_of d)
-  if is_new earlier entry then Ok entry else Err 19
+  entry ← or_fault WrongShape (entry_of d)
+  if is_new earlier entry then Ok entry else Err BadClients
 
 -- the entries behind these earlier ones, from the front
-unfoldable pub entries_of : List ClientEntry → Items → Result (List ClientEntry) ℕ
+unfoldable pub entries_of : List ClientEntry → Items → Result (List ClientEntry) Code
 entries_of earlier no_items = Ok []
 entries_of earlier (item d ds) = do
   entry ← next_client earlier d
@@ -50,18 +53,18 @@ count_of no_items = 0
 count_of (item d ds) = suc (count_of ds)
 
 -- from 1 to 32 entries
-abbrev pub bounded : Items → Result Items ℕ
-bounded ds = if nat_lt 0 (count_of ds) && nat_le (count_of ds) 32 then Ok ds else Err 19
+abbrev pub bounded : Items → Result Items Code
+bounded ds = if nat_lt 0 (count_of ds) && nat_le (count_of ds) MAX_CLIENTS then Ok ds else Err BadClients
 
 -- First the value's kind counts, then the number of entries, then the entries.
-unfoldable pub clients_of : Data → Result (List ClientEntry) ℕ
+unfoldable pub clients_of : Data → Result (List ClientEntry) Code
 clients_of d = do
-  items ← or_fault 6 (as_array d)
+  items ← or_fault WrongShape (as_array d)
   entries ← bounded items
   entries_of [] entries
 
 -- line 3
-unfoldable pub clients_line : List ℕ → Result (List ClientEntry) ℕ
+unfoldable pub clients_line : List ℕ → Result (List ClientEntry) Code
 clients_line line = json_line line >>= clients_of
 
 -- whether each client is raw, in order

@@ -4,28 +4,32 @@ use Rattle.pm_tokens.specs.Tokens.{Doc}
 use Rattle.pm_schema.specs.declared.schema.Schema.{Schema}
 use Rattle.pm_head.specs.declared.clients.ClientEntry.{ClientEntry}
 use Rattle.pm_head.specs.declared.reading.Head.{Head}
+use Rattle.pm_head.specs.declared.code.Code.{Code}
+use Rattle.pm_head.specs.declared.code.Code.TheVariants.{MissingLine}
+use Rattle.pm_head.specs.declared.fault.Refusal.{Refusal}
+use Rattle.pm_head.specs.Refusals.{refused}
 use Rattle.pm_head.specs.Schemas.{SchemaLine}
 use Rattle.pm_head.specs.Documents.{DocLine}
 use Rattle.pm_head.specs.Clients.{clients_line}
 
 -- what line 3 is, behind this schema and document
-abbrev pub with_clients : Schema → Doc → Result (List ClientEntry) ℕ → Result Head (ℕ × ℕ)
+abbrev pub with_clients : Schema → Doc → Result (List ClientEntry) Code → Result Head Refusal
 with_clients s doc (Ok clients) = Ok (record { schema = s; doc = doc; clients = clients })
-with_clients s doc (Err code) = Err (3, code)
+with_clients s doc (Err code) = Err (refused 3 code)
 
 -- what the lines behind line 2 are, which gave this
-abbrev pub AfterDoc : Schema → Result Doc ℕ → List (List ℕ) → Result Head (ℕ × ℕ) → Type 0
-AfterDoc s (Err code) lines r = r ≡ Err (2, code)
-AfterDoc s (Ok doc) [] r = r ≡ Err (3, 2)
+abbrev pub AfterDoc : Schema → Result Doc Code → List (List ℕ) → Result Head Refusal → Type 0
+AfterDoc s (Err code) lines r = r ≡ Err (refused 2 code)
+AfterDoc s (Ok doc) [] r = r ≡ Err (refused 3 MissingLine)
 AfterDoc s (Ok doc) (line ∷ lines) r = r ≡ with_clients s doc (clients_line line)
 
 -- what the lines behind line 1 are, which gave this
-abbrev pub AfterSchema : Result Schema ℕ → List (List ℕ) → Result Head (ℕ × ℕ) → Type 0
-AfterSchema (Err code) lines r = r ≡ Err (1, code)
-AfterSchema (Ok s) [] r = r ≡ Err (2, 2)
-AfterSchema (Ok s) (line ∷ lines) r = (doc : Result Doc ℕ) × DocLine s line doc × AfterDoc s doc lines r
+abbrev pub AfterSchema : Result Schema Code → List (List ℕ) → Result Head Refusal → Type 0
+AfterSchema (Err code) lines r = r ≡ Err (refused 1 code)
+AfterSchema (Ok s) [] r = r ≡ Err (refused 2 MissingLine)
+AfterSchema (Ok s) (line ∷ lines) r = (doc : Result Doc Code) × DocLine s line doc × AfterDoc s doc lines r
 
--- A line that is missing has code 2.
-abbrev pub HeadIs : List (List ℕ) → Result Head (ℕ × ℕ) → Type 0
-HeadIs [] r = r ≡ Err (1, 2)
-HeadIs (line ∷ lines) r = (s : Result Schema ℕ) × SchemaLine line s × AfterSchema s lines r
+-- A line that is missing has a code too.
+abbrev pub HeadIs : List (List ℕ) → Result Head Refusal → Type 0
+HeadIs [] r = r ≡ Err (refused 1 MissingLine)
+HeadIs (line ∷ lines) r = (s : Result Schema Code) × SchemaLine line s × AfterSchema s lines r

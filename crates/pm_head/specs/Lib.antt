@@ -1,3 +1,5 @@
+pub mod Numbers
+pub mod Refusals
 pub mod Lines
 pub mod Codes
 pub mod Answers

@@ -2,6 +2,7 @@
 use Rattle.std.specs.Prelude.{◌≡◌, ℕ, List, Ok, Err}
 use Rattle.pm_schema.specs.declared.spec.SchemaSpec.{SchemaSpec}
 use Rattle.pm_schemajson.specs.Views.{types_of_spec}
+use Rattle.pm_head.specs.declared.fault.Refusal.{Refusal}
 use Rattle.pm_head.specs.declared.reading.Head.{Head}
 use Rattle.pm_head.specs.Heads.{HeadIs}
 
@@ -15,13 +16,13 @@ pub record SameHead (g h : Head) : Type 0 where
   pub doc : g.doc ≡ h.doc
   pub clients : g.clients ≡ h.clients
 
--- lines that are a head have no fault
-abbrev pub HeadExcludesFault : List (List ℕ) → Type 0
-HeadExcludesFault lines = (head : Head) (fault : ℕ × ℕ) → HeadIs lines (Ok head) → HeadIs lines (Err fault) → ⊥
+-- lines that are a head are not refused
+abbrev pub HeadExcludesRefusal : List (List ℕ) → Type 0
+HeadExcludesRefusal lines = (head : Head) (refusal : Refusal) → HeadIs lines (Ok head) → HeadIs lines (Err refusal) → ⊥
 
--- their fault, a line and a code, is one
-abbrev pub HasOneFault : List (List ℕ) → Type 0
-HasOneFault lines = (fault other : ℕ × ℕ) → HeadIs lines (Err fault) → HeadIs lines (Err other) → fault ≡ other
+-- their refusal, a line and a code, is one
+abbrev pub HasOneRefusal : List (List ℕ) → Type 0
+HasOneRefusal lines = (refusal other : Refusal) → HeadIs lines (Err refusal) → HeadIs lines (Err other) → refusal ≡ other
 
 -- two heads of the lines are the same
 abbrev pub HasOneHead : List (List ℕ) → Type 0

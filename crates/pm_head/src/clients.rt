@@ -8,6 +8,7 @@ ghost use Rattle.pm_head.specs.Answers.{Gives};
 ghost use Rattle.pm_head.specs.Entries.{entry_view};
 ghost use Rattle.pm_head.specs.Clients.{entry_of as entry_in, next_client as client_behind, entries_of as entries_from, clients_of as clients_in, clients_line as line_of_clients, raw_flags};
 
+use crate::code::Code;
 use crate::fault::LineError;
 use crate::lines::json_line;
 use crate::names::is_name;
@@ -44,10 +45,10 @@ fn clients_of(alloc: Global, json: &Value) -> Result<Listed<ClientEntry>, LineEr
     ensures few { IfOk result (λ l. length l ≤ 32) }
 {
     let Some(items) = json.as_array() else {
-        return Err(LineError::Code(6));
+        return Err(LineError::Code(Code::WrongShape));
     };
     if items.is_empty() || items.len() > MAX_CLIENTS {
-        return Err(LineError::Code(19));
+        return Err(LineError::Code(Code::BadClients));
     }
     entries_of(alloc, items)
 }
@@ -75,10 +76,10 @@ fn next_client(
     ensures { Gives (λ c. c) result (client_behind earlier.now (view json.now)) }
 {
     let Some(entry) = entry_of(json) else {
-        return Err(LineError::Code(6));
+        return Err(LineError::Code(Code::WrongShape));
     };
     if !is_name(entry.name) || is_taken(entry.name, earlier) {
-        return Err(LineError::Code(19));
+        return Err(LineError::Code(Code::BadClients));
     }
     Ok(ClientEntry {
         name: Text::from_str(alloc, entry.name)?,

@@ -6,6 +6,7 @@ ghost use Rattle.pm_schema.specs.Documents.{documents_of};
 ghost use Rattle.pm_head.specs.Answers.{Finds};
 ghost use Rattle.pm_head.specs.Documents.{FilledTop, TopNode, DocIs, DocLine, top_of};
 
+use crate::code::Code;
 use crate::codes::{fill_code, node_code};
 use crate::fault::LineError;
 use crate::lines::json_line;
@@ -31,13 +32,13 @@ fn doc_of(alloc: Global, schema: &Schema, json: &Value) -> Result<Document, Line
 {
     let node = top_node(alloc, schema, json)?;
     if node.kind != top_type(schema) {
-        return Err(LineError::Code(16));
+        return Err(LineError::Code(Code::InvalidDocument));
     }
     let doc = Document::new(alloc, node)?;
     match doc.check(alloc, schema) {
         Ok(()) => Ok(doc),
         Err(CheckError::NoMemory) => Err(LineError::NoMemory),
-        Err(_) => Err(LineError::Code(16)),
+        Err(_) => Err(LineError::Code(Code::InvalidDocument)),
     }
 }
 

@@ -2,7 +2,7 @@
 ghost use Rattle.serde_json.specs.View.{view};
 ghost use Rattle.pm_head.specs.Laws.{SchemaExcludesFault, HasOneCode};
 ghost use Rattle.pm_head.specs.Lines.{lines_of};
-ghost use Rattle.pm_head.specs.OneMeaning.{HeadExcludesFault, HasOneFault, HasOneHead};
+ghost use Rattle.pm_head.specs.OneMeaning.{HeadExcludesRefusal, HasOneRefusal, HasOneHead};
 
 use serde_json::Value;
 
@@ -14,11 +14,11 @@ pub fn schema_means_one(json: &Value)
     let _ = json;
 }
 
-/// The first three lines of an input are a head or have a fault, and either is one: the fault with its line and code, and the
-/// head with its types, its document and its clients.
+/// The first three lines of an input are a head or are refused, and either is one: the refusal with its line and code, and
+/// the head with its types, its document and its clients.
 pub fn head_means_one(input: &[u8])
-    ensures apart { HeadExcludesFault (lines_of input.now) }
-    ensures one_fault { HasOneFault (lines_of input.now) }
+    ensures apart { HeadExcludesRefusal (lines_of input.now) }
+    ensures one_refusal { HasOneRefusal (lines_of input.now) }
     ensures one_head { HasOneHead (lines_of input.now) }
 {
     let _ = input;

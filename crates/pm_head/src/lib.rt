@@ -2,6 +2,7 @@
 #![tactic(auto)]
 
 mod clients;
+mod code;
 mod codes;
 mod document;
 mod fault;
@@ -12,9 +13,10 @@ mod reading;
 mod schema;
 
 pub use clients::{ClientEntry, raw_flags};
+pub use code::Code;
 pub use codes::node_code;
-pub use fault::{HeadError, LineError};
+pub use fault::{LineError, Refusal, SessionError};
 pub use laws::{head_means_one, schema_means_one};
-pub use lines::{after_head, first_line, json_line, json_of};
+pub use lines::{first_line, json_line, json_of};
 pub use names::is_name;
 pub use reading::{Head, read_head};

@@ -1,9 +1,10 @@
 //! The lines of an input, and the JSON value of a line.
-ghost use Rattle.std.specs.Prelude.{◌≡◌, ◌<◌, [], ◌∷◌, ◌==◌, length, position, drop, option_map, MatchOption, IfOk};
+ghost use Rattle.std.specs.Prelude.{◌≡◌, ◌<◌, [], ◌∷◌, ◌==◌, length, position, option_map, MatchOption, IfOk};
 ghost use Rattle.serde_json.specs.View.{view};
 ghost use Rattle.pm_head.specs.Answers.{Gives};
 ghost use Rattle.pm_head.specs.Lines.{lines_of, json_of, json_line};
 
+use crate::code::Code;
 use crate::fault::LineError;
 use serde_json::Value;
 use std::alloc::{AllocError, Global};
@@ -34,23 +35,6 @@ fn end_of_line(bytes: &[u8]) -> Option<usize>
     bytes.iter().position(|b| *b == LF)
 }
 
-/// What follows the first line.
-fn after_line(bytes: &[u8]) -> &[u8]
-    ensures { lines_of result.now ≡ drop 1 (lines_of bytes.now) }
-{
-    match first_line(bytes) {
-        Some((_line, rest)) => rest,
-        None => bytes,
-    }
-}
-
-/// What follows the first three lines. It takes no memory.
-pub fn after_head(bytes: &[u8]) -> &[u8]
-    ensures { lines_of result.now ≡ drop 3 (lines_of bytes.now) }
-{
-    after_line(after_line(after_line(bytes)))
-}
-
 /// The JSON value of a text, `None` where it is not UTF-8 or no JSON.
 pub fn json_of(alloc: Global, text: &[u8]) -> Result<Option<Value>, AllocError>
     ensures { IfOk result (λ o. option_map view o ≡ json_of text.now) }
@@ -65,16 +49,16 @@ pub fn json_of(alloc: Global, text: &[u8]) -> Result<Option<Value>, AllocError>
     }
 }
 
-/// The JSON value of a line: code 3 where the line passes 1,048,576 bytes, code 5 where it is not UTF-8 or no JSON.
+/// The JSON value of a line: `LineTooLong` where the line passes 1,048,576 bytes, `NotJson` where it is not UTF-8 or no JSON.
 #[tactic(auto, unfolding(crate::specs::Lines::json_line))]
 pub fn json_line(alloc: Global, line: &[u8]) -> Result<Value, LineError>
     ensures { Gives view result (json_line line.now) }
 {
     if line.len() > MAX_LINE {
-        return Err(LineError::Code(3));
+        return Err(LineError::Code(Code::LineTooLong));
     }
     match json_of(alloc, line)? {
         Some(value) => Ok(value),
-        None => Err(LineError::Code(5)),
+        None => Err(LineError::Code(Code::NotJson)),
     }
 }

@@ -1,5 +1,5 @@
 //! The head of a session file.
-ghost use Rattle.std.specs.Prelude.{◌≤◌, length, IfOk, Ok, Result};
+ghost use Rattle.std.specs.Prelude.{◌≡◌, ◌≤◌, length, drop, IfOk, Ok, Result};
 ghost use Rattle.pm_tokens.specs.Faults.{Valid};
 ghost use Rattle.pm_schema.specs.Documents.{documents_of};
 ghost use Rattle.pm_head.specs.Answers.{Reads};
@@ -7,8 +7,9 @@ ghost use Rattle.pm_head.specs.Lines.{lines_of};
 ghost use Rattle.pm_head.specs.Heads.{AfterDoc, AfterSchema, HeadIs};
 
 use crate::clients::{ClientEntry, clients_line};
+use crate::code::Code;
 use crate::document::doc_line;
-use crate::fault::{HeadError, LineError};
+use crate::fault::{LineError, Refusal, SessionError};
 use crate::lines::first_line;
 use crate::schema::schema_line;
 use pm_list::Listed;
@@ -27,68 +28,78 @@ pub struct Head {
     pub clients: Listed<ClientEntry>,
 }
 
-/// What the first three lines of the input say, where a line ends at LF, and a last piece without one is a line where it
-/// isn't empty; else the least faulty line with the code of its first fault:
-///
-/// - 2: the line is missing;
-/// - 3: it passes 1,048,576 bytes;
-/// - 5: it is not UTF-8 or no JSON;
-/// - 6: a field is absent or of another kind than it must be;
-/// - 7: a name is ill-formed, or that of no type;
-/// - 8: a content expression is none; 9: it mixes inline and block types or is too wide;
-/// - 10: the types make no schema; 11: a type has a dead end;
-/// - 12: an attribute is missing, unknown, or its value is none;
-/// - 13: a text is empty; 14: marks are no set; 15: a list has more than 4,294,967,295 tokens;
-/// - 16: the document is not valid or not of the top type, or for null the top type can't be filled;
-/// - 19: there is no client or there are more than 32, or a client's name is ill-formed or repeated.
-pub fn read_head(alloc: Global, input: &[u8]) -> Result<Head, HeadError>
-    ensures read { Reads (HeadIs (lines_of input.now)) result }
-    ensures valid { IfOk result (λ h. Valid (documents_of h.schema.spec) h.doc) }
-    ensures few { IfOk result (λ h. length h.clients ≤ 32) }
+/// What the first three lines of the input say, and the rest of the input behind them. A line ends at LF, and a last piece
+/// without one is a line where it isn't empty. Else the least faulty of the three with the code of its first fault; each
+/// code but `InputTooLong`, `TooManyLines`, `NoSuchMessage` and `OpNotAllowed` may come. The rest is part of the input, and
+/// takes no memory.
+pub fn read_head(alloc: Global, input: &[u8]) -> Result<(Head, &[u8]), SessionError>
+    ensures read { Reads (λ p. p.0) (HeadIs (lines_of input.now)) result }
+    ensures rest { IfOk result (λ p. lines_of p.1.now ≡ drop 3 (lines_of input.now)) }
+    ensures valid { IfOk result (λ p. Valid (documents_of p.0.schema.spec) p.0.doc) }
+    ensures few { IfOk result (λ p. length p.0.clients ≤ 32) }
 {
     let Some((line, rest)) = first_line(input) else {
-        return Err(HeadError::Refused { line: 1, code: 2 });
+        return Err(SessionError::Refused(Refusal {
+            line: 1,
+            code: Code::MissingLine,
+        }));
     };
     match schema_line(alloc, line) {
         Ok(schema) => after_schema(alloc, schema, rest),
-        Err(LineError::Code(code)) => Err(HeadError::Refused { line: 1, code }),
-        Err(LineError::NoMemory) => Err(HeadError::NoMemory),
+        Err(LineError::Code(code)) => Err(SessionError::Refused(Refusal { line: 1, code })),
+        Err(LineError::NoMemory) => Err(SessionError::NoMemory),
     }
 }
 
 /// The head behind line 1.
-fn after_schema(alloc: Global, schema: Schema, input: &[u8]) -> Result<Head, HeadError>
-    ensures read { Reads (AfterSchema (Ok schema) (lines_of input.now)) result }
-    ensures valid { IfOk result (λ h. Valid (documents_of h.schema.spec) h.doc) }
-    ensures few { IfOk result (λ h. length h.clients ≤ 32) }
+fn after_schema(alloc: Global, schema: Schema, input: &[u8]) -> Result<(Head, &[u8]), SessionError>
+    ensures read { Reads (λ p. p.0) (AfterSchema (Ok schema) (lines_of input.now)) result }
+    ensures rest { IfOk result (λ p. lines_of p.1.now ≡ drop 2 (lines_of input.now)) }
+    ensures valid { IfOk result (λ p. Valid (documents_of p.0.schema.spec) p.0.doc) }
+    ensures few { IfOk result (λ p. length p.0.clients ≤ 32) }
 {
     let Some((line, rest)) = first_line(input) else {
-        return Err(HeadError::Refused { line: 2, code: 2 });
+        return Err(SessionError::Refused(Refusal {
+            line: 2,
+            code: Code::MissingLine,
+        }));
     };
     match doc_line(alloc, &schema, line) {
         Ok(doc) => after_doc(alloc, schema, doc, rest),
-        Err(LineError::Code(code)) => Err(HeadError::Refused { line: 2, code }),
-        Err(LineError::NoMemory) => Err(HeadError::NoMemory),
+        Err(LineError::Code(code)) => Err(SessionError::Refused(Refusal { line: 2, code })),
+        Err(LineError::NoMemory) => Err(SessionError::NoMemory),
     }
 }
 
 /// The head behind line 2.
-fn after_doc(alloc: Global, schema: Schema, doc: Document, input: &[u8]) -> Result<Head, HeadError>
+fn after_doc(
+    alloc: Global,
+    schema: Schema,
+    doc: Document,
+    input: &[u8],
+) -> Result<(Head, &[u8]), SessionError>
     requires { Valid (documents_of schema.spec) doc }
-    ensures read { Reads (AfterDoc schema (Ok doc) (lines_of input.now)) result }
-    ensures valid { IfOk result (λ h. Valid (documents_of h.schema.spec) h.doc) }
-    ensures few { IfOk result (λ h. length h.clients ≤ 32) }
+    ensures read { Reads (λ p. p.0) (AfterDoc schema (Ok doc) (lines_of input.now)) result }
+    ensures rest { IfOk result (λ p. lines_of p.1.now ≡ drop 1 (lines_of input.now)) }
+    ensures valid { IfOk result (λ p. Valid (documents_of p.0.schema.spec) p.0.doc) }
+    ensures few { IfOk result (λ p. length p.0.clients ≤ 32) }
 {
-    let Some((line, _rest)) = first_line(input) else {
-        return Err(HeadError::Refused { line: 3, code: 2 });
+    let Some((line, rest)) = first_line(input) else {
+        return Err(SessionError::Refused(Refusal {
+            line: 3,
+            code: Code::MissingLine,
+        }));
     };
     match clients_line(alloc, line) {
-        Ok(clients) => Ok(Head {
-            schema,
-            doc,
-            clients,
-        }),
-        Err(LineError::Code(code)) => Err(HeadError::Refused { line: 3, code }),
-        Err(LineError::NoMemory) => Err(HeadError::NoMemory),
+        Ok(clients) => Ok((
+            Head {
+                schema,
+                doc,
+                clients,
+            },
+            rest,
+        )),
+        Err(LineError::Code(code)) => Err(SessionError::Refused(Refusal { line: 3, code })),
+        Err(LineError::NoMemory) => Err(SessionError::NoMemory),
     }
 }

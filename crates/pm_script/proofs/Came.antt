@@ -2,6 +2,7 @@
 use Rattle.std.proofs.Common.{◌≡◌, ℕ, Bool, true, false, refl, Result, Ok, Err}
 use Rattle.std.specs.Prelude.{◌&&◌, if◌then◌else◌, Option, Some, None}
 use Rattle.pm_list.specs.Readings.{◌>>=◌, or_fault}
+use Rattle.pm_head.specs.declared.code.Code.{Code}
 use Rattle.pm_script.specs.Sessions.{at_line}
 
 pub then-ok : {A B E : Type 0} (r : Result A E) (f : A → Result B E) (y : B) → (r >>= f) ≡ Ok y → (x : A) × (r ≡ Ok x) × (f x ≡ Ok y)
@@ -20,7 +21,7 @@ pub unless-ok : {A E : Type 0} (b : Bool) (e : E) (r : Result A E) (y : A) → (
 unless-ok true e r y h = absurd (cc)
 unless-ok false e r y h = h
 
-pub line-ok : {A : Type 0} (n : ℕ) (r : Result A ℕ) (x : A) → at_line n r ≡ Ok x → r ≡ Ok x
+pub line-ok : {A : Type 0} (n : ℕ) (r : Result A Code) (x : A) → at_line n r ≡ Ok x → r ≡ Ok x
 line-ok n (Ok y) x h = (cc)
 line-ok n (Err code) x h = absurd (cc)
 

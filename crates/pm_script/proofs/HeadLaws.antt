@@ -12,6 +12,9 @@ use Rattle.pm_tokens.proofs.ValidLaws.{fault-valid}
 use Rattle.pm_schema.specs.declared.schema.Schema.{Schema}
 use Rattle.pm_schema.specs.Documents.{documents_of}
 use Rattle.pm_node.specs.Documents.{doc_of}
+use Rattle.pm_head.specs.declared.code.Code.{Code}
+use Rattle.pm_head.specs.declared.code.Code.TheVariants.{WrongShape, BadClients}
+use Rattle.pm_head.specs.declared.fault.Refusal.{Refusal}
 use Rattle.pm_head.specs.declared.clients.ClientEntry.{ClientEntry}
 use Rattle.pm_head.specs.declared.reading.Head.{Head}
 use Rattle.pm_head.specs.Lines.{json_line}
@@ -35,9 +38,9 @@ entries-count earlier (item d ds) cs h =
 few-clients : (d : Data) (cs : List ClientEntry) → clients_of d ≡ Ok cs → length cs ≤ 32
 unfolding clients_of
 few-clients d cs h =
-    let one = then-ok (or_fault 6 (as_array d)) _ cs h in
+    let one = then-ok (or_fault WrongShape (as_array d)) _ cs h in
     let two = then-ok (bounded one.0) _ cs one.2 in
-    let w = when-ok (nat_lt 0 (count_of one.0) && nat_le (count_of one.0) 32) one.0 two.0 19 two.1 in
+    let w = when-ok (nat_lt 0 (count_of one.0) && nat_le (count_of one.0) 32) one.0 two.0 BadClients two.1 in
     let b = both-true (nat_lt 0 (count_of one.0)) (nat_le (count_of one.0) 32) w.0 in
     let few : count_of one.0 ≤ 32 = leb-true (count_of one.0) 32 b.1 in
     let few' : count_of two.0 ≤ 32 = subst (λ ds. count_of ds ≤ 32) w.1 few in
@@ -61,7 +64,7 @@ doc-valid s d doc h =
     let valid = fault-valid (documents_of s.spec) (doc_of n) two.0 (no-fault (fault (documents_of s.spec) (doc_of n)) two.1) in
     subst (Valid (documents_of s.spec)) (sym h.3) valid
 
-valid-line : (s : Schema) (doc : Doc) (r : Result Data ℕ) → OfValue (DocIs s) r (Ok doc) → Valid (documents_of s.spec) doc
+valid-line : (s : Schema) (doc : Doc) (r : Result Data Code) → OfValue (DocIs s) r (Ok doc) → Valid (documents_of s.spec) doc
 valid-line s doc (Ok d) h = doc-valid s d doc h
 valid-line s doc (Err code) h = absurd (cc)
 
@@ -70,22 +73,22 @@ valid-line s doc (Err code) h = absurd (cc)
 abbrev Good : Head → Type 0
 Good h = Valid (documents_of h.schema.spec) h.doc × (length h.clients ≤ 32)
 
-abbrev lifted : Head → Result Head (ℕ × ℕ)
+abbrev lifted : Head → Result Head Refusal
 lifted h = Ok h
 
-with-good : (s : Schema) (doc : Doc) (r : Result (List ClientEntry) ℕ) (h : Head) → Valid (documents_of s.spec) doc
+with-good : (s : Schema) (doc : Doc) (r : Result (List ClientEntry) Code) (h : Head) → Valid (documents_of s.spec) doc
     → ((cs : List ClientEntry) → r ≡ Ok cs → length cs ≤ 32) → lifted h ≡ with_clients s doc r → Good h
 with-good s doc (Ok cs) h valid few e =
     let is : record { schema = s; doc = doc; clients = cs } ≡ h = cc in
     subst Good is (valid, few cs refl)
 with-good s doc (Err code) h valid few e = absurd (cc)
 
-after-doc : (s : Schema) (doc : Result Doc ℕ) (lines : List (List ℕ)) (h : Head) → ((d : Doc) → doc ≡ Ok d → Valid (documents_of s.spec) d) → AfterDoc s doc lines (Ok h) → Good h
+after-doc : (s : Schema) (doc : Result Doc Code) (lines : List (List ℕ)) (h : Head) → ((d : Doc) → doc ≡ Ok d → Valid (documents_of s.spec) d) → AfterDoc s doc lines (Ok h) → Good h
 after-doc s (Err code) lines h valid e = absurd (cc)
 after-doc s (Ok doc) [] h valid e = absurd (cc)
 after-doc s (Ok doc) (line ∷ lines) h valid e = with-good s doc (clients_line line) h (valid doc refl) (few-line line) e
 
-after-schema : (r : Result Schema ℕ) (lines : List (List ℕ)) (h : Head) → AfterSchema r lines (Ok h) → Good h
+after-schema : (r : Result Schema Code) (lines : List (List ℕ)) (h : Head) → AfterSchema r lines (Ok h) → Good h
 after-schema (Err code) lines h e = absurd (cc)
 after-schema (Ok s) [] h e = absurd (cc)
 after-schema (Ok s) (line ∷ lines) h e =

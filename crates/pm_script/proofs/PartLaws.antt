@@ -1,9 +1,11 @@
 -- Nodes, marks, slices and attributes as they are read.
-use Rattle.std.proofs.Common.{◌≡◌, ℕ, ap, sym, subst, Result, Ok, Err}
+use Rattle.std.proofs.Common.{◌≡◌, ap, sym, subst, Result, Ok, Err}
 use Rattle.std.specs.Prelude.{Option, Some, None, unwrap_or}
 use Rattle.pm_docjson.specs.declared.fault.DocReadError.{DocReadError}
 use Rattle.pm_docjson.specs.declared.fault.DocReadError.TheVariants.{Shape, UnknownType, Attr, EmptyText, NotASet, Open, NoMemory, Large}
 use Rattle.pm_docjson.specs.Answers as doc
+use Rattle.pm_head.specs.declared.code.Code.{Code}
+use Rattle.pm_head.specs.declared.code.Code.TheVariants.{InputTooLong}
 use Rattle.pm_head.specs.declared.fault.LineError.{LineError}
 use Rattle.pm_head.specs.Answers.{Fails}
 use Rattle.pm_head.specs.Codes.{node_code}
@@ -11,7 +13,7 @@ use Rattle.pm_script.specs.Codes.{node_coded}
 use Rattle.pm_script.specs.Faults.{fault_of}
 
 -- a reading with this code has the fault of that code; without one, memory ran out
-pub with-code : {A : Type 0} (o : Option ℕ) (r : Result A ℕ) → r ≡ Err (unwrap_or o 0) → Fails (fault_of o) r
+pub with-code : {A : Type 0} (o : Option Code) (r : Result A Code) → r ≡ Err (unwrap_or o InputTooLong) → Fails (fault_of o) r
 with-code (Some code) r h = h
 with-code None r h = tt
 

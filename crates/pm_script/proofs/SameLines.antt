@@ -6,6 +6,7 @@ use Rattle.serde_json.specs.Find.{get, as_array}
 use Rattle.pm_list.specs.Readings.{◌>>=◌, or_fault}
 use Rattle.pm_schema.specs.declared.spec.SchemaSpec.{SchemaSpec}
 use Rattle.pm_schema.specs.Names.{place_of}
+use Rattle.pm_head.specs.declared.code.Code.TheVariants.{TooManyLines, WrongShape, UnknownName}
 use Rattle.pm_head.specs.OneMeaning.{HaveSameTypes}
 use Rattle.pm_docjson.specs.declared.leaves.LeafContent.TheVariants.{Refused}
 use Rattle.pm_docjson.specs.Fields.{field}
@@ -27,7 +28,8 @@ use Rattle.pm_step.specs.Steps.{as_step}
 use Rattle.pm_script.specs.Parts.{step_in, step_list, steps_in, slice_in, node_in, mark_in, type_in, attrs_in}
 use Rattle.pm_script.specs.Ops.{step_op, paste_op, insert_op, wrap_op, set_type_op, add_mark_op, remove_mark_op, op_of}
 use Rattle.pm_script.specs.Acts.{edit_in, forge_in, act_in}
-use Rattle.pm_script.specs.Lines.{last_line, client_in, word_in, said, named, op_in, op_line}
+use Rattle.pm_script.specs.declared.lines.TheConstants.{LAST_LINE}
+use Rattle.pm_script.specs.Lines.{client_in, word_in, said, named, op_in, op_line}
 use Rattle.pm_script.specs.Sessions.{at_line, ops_of}
 use Rattle.pm_script.proofs.SameSteps.{slice-alike, step-alike}
 
@@ -35,7 +37,7 @@ module _ (s t : SchemaSpec) (h : HaveSameTypes s t) where
   -- ---- the parts of an edit
 
   step-in-alike : (d : Data) → step_in s d ≡ step_in t d
-  step-in-alike d = λ i. or_fault 6 (get (codes "step") d) >>= (λ v. coded (step-alike s t h v i) >>= (λ read. Ok (as_step read)))
+  step-in-alike d = λ i. or_fault WrongShape (get (codes "step") d) >>= (λ v. coded (step-alike s t h v i) >>= (λ read. Ok (as_step read)))
 
   step-list-alike : (ds : Items) → step_list s ds ≡ step_list t ds
   unfolding step_list
@@ -44,19 +46,19 @@ module _ (s t : SchemaSpec) (h : HaveSameTypes s t) where
 
   steps-in-alike : (d : Data) → steps_in s d ≡ steps_in t d
   unfolding steps_in
-  steps-in-alike d = λ i. or_fault 6 (get (codes "steps") d) >>= (λ value. or_fault 6 (as_array value) >>= (λ items. step-list-alike items i))
+  steps-in-alike d = λ i. or_fault WrongShape (get (codes "steps") d) >>= (λ value. or_fault WrongShape (as_array value) >>= (λ items. step-list-alike items i))
 
   slice-in-alike : (d : Data) → slice_in s d ≡ slice_in t d
-  slice-in-alike d = λ i. or_fault 6 (get (codes "slice") d) >>= (λ v. node_coded (slice-alike s t h v i))
+  slice-in-alike d = λ i. or_fault WrongShape (get (codes "slice") d) >>= (λ v. node_coded (slice-alike s t h v i))
 
   node-in-alike : (d : Data) → node_in s d ≡ node_in t d
-  node-in-alike d = λ i. or_fault 6 (get (codes "node") d) >>= (λ v. node_coded (node-of-alike s t h Refused v i))
+  node-in-alike d = λ i. or_fault WrongShape (get (codes "node") d) >>= (λ v. node_coded (node-of-alike s t h Refused v i))
 
   mark-in-alike : (d : Data) → mark_in s d ≡ mark_in t d
-  mark-in-alike d = λ i. or_fault 6 (get (codes "mark") d) >>= (λ v. node_coded (mark-of-alike s t h v i))
+  mark-in-alike d = λ i. or_fault WrongShape (get (codes "mark") d) >>= (λ v. node_coded (mark-of-alike s t h v i))
 
   type-in-alike : (d : Data) → type_in s d ≡ type_in t d
-  type-in-alike d = λ i. text_in (codes "type") d >>= (λ name. or_fault 7 (place_of name (names-alike s t h i)))
+  type-in-alike d = λ i. text_in (codes "type") d >>= (λ name. or_fault UnknownName (place_of name (names-alike s t h i)))
 
   attrs-in-alike : (k : ℕ) (d : Data) → attrs_in s k d ≡ attrs_in t k d
   attrs-in-alike k d = λ i. node_coded (node-attrs-alike s t h k (field (codes "attrs") d) i)
@@ -135,7 +137,7 @@ module _ (s t : SchemaSpec) (h : HaveSameTypes s t) where
 
   op-line-alike : (clients : List ClientEntry) (earlier : List (Line Op Step)) (n : ℕ) (line : List ℕ) → op_line s clients earlier n line ≡ op_line t clients earlier n line
   unfolding op_line
-  op-line-alike clients earlier n line = λ i. if nat_lt last_line n then Err 4 else (json_line line >>= (λ d. op-in-alike clients earlier n d i))
+  op-line-alike clients earlier n line = λ i. if nat_lt LAST_LINE n then Err TooManyLines else (json_line line >>= (λ d. op-in-alike clients earlier n d i))
 
   pub ops-alike : (clients : List ClientEntry) (earlier : List (Line Op Step)) (n : ℕ) (lines : List (List ℕ)) → ops_of s clients earlier n lines ≡ ops_of t clients earlier n lines
   unfolding ops_of

@@ -4,6 +4,9 @@ use Rattle.std.proofs.lemmas.Bool.Decides.{nat_tests}
 use Rattle.std.specs.Prelude.{nat_lt, MatchBool, IfOk}
 use Rattle.pm_tokens.specs.Faults.{Valid}
 use Rattle.pm_schema.specs.Documents.{documents_of}
+use Rattle.pm_head.specs.declared.code.Code.TheVariants.{InputTooLong}
+use Rattle.pm_head.specs.Refusals.{refused}
+use Rattle.pm_head.specs.declared.fault.Refusal.{Refusal}
 use Rattle.pm_meaning.specs.Steps.{Step}
 use Rattle.pm_ops.specs.declared.op.Op.{Op}
 use Rattle.pm_session.specs.declared.line.Line.{Line}
@@ -13,20 +16,21 @@ use Rattle.pm_head.specs.Clients.{raw_flags}
 use Rattle.pm_head.specs.Heads.{HeadIs}
 use Rattle.pm_head.specs.Lines.{lines_of}
 use Rattle.pm_script.specs.declared.session.Session.{Session}
-use Rattle.pm_script.specs.Answers.{Reads}
+use Rattle.pm_head.specs.Answers.{Reads}
 use Rattle.pm_script.specs.Held.{Holds}
-use Rattle.pm_script.specs.Sessions.{max_input, ops_of, with_ops, behind, behind_head, SessionOf, SessionIs}
-use Rattle.pm_script.specs.declared.fault.SessionError.{SessionError}
-use Rattle.pm_script.specs.declared.fault.SessionError.TheVariants.{Refused, NoMemory}
+use Rattle.pm_script.specs.declared.session.TheConstants.{MAX_INPUT}
+use Rattle.pm_script.specs.Sessions.{ops_of, with_ops, behind, behind_head, SessionOf, SessionIs}
+use Rattle.pm_head.specs.declared.fault.SessionError.{SessionError}
+use Rattle.pm_head.specs.declared.fault.SessionError.TheVariants.{Refused, NoMemory}
 use Rattle.pm_script.proofs.HeadLaws.{head-good}
 use Rattle.pm_script.proofs.Suited.{ops-suit}
 
-with-holds : (h : Head) (r : Result (List (Line Op Step)) (ℕ × ℕ)) (s : Session) → Valid (documents_of h.schema.spec) h.doc → length h.clients ≤ 32
+with-holds : (h : Head) (r : Result (List (Line Op Step)) Refusal) (s : Session) → Valid (documents_of h.schema.spec) h.doc → length h.clients ≤ 32
     → ((ops : List (Line Op Step)) → r ≡ Ok ops → AllSuit (raw_flags h.clients) [] ops) → with_ops h r ≡ Ok s → Holds s
 with-holds h (Ok ops) s valid few suit e =
     let made : record { head = h; lines = ops } ≡ s = cc in
     subst Holds made (record { valid = valid; few = few; suit = suit ops refl })
-with-holds h (Err fault) s valid few suit e = absurd (cc)
+with-holds h (Err refusal) s valid few suit e = absurd (cc)
 
 behind-holds : (lines rest : List (List ℕ)) (h : Head) (s : Session) → HeadIs lines (Ok h) → Ok s ≡ behind h rest → Holds s
 behind-holds lines rest h s is e =
@@ -37,36 +41,33 @@ behind-holds lines rest h s is e =
 of-holds : (lines : List (List ℕ)) (s : Session) → SessionOf lines (Ok s) → Holds s
 of-holds lines s e = from e.0 e.1 e.2
   where
-    from : (head : Result Head (ℕ × ℕ)) → HeadIs lines head → Ok s ≡ behind_head head (drop 3 lines) → Holds s
+    from : (head : Result Head Refusal) → HeadIs lines head → Ok s ≡ behind_head head (drop 3 lines) → Holds s
     from (Ok h) is e = behind-holds lines (drop 3 lines) h s is e
-    from (Err fault) is e = absurd (cc)
+    from (Err refusal) is e = absurd (cc)
 
 -- readings of sessions
-abbrev read_as : Session → Result Session (ℕ × ℕ)
+abbrev read_as : Session → Result Session Refusal
 read_as s = Ok s
 
-abbrev no_lines : ℕ × ℕ
-no_lines = (0, 1)
-
 pub session-holds : (input : List ℕ) (s : Session) → SessionIs input (Ok s) → Holds s
-session-holds input s e = from (nat_lt max_input (length input)) e
+session-holds input s e = from (nat_lt MAX_INPUT (length input)) e
   where
-    from : (b : Bool) → MatchBool b (read_as s ≡ Err no_lines) (SessionOf (lines_of input) (Ok s)) → Holds s
+    from : (b : Bool) → MatchBool b (read_as s ≡ Err (refused 0 InputTooLong)) (SessionOf (lines_of input) (Ok s)) → Holds s
     from true e = absurd (cc)
     from false e = of-holds (lines_of input) s e
 
-pub reads-hold : (input : List ℕ) (r : Result Session SessionError) → Reads (SessionIs input) r → IfOk r Holds
+pub reads-hold : (input : List ℕ) (r : Result Session SessionError) → Reads (λ s. s) (SessionIs input) r → IfOk r Holds
 reads-hold input (Ok s) h = session-holds input s h
 reads-hold input (Err e) h = tt
 
-within-reads : (input : List ℕ) (r : Result Session SessionError) → nat_lt max_input (length input) ≡ false → Reads (SessionOf (lines_of input)) r → Reads (SessionIs input) r
+within-reads : (input : List ℕ) (r : Result Session SessionError) → nat_lt MAX_INPUT (length input) ≡ false → Reads (λ s. s) (SessionOf (lines_of input)) r → Reads (λ s. s) (SessionIs input) r
 within-reads input (Ok s) l h = rw l h
-within-reads input (Err (Refused n code)) l h = rw l h
+within-reads input (Err (Refused refusal)) l h = rw l h
 within-reads input (Err NoMemory) l h = tt
 
-not_above : (n : ℕ) → n ≤ 67108864 → nat_lt 67108864 n ≡ false
+not_above : (n : ℕ) → n ≤ MAX_INPUT → nat_lt MAX_INPUT n ≡ false
 not_above n h = grind (arith, nat_tests)
 
 -- what is read of an input that is not too long
-pub read-holds : (input : List ℕ) (r : Result Session SessionError) → length input ≤ 67108864 → Reads (SessionOf (lines_of input)) r → IfOk r Holds
+pub read-holds : (input : List ℕ) (r : Result Session SessionError) → length input ≤ MAX_INPUT → Reads (λ s. s) (SessionOf (lines_of input)) r → IfOk r Holds
 read-holds input r l h = reads-hold input r (within-reads input r (not_above (length input) l) h)

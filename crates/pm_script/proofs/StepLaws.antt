@@ -1,6 +1,7 @@
 -- Steps as they are read.
-use Rattle.std.proofs.Common.{◌≡◌, ℕ, Result, Ok, ap, sym, subst}
+use Rattle.std.proofs.Common.{◌≡◌, Result, Ok, ap, sym, subst}
 use Rattle.pm_list.specs.Readings.{◌>>=◌}
+use Rattle.pm_head.specs.declared.code.Code.{Code}
 use Rattle.pm_meaning.specs.Steps as steps
 use Rattle.pm_step.specs.declared.step.Step.{Step}
 use Rattle.pm_step.specs.Steps.{as_step, step_of}
@@ -16,7 +17,7 @@ use Rattle.pm_script.specs.Faults.{fault_of}
 use Rattle.pm_script.proofs.PartLaws.{with-code}
 
 -- a reading of a step as the reading of a line
-abbrev of_line : Result steps.Step StepReadError → Result Step ℕ
+abbrev of_line : Result steps.Step StepReadError → Result Step Code
 of_line r = coded r >>= (λ s. Ok (as_step s))
 
 line-of : (e : StepReadError) (r : Result steps.Step StepReadError) → step.Fails e r → Fails (fault_of (step_code e)) (of_line r)

@@ -10,6 +10,8 @@ use Rattle.pm_list.specs.Readings.{◌>>=◌, or_fault}
 use Rattle.pm_docjson.specs.Fields.{field}
 use Rattle.pm_schema.specs.declared.spec.SchemaSpec.{SchemaSpec}
 use Rattle.pm_map.specs.Moves.{IsSide}
+use Rattle.pm_head.specs.declared.code.Code.{Code}
+use Rattle.pm_head.specs.declared.code.Code.TheVariants.{TooManyLines, WrongShape, UnknownName, NoSuchMessage, OpNotAllowed}
 use Rattle.pm_head.specs.declared.clients.ClientEntry.{ClientEntry}
 use Rattle.pm_head.specs.Clients.{raw_flags}
 use Rattle.pm_meaning.specs.Steps.{Step}
@@ -27,7 +29,8 @@ use Rattle.pm_script.specs.Words.{may_say}
 use Rattle.pm_script.specs.Ops.{op_of}
 use Rattle.pm_script.specs.Parts.{steps_in}
 use Rattle.pm_script.specs.Acts.{edit_in, cursor_in, forge_in, act_in, names_one}
-use Rattle.pm_script.specs.Lines.{last_line, client_in, word_in, cursors_by, is_raw, said, named, op_in, op_line}
+use Rattle.pm_script.specs.declared.lines.TheConstants.{LAST_LINE}
+use Rattle.pm_script.specs.Lines.{client_in, word_in, cursors_by, is_raw, said, named, op_in, op_line}
 use Rattle.pm_script.specs.Sessions.{at_line, ops_of}
 use Rattle.pm_script.proofs.Came.{then-ok, fault-ok, when-ok, unless-ok, line-ok, both-true}
 use Rattle.pm_script.proofs.Places.{position-within}
@@ -49,11 +52,11 @@ IsMade forge (Push lost) = false ≡ forge
 IsMade forge (Pull lost) = false ≡ forge
 IsMade forge (Forge version steps) = true ≡ forge
 
-side-said : (o : Option ℤ) (z : ℤ) → or_fault {E = ℕ} 6 (option_and_then as_side o) ≡ Ok z → IsSide z
+side-said : (o : Option ℤ) (z : ℤ) → or_fault WrongShape (option_and_then as_side o) ≡ Ok z → IsSide z
 side-said None z h = absurd (cc)
 side-said (Some y) z h = from (is_side y) refl h
   where
-    from : (b : Bool) → is_side y ≡ b → or_fault {E = ℕ} 6 (if b then Some y else None) ≡ Ok z → IsSide z
+    from : (b : Bool) → is_side y ≡ b → or_fault WrongShape (if b then Some y else None) ≡ Ok z → IsSide z
     from true is h = let same : y ≡ z = cc in subst IsSide same (side_is y is)
     from false is h = absurd (cc)
 
@@ -85,13 +88,13 @@ forge-made s d act h =
     let is : Forge one.0 two.0 ≡ act = cc in
     subst (IsMade true) is refl
 
-one-made : {A : Type 0} (r : Result A ℕ) (make : A → Act Op Step) (act : Act Op Step) → ((x : A) → IsMade false (make x)) → (r >>= (λ x. Ok (make x))) ≡ Ok act → IsMade false act
+one-made : {A : Type 0} (r : Result A Code) (make : A → Act Op Step) (act : Act Op Step) → ((x : A) → IsMade false (make x)) → (r >>= (λ x. Ok (make x))) ≡ Ok act → IsMade false act
 one-made r make act all h =
     let one = then-ok r _ act h in
     let is : make one.0 ≡ act = cc in
     subst (IsMade false) is (all one.0)
 
-abbrev done : Act Op Step → Result (Act Op Step) ℕ
+abbrev done : Act Op Step → Result (Act Op Step) Code
 done a = Ok a
 
 plain-made : (a act : Act Op Step) → IsMade false a → done a ≡ done act → IsMade false act
@@ -181,7 +184,7 @@ client-within : (clients : List ClientEntry) (d : Data) (i : ℕ) → client_in 
 client-within clients d i h =
     let one = then-ok (text_in (codes "c") d) _ i h in
     let p : ClientEntry → Bool = λ c. pointwise nat_eq one.0 c.name in
-    subst (λ o. IfSome o (λ k. k < length clients)) (fault-ok {E = ℕ} 7 (position p clients) i one.2) (position-within p clients)
+    subst (λ o. IfSome o (λ k. k < length clients)) (fault-ok UnknownName (position p clients) i one.2) (position-within p clients)
 
 -- the client that is there is raw, or not
 flag-there : (clients : List ClientEntry) (i : ℕ) → i < length clients → slice_get (raw_flags clients) i ≡ Some (is_raw clients i)
@@ -197,8 +200,8 @@ op-suits s clients earlier n d op h =
     let c = then-ok (said clients earlier a.0 b.0) _ op b.2 in
     let e = then-ok (act_in s c.0 d) _ op c.2 in
     let g = then-ok (named earlier a.0 e.0) _ op e.2 in
-    let v = when-ok (may_say (is_raw clients a.0) (cursors_by a.0 earlier) b.0) b.0 c.0 18 c.1 in
-    let w = when-ok (names_one (composed_by a.0 earlier) (answered_by a.0 earlier) e.0) e.0 g.0 17 g.1 in
+    let v = when-ok (may_say (is_raw clients a.0) (cursors_by a.0 earlier) b.0) b.0 c.0 OpNotAllowed c.1 in
+    let w = when-ok (names_one (composed_by a.0 earlier) (answered_by a.0 earlier) e.0) e.0 g.0 NoSuchMessage g.1 in
     let line : Line Op Step = record { number = n; client = a.0; act = g.0 } in
     let is : line ≡ op = cc in
     let made : IsMade (says_forge c.0) e.0 = act-made s c.0 d e.0 e.1 in
@@ -215,7 +218,7 @@ op-suits s clients earlier n d op h =
 line-suits : (s : SchemaSpec) (clients : List ClientEntry) (earlier : List (Line Op Step)) (n : ℕ) (line : List ℕ) (op : Line Op Step) → op_line s clients earlier n line ≡ Ok op → Suits (raw_flags clients) earlier op
 unfolding op_line
 line-suits s clients earlier n line op h =
-    let one = then-ok (json_line line) (λ d. op_in s clients earlier n d) op (unless-ok (nat_lt last_line n) 4 _ op h) in
+    let one = then-ok (json_line line) (λ d. op_in s clients earlier n d) op (unless-ok (nat_lt LAST_LINE n) TooManyLines _ op h) in
     op-suits s clients earlier n one.0 op one.2
 
 -- ---- all lines

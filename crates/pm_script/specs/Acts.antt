@@ -3,6 +3,7 @@ use Rattle.std.specs.Prelude.{ℕ, Bool, ◌&&◌, nat_lt, nat_le, true, false, 
 use Rattle.serde_json.specs.Data.{Data}
 use Rattle.pm_list.specs.Readings.{◌>>=◌}
 use Rattle.pm_schema.specs.declared.spec.SchemaSpec.{SchemaSpec}
+use Rattle.pm_head.specs.declared.code.Code.{Code}
 use Rattle.pm_meaning.specs.Steps.{Step}
 use Rattle.pm_ops.specs.declared.op.Op.{Op}
 use Rattle.pm_session.specs.declared.line.Act.{Act}
@@ -15,28 +16,28 @@ use Rattle.pm_script.specs.Ops.{op_of}
 use Rattle.pm_script.specs.Parts.{steps_in}
 
 -- an edit: the fields of its kind, and then an event number
-unfoldable pub edit_in : SchemaSpec → EditKind → Data → Result (Act Op Step) ℕ
+unfoldable pub edit_in : SchemaSpec → EditKind → Data → Result (Act Op Step) Code
 edit_in s kind d = do
   op ← op_of s kind d
   event ← event_in d
   Ok (Edit op event)
 
 -- `cursor`: a position, and a side
-unfoldable pub cursor_in : Data → Result (Act Op Step) ℕ
+unfoldable pub cursor_in : Data → Result (Act Op Step) Code
 cursor_in d = do
   at ← number_in (codes "pos") d
   side ← side_in d
   Ok (Cursor at side)
 
 -- `forge`: a version, and the steps
-unfoldable pub forge_in : SchemaSpec → Data → Result (Act Op Step) ℕ
+unfoldable pub forge_in : SchemaSpec → Data → Result (Act Op Step) Code
 forge_in s d = do
   version ← number_in (codes "version") d
   steps ← steps_in s d
   Ok (Forge version steps)
 
 -- what the word does
-abbrev pub act_in : SchemaSpec → Word → Data → Result (Act Op Step) ℕ
+abbrev pub act_in : SchemaSpec → Word → Data → Result (Act Op Step) Code
 act_in s (word.Edit kind) d = edit_in s kind d
 act_in s word.Undo d = Ok Undo
 act_in s word.Redo d = Ok Redo

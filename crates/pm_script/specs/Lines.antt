@@ -5,6 +5,8 @@ use Rattle.std.specs.Cmp.Lexicographic.{pointwise}
 use Rattle.serde_json.specs.Data.{Data}
 use Rattle.pm_list.specs.Readings.{◌>>=◌, or_fault}
 use Rattle.pm_schema.specs.declared.spec.SchemaSpec.{SchemaSpec}
+use Rattle.pm_head.specs.declared.code.Code.{Code}
+use Rattle.pm_head.specs.declared.code.Code.TheVariants.{TooManyLines, UnknownName, NoSuchMessage, OpNotAllowed}
 use Rattle.pm_head.specs.declared.clients.ClientEntry.{ClientEntry}
 use Rattle.pm_head.specs.Lines.{json_line}
 use Rattle.pm_meaning.specs.Steps.{Step}
@@ -12,21 +14,18 @@ use Rattle.pm_ops.specs.declared.op.Op.{Op}
 use Rattle.pm_session.specs.declared.line.Act.{Act}
 use Rattle.pm_session.specs.declared.line.Line.{Line}
 use Rattle.pm_session.specs.Suits.{done_by, composed_by, answered_by}
+use Rattle.pm_script.specs.declared.lines.TheConstants.{LAST_LINE}
 use Rattle.pm_script.specs.declared.word.Word.{Word}
 use Rattle.pm_script.specs.Words.{word_named, may_say}
 use Rattle.pm_script.specs.Fields.{text_in}
 use Rattle.pm_script.specs.Acts.{act_in, names_one, sets_one}
 
--- the number of the last line that may be there
-abbrev pub last_line : ℕ
-last_line = 100003
-
 -- the place of the client that `c` names
-abbrev pub client_in : List ClientEntry → Data → Result ℕ ℕ
-client_in clients d = text_in (codes "c") d >>= (λ name. or_fault 7 (position (λ c. pointwise nat_eq name c.name) clients))
+abbrev pub client_in : List ClientEntry → Data → Result ℕ Code
+client_in clients d = text_in (codes "c") d >>= (λ name. or_fault UnknownName (position (λ c. pointwise nat_eq name c.name) clients))
 
-abbrev pub word_in : Data → Result Word ℕ
-word_in d = text_in (codes "op") d >>= (λ text. or_fault 7 (word_named text))
+abbrev pub word_in : Data → Result Word Code
+word_in d = text_in (codes "op") d >>= (λ text. or_fault UnknownName (word_named text))
 
 -- how many cursors the client set on these lines
 abbrev pub cursors_by : ℕ → List (Line Op Step) → ℕ
@@ -36,14 +35,14 @@ cursors_by i lines = done_by sets_one i lines
 abbrev pub is_raw : List ClientEntry → ℕ → Bool
 is_raw clients i = unwrap_or (option_map (λ c. c.raw) (slice_get clients i)) false
 
-abbrev pub said : List ClientEntry → List (Line Op Step) → ℕ → Word → Result Word ℕ
-said clients earlier client word = if may_say (is_raw clients client) (cursors_by client earlier) word then Ok word else Err 18
+abbrev pub said : List ClientEntry → List (Line Op Step) → ℕ → Word → Result Word Code
+said clients earlier client word = if may_say (is_raw clients client) (cursors_by client earlier) word then Ok word else Err OpNotAllowed
 
-abbrev pub named : List (Line Op Step) → ℕ → Act Op Step → Result (Act Op Step) ℕ
-named earlier client act = if names_one (composed_by client earlier) (answered_by client earlier) act then Ok act else Err 17
+abbrev pub named : List (Line Op Step) → ℕ → Act Op Step → Result (Act Op Step) Code
+named earlier client act = if names_one (composed_by client earlier) (answered_by client earlier) act then Ok act else Err NoSuchMessage
 
 -- the op line with this number, behind these earlier ones
-unfoldable pub op_in : SchemaSpec → List ClientEntry → List (Line Op Step) → ℕ → Data → Result (Line Op Step) ℕ
+unfoldable pub op_in : SchemaSpec → List ClientEntry → List (Line Op Step) → ℕ → Data → Result (Line Op Step) Code
 op_in s clients earlier n d = do
   client ← client_in clients d
   found ← word_in d
@@ -52,7 +51,7 @@ op_in s clients earlier n d = do
   act ← named earlier client read
   Ok (record { number = n; client = client; act = act })
 
--- Line 100,004 is refused with code 4, whatever it holds.
-unfoldable pub op_line : SchemaSpec → List ClientEntry → List (Line Op Step) → ℕ → List ℕ → Result (Line Op Step) ℕ
+-- Line 100,004 is refused, whatever it holds.
+unfoldable pub op_line : SchemaSpec → List ClientEntry → List (Line Op Step) → ℕ → List ℕ → Result (Line Op Step) Code
 op_line s clients earlier n line =
-    if nat_lt last_line n then Err 4 else (json_line line >>= (λ d. op_in s clients earlier n d))
+    if nat_lt LAST_LINE n then Err TooManyLines else (json_line line >>= (λ d. op_in s clients earlier n d))

@@ -1,5 +1,6 @@
 -- What follows for two meanings of an input.
 use Rattle.std.specs.Prelude.{◌≡◌, ℕ, List, Ok, Err}
+use Rattle.pm_head.specs.declared.fault.Refusal.{Refusal}
 use Rattle.pm_head.specs.OneMeaning.{SameHead}
 use Rattle.pm_script.specs.declared.session.Session.{Session}
 use Rattle.pm_script.specs.Sessions.{SessionIs}
@@ -9,13 +10,13 @@ pub record SameSession (s t : Session) : Type 0 where
   pub head : SameHead s.head t.head
   pub lines : s.lines ≡ t.lines
 
--- an input that is a session has no fault
-abbrev pub SessionExcludesFault : List ℕ → Type 0
-SessionExcludesFault input = (s : Session) (fault : ℕ × ℕ) → SessionIs input (Ok s) → SessionIs input (Err fault) → ⊥
+-- an input that is a session is not refused
+abbrev pub SessionExcludesRefusal : List ℕ → Type 0
+SessionExcludesRefusal input = (s : Session) (refusal : Refusal) → SessionIs input (Ok s) → SessionIs input (Err refusal) → ⊥
 
--- its fault, a line and a code, is one
+-- its refusal, a line and a code, is one
 abbrev pub HasOneRefusal : List ℕ → Type 0
-HasOneRefusal input = (fault other : ℕ × ℕ) → SessionIs input (Err fault) → SessionIs input (Err other) → fault ≡ other
+HasOneRefusal input = (refusal other : Refusal) → SessionIs input (Err refusal) → SessionIs input (Err other) → refusal ≡ other
 
 -- two sessions of the input are the same
 abbrev pub HasOneSession : List ℕ → Type 0

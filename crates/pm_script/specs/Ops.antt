@@ -1,8 +1,9 @@
 -- The twelve edits: for each the fields of its line, in the order in which they are read.
-use Rattle.std.specs.Prelude.{ℕ, codes, Result, Ok}
+use Rattle.std.specs.Prelude.{codes, Result, Ok}
 use Rattle.serde_json.specs.Data.{Data}
 use Rattle.pm_list.specs.Readings.{◌>>=◌}
 use Rattle.pm_schema.specs.declared.spec.SchemaSpec.{SchemaSpec}
+use Rattle.pm_head.specs.declared.code.Code.{Code}
 use Rattle.pm_ops.specs.declared.op.Op.{Op}
 use Rattle.pm_ops.specs.declared.op.Op.TheVariants.{InsertText, Delete, Paste, InsertNode, Split, Join, Wrap, Lift, SetType, AddMark, RemoveMark, Step}
 use Rattle.pm_script.specs.declared.kinds.EditKind.{EditKind}
@@ -11,7 +12,7 @@ use Rattle.pm_script.specs.Fields.{text_in, number_in, depth_in}
 use Rattle.pm_script.specs.Parts.{step_in, slice_in, node_in, mark_in, type_in, attrs_in}
 
 -- `text`
-unfoldable pub text_op : Data → Result Op ℕ
+unfoldable pub text_op : Data → Result Op Code
 text_op d = do
   from ← number_in (codes "from") d
   to ← number_in (codes "to") d
@@ -19,41 +20,41 @@ text_op d = do
   Ok (InsertText from to text)
 
 -- `delete`
-unfoldable pub delete_op : Data → Result Op ℕ
+unfoldable pub delete_op : Data → Result Op Code
 delete_op d = do
   from ← number_in (codes "from") d
   to ← number_in (codes "to") d
   Ok (Delete from to)
 
 -- `split`
-unfoldable pub split_op : Data → Result Op ℕ
+unfoldable pub split_op : Data → Result Op Code
 split_op d = do
   at ← number_in (codes "pos") d
   depth ← depth_in d
   Ok (Split at depth)
 
 -- `join`
-unfoldable pub join_op : Data → Result Op ℕ
+unfoldable pub join_op : Data → Result Op Code
 join_op d = do
   at ← number_in (codes "pos") d
   depth ← depth_in d
   Ok (Join at depth)
 
 -- `lift`
-unfoldable pub lift_op : Data → Result Op ℕ
+unfoldable pub lift_op : Data → Result Op Code
 lift_op d = do
   at ← number_in (codes "pos") d
   Ok (Lift at)
 
 module _ (s : SchemaSpec) where
   -- `step`
-  unfoldable pub step_op : Data → Result Op ℕ
+  unfoldable pub step_op : Data → Result Op Code
   step_op d = do
     step ← step_in s d
     Ok (Step step)
 
   -- `paste`
-  unfoldable pub paste_op : Data → Result Op ℕ
+  unfoldable pub paste_op : Data → Result Op Code
   paste_op d = do
     from ← number_in (codes "from") d
     to ← number_in (codes "to") d
@@ -61,14 +62,14 @@ module _ (s : SchemaSpec) where
     Ok (Paste from to slice)
 
   -- `insert`
-  unfoldable pub insert_op : Data → Result Op ℕ
+  unfoldable pub insert_op : Data → Result Op Code
   insert_op d = do
     at ← number_in (codes "pos") d
     node ← node_in s d
     Ok (InsertNode at node)
 
   -- `wrap`
-  unfoldable pub wrap_op : Data → Result Op ℕ
+  unfoldable pub wrap_op : Data → Result Op Code
   wrap_op d = do
     from ← number_in (codes "from") d
     to ← number_in (codes "to") d
@@ -77,7 +78,7 @@ module _ (s : SchemaSpec) where
     Ok (Wrap from to type attrs)
 
   -- `settype`
-  unfoldable pub set_type_op : Data → Result Op ℕ
+  unfoldable pub set_type_op : Data → Result Op Code
   set_type_op d = do
     at ← number_in (codes "pos") d
     type ← type_in s d
@@ -85,7 +86,7 @@ module _ (s : SchemaSpec) where
     Ok (SetType at type attrs)
 
   -- `addmark`
-  unfoldable pub add_mark_op : Data → Result Op ℕ
+  unfoldable pub add_mark_op : Data → Result Op Code
   add_mark_op d = do
     from ← number_in (codes "from") d
     to ← number_in (codes "to") d
@@ -93,7 +94,7 @@ module _ (s : SchemaSpec) where
     Ok (AddMark from to mark)
 
   -- `removemark`
-  unfoldable pub remove_mark_op : Data → Result Op ℕ
+  unfoldable pub remove_mark_op : Data → Result Op Code
   remove_mark_op d = do
     from ← number_in (codes "from") d
     to ← number_in (codes "to") d
@@ -101,7 +102,7 @@ module _ (s : SchemaSpec) where
     Ok (RemoveMark from to mark)
 
   -- the edit of this kind
-  abbrev pub op_of : EditKind → Data → Result Op ℕ
+  abbrev pub op_of : EditKind → Data → Result Op Code
   op_of kind.Step d = step_op d
   op_of kind.Text d = text_op d
   op_of kind.Delete d = delete_op d

@@ -3,6 +3,7 @@ use Rattle.std.specs.Prelude.{ℕ, nat_eq, nat_lt, Bool, not, ◌&&◌, List, co
 use Rattle.std.specs.Cmp.Lexicographic.{pointwise}
 use Rattle.pm_script.specs.declared.kinds.EditKind.{EditKind}
 use Rattle.pm_script.specs.declared.kinds.EditKind.TheVariants as kind
+use Rattle.pm_script.specs.declared.word.TheConstants.{MAX_CURSORS}
 use Rattle.pm_script.specs.declared.word.Word.{Word}
 use Rattle.pm_script.specs.declared.word.Word.TheVariants.{Edit, Undo, Redo, Cursor, Submit, Ask, Present, Take, Push, Pull, Forge}
 
@@ -58,7 +59,7 @@ abbrev pub may_say : Bool → ℕ → Word → Bool
 may_say raw cursors (Edit edit) = not raw
 may_say raw cursors Undo = not raw
 may_say raw cursors Redo = not raw
-may_say raw cursors Cursor = not raw && nat_lt cursors 64
+may_say raw cursors Cursor = not raw && nat_lt cursors MAX_CURSORS
 may_say raw cursors Submit = not raw
 may_say raw cursors Ask = not raw
 may_say raw cursors Present = not raw

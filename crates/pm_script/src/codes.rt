@@ -5,7 +5,7 @@ ghost use Rattle.pm_script.specs.Codes.{step_code};
 ghost use Rattle.pm_script.specs.Faults.{fault_of};
 
 use pm_docjson::DocReadError;
-use pm_head::{LineError, node_code};
+use pm_head::{Code, LineError, node_code};
 use pm_stepjson::StepReadError;
 
 /// The fault of a line whose step has this fault.
@@ -23,18 +23,18 @@ pub(crate) fn node_fault(error: DocReadError) -> LineError
 }
 
 /// The code of a value that is no step; `None` for want of memory.
-fn step_code(error: StepReadError) -> Option<u32>
+fn step_code(error: StepReadError) -> Option<Code>
     ensures { result ≡ step_code error }
 {
     match error {
-        StepReadError::Shape => Some(6),
-        StepReadError::UnknownKind => Some(7),
+        StepReadError::Shape => Some(Code::WrongShape),
+        StepReadError::UnknownKind => Some(Code::UnknownName),
         StepReadError::Slice(e) | StepReadError::Mark(e) => node_code(e),
         StepReadError::NoMemory => None,
     }
 }
 
-fn fault_of(code: Option<u32>) -> LineError
+fn fault_of(code: Option<Code>) -> LineError
     ensures { result ≡ fault_of code }
 {
     match code {

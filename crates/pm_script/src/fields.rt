@@ -8,12 +8,9 @@ ghost use Rattle.pm_head.specs.Answers.{Gives};
 ghost use Rattle.pm_script.specs.Fields.{text_in, number_in, depth_in, lost_in, side_in, as_side, event_in};
 
 use pm_docjson::field;
-use pm_head::LineError;
+use pm_head::{Code, LineError};
 use pm_slicejson::as_count;
 use serde_json::Value;
-
-/// A field that is absent or of another kind than it must be.
-pub(crate) const SHAPE: u32 = 6;
 
 /// A text, which must be there.
 pub(crate) fn text_in<'a>(json: &'a Value, key: &str) -> Result<&'a str, LineError>
@@ -22,9 +19,9 @@ pub(crate) fn text_in<'a>(json: &'a Value, key: &str) -> Result<&'a str, LineErr
     match json.get(key) {
         Some(value) => match value.as_str() {
             Some(text) => Ok(text),
-            None => Err(LineError::Code(SHAPE)),
+            None => Err(LineError::Code(Code::WrongShape)),
         },
-        None => Err(LineError::Code(SHAPE)),
+        None => Err(LineError::Code(Code::WrongShape)),
     }
 }
 
@@ -34,17 +31,17 @@ pub(crate) fn number_in(json: &Value, key: &str) -> Result<u64, LineError>
 {
     match json.get(key) {
         Some(value) => count_of(value),
-        None => Err(LineError::Code(SHAPE)),
+        None => Err(LineError::Code(Code::WrongShape)),
     }
 }
 
 /// The value as a whole number from 0 to 4,294,967,295.
 fn count_of(json: &Value) -> Result<u64, LineError>
-    ensures { Gives (λ n. n) result (or_fault 6 (as_count (view json.now))) }
+    ensures { Gives (λ n. n) result (or_fault Code.WrongShape (as_count (view json.now))) }
 {
     match as_count(json) {
         Some(number) => Ok(number as u64),
-        None => Err(LineError::Code(SHAPE)),
+        None => Err(LineError::Code(Code::WrongShape)),
     }
 }
 
@@ -56,7 +53,7 @@ pub(crate) fn lost_in(json: &Value) -> Result<bool, LineError>
         None => Ok(false),
         Some(value) => match value.as_bool() {
             Some(lost) => Ok(lost),
-            None => Err(LineError::Code(SHAPE)),
+            None => Err(LineError::Code(Code::WrongShape)),
         },
     }
 }
@@ -69,7 +66,7 @@ pub(crate) fn side_in(json: &Value) -> Result<i8, LineError>
         None => Ok(1),
         Some(value) => match side_of(value) {
             Some(side) => Ok(side),
-            None => Err(LineError::Code(SHAPE)),
+            None => Err(LineError::Code(Code::WrongShape)),
         },
     }
 }
@@ -104,7 +101,7 @@ pub(crate) fn event_in(json: &Value) -> Result<Option<u32>, LineError>
         None => Ok(None),
         Some(value) => match as_count(value) {
             Some(number) => Ok(Some(number as u32)),
-            None => Err(LineError::Code(SHAPE)),
+            None => Err(LineError::Code(Code::WrongShape)),
         },
     }
 }

@@ -4,7 +4,6 @@
 mod acts;
 mod codes;
 mod earlier;
-mod fault;
 mod fields;
 mod kinds;
 mod laws;
@@ -14,6 +13,6 @@ mod parts;
 mod session;
 mod word;
 
-pub use fault::SessionError;
 pub use laws::input_means_one;
-pub use session::{Session, read_session};
+pub use pm_head::{Code, Refusal, SessionError};
+pub use session::{MAX_INPUT, Session, read_session};

@@ -10,7 +10,7 @@ use crate::earlier::Earlier;
 use crate::fields::text_in;
 use crate::word::Word;
 use pm_apply::DocChange;
-use pm_head::{ClientEntry, LineError, json_line};
+use pm_head::{ClientEntry, Code, LineError, json_line};
 use pm_ops::Op;
 use pm_schema::Schema;
 use pm_session::{Act, Line};
@@ -20,9 +20,8 @@ use std::alloc::Global;
 /// The number of the last line that may be there.
 const LAST_LINE: u32 = 100_003;
 
-/// Op line `number`, behind earlier ones. The code of its first fault is: 4 where it is past line 100,003; 3 where it passes
-/// 1,048,576 bytes; 5 where it is not UTF-8 or no JSON; 6 and 7 as its fields have them; 18 where its op is not one of the client's
-/// kind, or it would be the client's 65th cursor; 17 where it names a message or an answer that is not there.
+/// Op line `number`, behind earlier ones; else the code of its first fault. `TooManyLines` is decided first, then what its JSON
+/// value is, then the client and the word, `OpNotAllowed`, the codes of its fields, and last `NoSuchMessage`.
 #[tactic(auto, unfolding(crate::specs::Lines::op_line))]
 pub(crate) fn op_line(
     alloc: Global,
@@ -37,11 +36,11 @@ pub(crate) fn op_line(
     requires cursors { vec_len earlier.now.cursors ≡ length clients.now }
     requires few { length clients.now ≤ 32 }
     ensures read { Gives (λ l. l) result (op_line schema.now.spec clients.now earlier.now.lines.items number line.now) }
-    ensures number { IfOk result (λ l. number ≤ 100003) }
+    ensures number { IfOk result (λ l. number ≤ LAST_LINE) }
     ensures within { IfOk result (λ l. l.client < length clients.now) }
 {
     if number > LAST_LINE {
-        return Err(LineError::Code(4));
+        return Err(LineError::Code(Code::TooManyLines));
     }
     let json = json_line(alloc, line)?;
     op_in(alloc, schema, clients, earlier, number, &json)
@@ -84,7 +83,7 @@ fn client_in(clients: &[ClientEntry], json: &Value) -> Result<usize, LineError>
     let name = text_in(json, "c")?;
     match place_of(name, clients) {
         Some(i) => Ok(i),
-        None => Err(LineError::Code(7)),
+        None => Err(LineError::Code(Code::UnknownName)),
     }
 }
 
@@ -103,7 +102,7 @@ fn word_in(json: &Value) -> Result<Word, LineError>
     let text = text_in(json, "op")?;
     match Word::named(text) {
         Some(word) => Ok(word),
-        None => Err(LineError::Code(7)),
+        None => Err(LineError::Code(Code::UnknownName)),
     }
 }
 
@@ -130,7 +129,7 @@ fn said(
     if word.may_be_said(is_raw(clients, client), earlier.cursors(client)) {
         Ok(word)
     } else {
-        Err(LineError::Code(18))
+        Err(LineError::Code(Code::OpNotAllowed))
     }
 }
 
@@ -147,6 +146,6 @@ fn named(
     if names_one(earlier.composed(client), earlier.answered(client), &act) {
         Ok(act)
     } else {
-        Err(LineError::Code(17))
+        Err(LineError::Code(Code::NoSuchMessage))
     }
 }

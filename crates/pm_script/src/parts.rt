@@ -1,5 +1,5 @@
-//! The parts of an edit or a `forge` that are read by the schema. One that is absent and must be there has code 6; the codes of the faults
-//! within one are those of its reader.
+//! The parts of an edit or a `forge` that are read by the schema. One that is absent and must be there is of a wrong shape; the codes of the
+//! faults within one are those of its reader.
 ghost use Rattle.std.specs.Prelude.{◌<◌, length, IfOk};
 ghost use Rattle.serde_json.specs.View.{view, items_view};
 ghost use Rattle.pm_docjson.specs.Reading.{mark_of, node_of};
@@ -11,12 +11,12 @@ ghost use Rattle.pm_script.specs.Codes.{coded, node_coded};
 ghost use Rattle.pm_script.specs.Parts.{step_from, step_in, step_list, steps_in, slice_in, node_in, mark_in, type_in, attrs_in};
 
 use crate::codes::{node_fault, step_fault};
-use crate::fields::{SHAPE, text_in};
+use crate::fields::text_in;
 use pm_apply::DocChange;
 use pm_attrs::Attrs;
 use pm_auto::TypeId;
 use pm_docjson::{LeafContent, read_attrs, read_mark, read_node_with};
-use pm_head::LineError;
+use pm_head::{Code, LineError};
 use pm_list::Listed;
 use pm_marks::Mark;
 use pm_node::Node;
@@ -34,7 +34,7 @@ pub(crate) fn step_in(alloc: Global, schema: &Schema, json: &Value) -> Result<St
 {
     match json.get("step") {
         Some(step) => step_from(alloc, schema, step),
-        None => Err(LineError::Code(SHAPE)),
+        None => Err(LineError::Code(Code::WrongShape)),
     }
 }
 
@@ -59,10 +59,10 @@ pub(crate) fn steps_in(
     ensures { Gives (λ l. l) result (steps_in schema.now.spec (view json.now)) }
 {
     let Some(value) = json.get("steps") else {
-        return Err(LineError::Code(SHAPE));
+        return Err(LineError::Code(Code::WrongShape));
     };
     let Some(items) = value.as_array() else {
-        return Err(LineError::Code(SHAPE));
+        return Err(LineError::Code(Code::WrongShape));
     };
     step_list(alloc, schema, items)
 }
@@ -101,7 +101,7 @@ pub(crate) fn slice_in(alloc: Global, schema: &Schema, json: &Value) -> Result<S
 {
     match json.get("slice") {
         Some(slice) => slice_from(alloc, schema, slice),
-        None => Err(LineError::Code(SHAPE)),
+        None => Err(LineError::Code(Code::WrongShape)),
     }
 }
 
@@ -122,7 +122,7 @@ pub(crate) fn node_in(alloc: Global, schema: &Schema, json: &Value) -> Result<No
 {
     match json.get("node") {
         Some(node) => node_from(alloc, schema, node),
-        None => Err(LineError::Code(SHAPE)),
+        None => Err(LineError::Code(Code::WrongShape)),
     }
 }
 
@@ -147,7 +147,7 @@ pub(crate) fn mark_in(
 {
     match json.get("mark") {
         Some(mark) => mark_from(alloc, schema, mark),
-        None => Err(LineError::Code(SHAPE)),
+        None => Err(LineError::Code(Code::WrongShape)),
     }
 }
 
@@ -162,7 +162,7 @@ fn mark_from(alloc: Global, schema: &Schema, json: &Value) -> Result<Mark<Attrs>
     }
 }
 
-/// The node type that `type` names; a name of none has code 7.
+/// The node type that `type` names; a name of none is unknown.
 pub(crate) fn type_in(schema: &Schema, json: &Value) -> Result<TypeId, LineError>
     ensures named { Gives (λ k. k) result (type_in schema.now.spec (view json.now)) }
     ensures inside { IfOk result (λ k. k < length schema.now.spec.nodes) }
@@ -170,13 +170,13 @@ pub(crate) fn type_in(schema: &Schema, json: &Value) -> Result<TypeId, LineError
     let name = text_in(json, "type")?;
     match schema.node_named(name) {
         Some(kind) => Ok(kind),
-        None => Err(LineError::Code(7)),
+        None => Err(LineError::Code(Code::UnknownName)),
     }
 }
 
 /// The attributes of a node of the type, where the field `attrs` gives their values. Where it is absent or null, none is given.
-/// Code 6 comes where it is no object; code 12 where a value in it is none, or is for an attribute that the type does not have,
-/// or one without default is missing.
+/// `WrongShape` comes where it is no object; `BadAttribute` where a value in it is none, or is for an attribute that the type
+/// does not have, or one without default is missing.
 #[tactic(auto, using(crate::proofs::PartLaws::read_parts))]
 pub(crate) fn attrs_in(
     alloc: Global,

@@ -1,4 +1,4 @@
-use Rattle.std.proofs.Common.{◌≡◌, ◌≤◌, [], drop, length}
+use Rattle.std.proofs.Common.{◌≡◌, [], drop, length}
 use Rattle.serde_json.specs.View.{items_view}
 use Rattle.pm_list.specs.Readings.{with_front}
 use Rattle.pm_head.specs.Clients.{entries_of}
