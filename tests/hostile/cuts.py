@@ -1,0 +1,118 @@
+"""Plays cut sessions and inputs at each limit, and compares the first line of the output with what the rules give.
+
+usage: cuts.py [--short]
+
+A session is cut after each of its bytes. A cut inside line N leaves a line that is no JSON: `refused N 5`, but where an
+earlier line has a fault already. A cut behind none, one or two lines: line 1, 2 or 3 is missing. Every other cut is a
+session with fewer lines, and the same with and without its last line end. WORDS names the words that are tried. With
+--short examples/plan.session alone is cut.
+"""
+import os, sys
+
+sys.path.insert(0, os.path.dirname(os.path.abspath(__file__)))
+from playing import *
+from limits import limits
+
+SHORT = "--short" in sys.argv
+
+
+def cut_fault(path, at):
+    """What is wrong with the runs of the first `at` bytes of a session whose lines have no prefix that is JSON."""
+    with open(path, "rb") as file:
+        whole = file.read()
+    out = wanted(path)[1]
+    lines = whole[:at].split(b"\n")
+    last = lines.pop()
+    is_inside = last != b"" and whole[at : at + 1] not in (b"\n", b"")
+    ops = len(lines) + (last != b"") - 3
+    if is_inside:
+        first = b"refused %d 5\n" % (len(lines) + 1)
+    elif ops < 0:
+        first = b"refused %d 2\n" % (ops + 4)
+    else:
+        first = None
+    runs = {word: play([word], whole[:at]) for word in WORDS}
+    for word, played in runs.items():
+        fault = fault_of(word, played)
+        if fault:
+            return f"{path} cut after {at} bytes: {fault}"
+        if first is not None:
+            is_well = (played.status, played.out) == (1, first)
+        elif word == "check":
+            is_well = played.status == 0 and played.out.startswith(b"ok %d " % ops)
+        else:
+            # The first lines do what they do in the whole session.
+            wants, told = out.split(b"\n")[:ops], played.out.split(b"\n")
+            skip = told[:1] and told[0].startswith(b"order")
+            is_well = played.status == 0 and (skip or told[:ops] == wants)
+        if not is_well:
+            return f"{path} cut after {at} bytes: {word} ended with {played.status}: {played.out[:80]!r}"
+        if first is None and last != b"":
+            ended = play([word], whole[:at] + b"\n")
+            if not is_answer(word, whole[:at], ended, played):
+                return f"{path} cut after {at} bytes: {word} reads another session where the last line ends"
+    return None
+
+
+def refusal_fault(path, at):
+    """What is wrong where the words do not agree on a cut of any session, or a cut mends or moves an earlier fault."""
+    with open(path, "rb") as file:
+        whole = file.read()
+    runs = {word: play([word], whole[:at]) for word in WORDS}
+    for word, played in runs.items():
+        fault = fault_of(word, played)
+        if fault:
+            return f"{path} cut after {at} bytes: {fault}"
+    fault = fault_between(runs)
+    if fault:
+        return f"{path} cut after {at} bytes: {fault}"
+    told, full = runs[WORDS[0]], wanted(path)
+    full_line = int(full[1].split()[1]) if full[2] == 1 else None
+    here = whole[:at].count(b"\n") + 1
+    if full_line is not None and full_line < here and (told.status, told.out) != (1, full[1]):
+        return f"{path} cut after {at} bytes: {told.out[:80]!r} in place of {full[1]!r}"
+    return None
+
+
+def limit_fault(name, word, make, status, first):
+    played = play([word], make(), longest=60)
+    line = played.out.partition(b"\n")[0].decode()
+    if line.startswith("order "):
+        line = played.out.split(b"\n")[1].decode()
+    if played.status == status and line == (line if first is None else first):
+        return fault_of(word, played)
+    return f"{name}: {word} ended with {played.status}, {line[:80]!r} in place of {status}, {first!r}"
+
+
+def tasks():
+    cut = [f"{TOP}/examples/plan.session"]
+    other = []
+    if not SHORT:
+        cut = [it for it in sessions() if "/examples/" in it]
+        other = [it for it in sessions() if it.endswith("0.session") and "/usage/" not in it][:60]
+    for path in cut:
+        for at in range(os.path.getsize(path) + 1):
+            yield "cut", path, at
+    for path in other:
+        for at in range(os.path.getsize(path) + 1):
+            yield "refusal", path, at
+    for at, (_, _, wants) in enumerate(limits()):
+        for word in WORDS:
+            # Where no first line is given, the status of `check` and a report of some kind are wanted.
+            status, first = wants.get("any") or wants.get(word) or (wants["check"][0], None)
+            yield "limit", at, word, status, first
+
+
+def judge(task):
+    kind, *rest = task
+    if kind == "limit":
+        at, word, status, first = rest
+        name, make, _ = limits()[at]
+        return limit_fault(name, word, make, status, first)
+    return (cut_fault if kind == "cut" else refusal_fault)(*rest)
+
+
+if __name__ == "__main__":
+    need_program()
+    FAULTS, COUNT = each(judge, tasks())
+    end(COUNT - len(FAULTS), len(FAULTS))

@@ -1,0 +1,121 @@
+"""Plays sessions with one allocation refused, one read or write that fails or is short, and with bad ends of other kinds.
+
+usage: failing.py LIBRARY [--short]
+
+LIBRARY is failing.c, built. WORDS names the words that are tried. With --short a few sessions are played, and of the
+allocations those at the start, at the end and some between.
+"""
+import os, sys, tempfile
+
+sys.path.insert(0, os.path.dirname(os.path.abspath(__file__)))
+from playing import *
+
+LIBRARY, SHORT = os.path.abspath(sys.argv[1]), "--short" in sys.argv
+# Twenty sessions of tests/ that show each kind of line, steps of each kind, raw clients and refusals.
+CHOSEN = """a-forger-among-editors/04 bytes/no-line-end-at-the-end check/1012 check/1015 codes/001 documents-nest-up-to-a-limit/01
+each-client-undoes-its-own/01 edits/1001 edits/1072 events-are-undone-and-redone/01 faults/1003 late-lost-and-repeated-answers/01
+messages-and-answers-come-late-or-never/01 path/1062 raw-clients-present-what-the-file-writes/01 steps/1000 steps/1062
+texts-and-deletions-of-three-clients-meet/01 whole/1002 whole/1076""".split()
+
+
+def chosen():
+    have = [it for it in sessions() if "/examples/" in it]
+    have += [it for it in (f"{TOP}/tests/{it}.session" for it in CHOSEN)]
+    return [it for it in have if not SHORT or it.endswith(("first.session", "plan.session", "refusals.session"))]
+
+
+def spoilt(variables, **more):
+    return {"LD_PRELOAD": LIBRARY, **{key: str(it) for key, it in {**variables, **more}.items()}}
+
+
+def counted(path, word):
+    """Returns a whole run, and how many allocations, reads and writes it made."""
+    with tempfile.NamedTemporaryFile("r") as file:
+        whole = play([word], path, spoilt({"COUNTS": file.name}))
+        return whole, [int(it) for it in file.read().split()]
+
+
+def read(path):
+    with open(path, "rb") as file:
+        return file.read()
+
+
+def refused(path, word, whole, variables):
+    """An allocation is refused: the whole answer, or status 5 and nothing written."""
+    played = play([word], path, spoilt(variables))
+    if is_answer(word, read(path), played, whole) and played.err == whole.err:
+        return None
+    if (played.status, played.out, played.err) == (5, b"", TOLD[5]):
+        return None
+    return f"{path}: {word} with {variables}: status {played.status}, {len(played.out)} bytes written, {played.err[-200:]!r}"
+
+
+def ended(path, word, whole, variables, status):
+    """A read or a write fails or is short: the status of the table and what may be written with it."""
+    played = play([word], path, spoilt(variables))
+    if status is None:
+        is_well = is_answer(word, read(path), played, whole)
+    elif status == 3:
+        is_well = (played.status, played.out, played.err) == (3, b"", TOLD[3])
+    else:
+        front = whole.out[: len(played.out)] == played.out or whole.out.startswith(b"order")
+        is_well = (played.status, played.err) == (4, TOLD[4]) and front and len(played.out) < len(whole.out)
+    if is_well:
+        return None
+    return f"{path}: {word} with {variables}: status {played.status}, {len(played.out)} bytes written, {played.err[-200:]!r}"
+
+
+def picked(last):
+    """The numbers from 1 to the last, and in the short form some of them."""
+    every = range(1, last + 1)
+    if not SHORT or last < 400:
+        return every
+    step = last // 300 + 1
+    return sorted({*every[:60], *every[-60:], *every[::step]})
+
+
+def tasks():
+    """Yields each run of one session under one word with one fault."""
+    for path in chosen():
+        words, out, status = wanted(path)
+        for word in WORDS:
+            whole, (allocs, reads, writes) = counted(path, word)
+            if word == words[0] and (whole.out, whole.status) != (out, status):
+                yield "told", f"{path}: {word} does not write what is stored"
+            for n in picked(allocs):
+                yield "refused", path, word, whole, {"REFUSE_ALLOC": n}
+                if not SHORT or n % 7 == 0:
+                    yield "refused", path, word, whole, {"REFUSE_ALLOC": n, "REFUSE_REST": 1}
+            yield from ends(path, word, whole, reads, writes)
+
+
+def ends(path, word, whole, reads, writes):
+    """Yields the runs with a read or a write that fails or is short."""
+    for i in range(1, reads + 1):
+        yield "ended", path, word, whole, {"FAIL_READ": i}, 3
+        yield "ended", path, word, whole, {"FAIL_READ": i, "INTERRUPT": 1}, 3
+        yield "ended", path, word, whole, {"SHORT_READ": i}, None
+        yield "ended", path, word, whole, {"HALF_READ": i}, None
+    yield "ended", path, word, whole, {"SHORT_READS": 1}, None
+    for i in range(1, writes + 1):
+        yield "ended", path, word, whole, {"FAIL_WRITE": i}, 4
+        yield "ended", path, word, whole, {"FAIL_WRITE": i, "INTERRUPT": 1}, 4
+        yield "ended", path, word, whole, {"SHORT_WRITE": i}, None
+        yield "ended", path, word, whole, {"HALF_WRITE": i}, None
+        # What is left after a short write fails.
+        yield "ended", path, word, whole, {"HALF_WRITE": i, "FAIL_WRITE": i + 1}, 4
+    yield "ended", path, word, whole, {"SHORT_WRITES": 1}, None
+    # So many single bytes are taken, and then a write fails.
+    for i in (2, 3, 6, len(whole.out)):
+        yield "ended", path, word, whole, {"SHORT_WRITES": 1, "FAIL_WRITE": i}, 4
+
+
+def judge(task):
+    kind, *rest = task
+    return {"told": lambda it: it, "refused": refused, "ended": ended}[kind](*rest)
+
+
+if __name__ == "__main__":
+    need_program()
+    FAULTS, COUNT = each(judge, tasks())
+    end(COUNT - len(FAULTS), len(FAULTS))

@@ -1,0 +1,170 @@
+"""Plays session files by the built program, and judges what comes back by the tables of docs/FORMATS.md."""
+import collections, glob, json, multiprocessing, os, re, subprocess, sys, time
+
+TOP = os.path.dirname(os.path.dirname(os.path.dirname(os.path.abspath(__file__))))
+PROGRAM = os.environ.get("PROGRAM", f"{TOP}/crates/pm_program/out/pm_program")
+WORDS = os.environ.get("WORDS", "check replay").split()
+JOBS = int(os.environ.get("JOBS", len(os.sched_getaffinity(0))))
+# The seconds that a run may take.
+LONGEST = 10
+TOLD = {0: b"", 1: b"", 2: b"usage: ", 3: b"read fault\n", 4: b"write fault\n", 5: b"no memory\n"}
+
+Played = collections.namedtuple("Played", "status out err seconds")
+
+
+def need_program():
+    if not os.access(PROGRAM, os.X_OK):
+        print(f"there is no program at {PROGRAM}; ./pm build makes it", file=sys.stderr)
+        sys.exit(2)
+
+
+def play(words, session, variables=None, longest=LONGEST, program=None):
+    """Plays a session, which is a path or bytes. A status below 0 is the signal that ended the run; None: it took too long."""
+    begun = time.monotonic()
+    how = {"capture_output": True, "timeout": longest, "env": {**os.environ, **variables} if variables else None}
+    command = [*([program] if program else [PROGRAM]), *words]
+    try:
+        if isinstance(session, bytes):
+            ran = subprocess.run(command, input=session, check=False, **how)
+        else:
+            with open(session, "rb") as file:
+                ran = subprocess.run(command, stdin=file, check=False, **how)
+    except subprocess.TimeoutExpired:
+        return Played(None, b"", b"", time.monotonic() - begun)
+    return Played(ran.returncode, ran.stdout, ran.stderr, time.monotonic() - begun)
+
+
+def sessions():
+    """Returns the paths of all sessions of tests/ and examples/."""
+    return sorted(glob.glob(f"{TOP}/tests/*/*.session")) + sorted(glob.glob(f"{TOP}/examples/*.session"))
+
+
+def wanted(path):
+    """Returns the words of a case, and the output and the status that are stored beside it."""
+    name = path[: -len(".session")]
+    words = open(f"{name}.words").read().split() if os.path.exists(f"{name}.words") else ["replay"]
+    status = int(open(f"{name}.status").read()) if os.path.exists(f"{name}.status") else 0
+    with open(f"{name}.out", "rb") as file:
+        return words, file.read(), status
+
+
+NUMBERS = r"\[(?:\d+(?:,\d+)*)?\]"
+TELLS = r"(?:accepted \d+ \d+|version \d+|refused \d+ (?:[1-8]|9 \d+|10)|entries \d+ \d+)"
+TAKES = r"(?:confirmed \d+|rebased \d+ \d+ \d+|stale|kept)"
+OUTCOME = re.compile(
+    rf"(\d+) (?:made \d+|refused 0 (?:[1-8]|9 \d+|10)|no place|no fit|no range|nothing|cursor \d+|composed [1-9]\d*"
+    rf"|{TELLS}|{TAKES}|{TELLS}; (?:{TAKES}|lost))"
+)
+CLIENT = re.compile(rf"client ([a-z0-9]{{1,16}}) (\d+) {NUMBERS} {NUMBERS} {NUMBERS} (\{{.*\}})")
+ENTRY = re.compile(r"(\d+) [a-z0-9]{1,16} [1-9]\d* (\{.*\})")
+SETTLED = re.compile(rf"settled ([a-z0-9]{{1,16}}) (\d+) {NUMBERS} {NUMBERS}")
+
+
+def is_compact(text):
+    """Whether a text is compact JSON with its keys in byte order."""
+    return json.dumps(json.loads(text), sort_keys=True, separators=(",", ":"), ensure_ascii=False) == text
+
+
+def fault_of_report(text):
+    """What is wrong with the form of a report; None where nothing is."""
+    lines = text.split("\n")
+    if lines.pop() != "":
+        return "the last line does not end"
+    at = 0
+    if lines and lines[0].startswith("order"):
+        at = 1
+    ops = at
+    while at < len(lines) and (told := OUTCOME.fullmatch(lines[at])) and int(told[1]) == at - ops + 4:
+        at += 1
+    names = []
+    while at < len(lines) and (told := CLIENT.fullmatch(lines[at])) and is_compact(told[3]):
+        names.append(told[1])
+        at += 1
+    head = re.fullmatch(r"log (\d+)", lines[at]) if at < len(lines) else None
+    if not head:
+        return f"line {at + 1} of the report is of no form"
+    entries = lines[at + 1 : at + 1 + int(head[1])]
+    for number, line in enumerate(entries, 1):
+        told = ENTRY.fullmatch(line)
+        if not told or int(told[1]) != number or not is_compact(told[2]):
+            return f"entry {number} of the log is of no form"
+    at += 1 + len(entries)
+    for name in names:
+        told = SETTLED.fullmatch(lines[at]) if at < len(lines) else None
+        if not told or told[1] != name or told[2] != head[1]:
+            return f"{name} is not settled at the log's length"
+        at += 1
+    if at + 1 != len(lines) or not lines[at].startswith("final ") or not is_compact(lines[at][len("final ") :]):
+        return "the last line is not the final document"
+    return None
+
+
+def fault_of(word, played):
+    """What is wrong with a run in which nothing failed: its status, its time, or an output that the status does not allow."""
+    if played.status is None:
+        return f"{word} took more than {LONGEST} seconds"
+    if played.status not in (0, 1):
+        return f"{word} ended with {played.status}: {played.err[-300:]!r}"
+    if played.err:
+        return f"{word} told {played.err[-300:]!r} with status {played.status}"
+    text = played.out.decode()
+    if played.status == 1:
+        told = re.fullmatch(r"refused (\d+) (\d+)\n", text)
+        return None if told and 1 <= int(told[2]) <= 19 else f"{word} refused by {text[:100]!r}"
+    if word == "check":
+        return None if re.fullmatch(r"ok \d+ \d+\n", text) else f"check wrote {text[:100]!r}"
+    fault = fault_of_report(text)
+    return fault and f"{word}: {fault}"
+
+
+def fault_between(runs):
+    """Where the words do not agree on one input: `runs` is what each word made of it."""
+    refused = {word: played.out if played.status == 1 else None for word, played in runs.items()}
+    if len(set(refused.values())) > 1:
+        return f"the words differ: {refused}"
+    counts, report = runs.get("check"), runs.get("replay")
+    if counts and report and counts.status == 0 and report.status == 0:
+        ops = next(at for at, it in enumerate(report.out.split(b"\n")) if it.startswith((b"client ", b"log ")))
+        if int(counts.out.split()[1]) != ops:
+            return f"check counts {counts.out!r}, and the report has {ops} outcomes"
+    return None
+
+
+def same_order(session, out, longest=LONGEST):
+    """Whether an output that begins with an order is the report of the session in that order, as `replay` gives it."""
+    first, _, report = out.partition(b"\n")
+    order = [int(it) for it in first.split()[1:]]
+    lines = session.split(b"\n")
+    if first.split()[:1] != [b"order"] or sorted(order) != list(range(4, 4 + len(order))):
+        return False
+    played = play(["replay"], b"\n".join(lines[:3] + [lines[it - 1] for it in order]) + b"\n", longest=longest)
+    told = played.out.split(b"\n")
+    outcomes = {order[at]: told[at].partition(b" ")[2] for at in range(len(order))}
+    head = [b"%d %s" % (it, outcomes[it]) for it in sorted(order)]
+    return played.status == 0 and b"\n".join(head + told[len(order) :]) == report
+
+
+def is_answer(word, session, played, whole):
+    """Whether status and output are those of an undisturbed run, `whole`; of a word with an order, those of the order shown."""
+    if played.status != whole.status:
+        return False
+    if played.out == whole.out:
+        return True
+    return played.status == 0 and whole.out.startswith(b"order") and same_order(session, played.out)
+
+
+def each(judge, tasks):
+    """Judges all tasks, some side by side, and returns the faults that were told and the number of tasks."""
+    faults, count = [], 0
+    with multiprocessing.Pool(JOBS) as pool:
+        for told in pool.imap_unordered(judge, tasks, chunksize=16):
+            count += 1
+            if told:
+                faults.append(told)
+                print(told, flush=True)
+    return faults, count
+
+
+def end(passed, failed):
+    print(f"{passed} passed, {failed} failed")
+    sys.exit(1 if failed else 0)
