@@ -1,4 +1,7 @@
-"""The inputs at each limit of docs/FORMATS.md: one below, at it, and one above, with the first line that each gives."""
+"""The inputs at each limit of docs/FORMATS.md: one below, at it, and one above, with the first line that each gives.
+
+No line is long enough for a list of 4,294,967,296 tokens, so that limit has no row.
+"""
 import json
 
 LONGEST_LINE, LONGEST_INPUT = 1_048_576, 67_108_864
@@ -151,7 +154,7 @@ def documents():
         made = lambda count=count: session(None, letters(count), None, [step])
         yield row(f"{count} letters and one", made, **ok(1, count + 2, first))
     yield row("499,999 letters", lambda: session(None, letters(499_999)), any=refused(2, 16))
-    wrap, text = op(op="wrap", **{"from": 0, "to": 96, "type": "q"}), {"type": "p"}
+    text = {"type": "p"}
     for depth, first in ((46, "4 made 1"), (47, "4 refused 0 8")):
         wrapped = op(op="wrap", **{"from": 0, "to": 2 * depth + 2, "type": "q"})
         made = lambda depth=depth, it=wrapped: session({"nodes": QUOTES}, {"type": "doc", "content": [nested(depth, text)]}, None, [it])
