@@ -2,6 +2,9 @@
 use Rattle.std.specs.Prelude.{◌≡◌, ◌+◌, ◌≤◌, ◌⊎◌, ℕ, List, length, take, codes, decimal, Option, Result, Ok, Err}
 use Rattle.std.specs.Io.KnownBytes.{Consumes}
 use Rattle.pm_io.specs.Moves.{Adds}
+use Rattle.pm_head.specs.declared.fault.Refusal.{Refusal}
+use Rattle.pm_head.specs.Numbers.{number_of}
+use Rattle.pm_script.specs.declared.session.TheConstants.{MAX_INPUT}
 use Rattle.pm_script.specs.declared.session.Session.{Session}
 use Rattle.pm_script.specs.Sessions.{SessionIs}
 use Rattle.pm_report.specs.Words.{◌&◌, line}
@@ -12,27 +15,27 @@ use Rattle.pm_program.specs.declared.words.Command.TheVariants.{Check, Replay}
 use Rattle.pm_program.specs.Playing.{report_of}
 
 -- the line that refuses an input
-abbrev pub refusal : ℕ × ℕ → List ℕ
-refusal fault = line (codes "refused" & decimal fault.0 & decimal fault.1)
+abbrev pub refusal : Refusal → List ℕ
+refusal r = line (codes "refused" & decimal r.line & decimal (number_of r.code))
 
 -- what `check` writes of a session: its number of op lines, and the size of its first document in tokens
 abbrev pub counts_of : Session → List ℕ
 counts_of s = line (codes "ok" & decimal (length s.lines) & decimal (length s.head.doc.tokens))
 
 -- what a command writes of what the input is found to be
-abbrev pub text_of : Command → Result Session (ℕ × ℕ) → List ℕ
+abbrev pub text_of : Command → Result Session Refusal → List ℕ
 text_of Check (Ok s) = counts_of s
 text_of Replay (Ok s) = report_of s
-text_of command (Err fault) = refusal fault
+text_of command (Err r) = refusal r
 
 -- Done for a session, SessionRefused for any other input
-abbrev pub status_for : Result Session (ℕ × ℕ) → Status
+abbrev pub status_for : Result Session Refusal → Status
 status_for (Ok s) = Done
-status_for (Err fault) = SessionRefused
+status_for (Err r) = SessionRefused
 
 -- what a command writes for an input, and the status that says so: the input is a session, or it is refused
 pub record IsOutput (command : Command) (input text : List ℕ) (status : Status) : Type 0 where
-  pub found : Result Session (ℕ × ℕ)
+  pub found : Result Session Refusal
   pub is : SessionIs input found
   pub written : text ≡ text_of command found
   pub says : status ≡ status_for found
@@ -67,4 +70,4 @@ IsAnswer status = (status ≡ Done) ⊎ (status ≡ SessionRefused)
 
 -- one byte more than the limit of an input was read from a source
 abbrev pub IsPastLimit : Option (List ℕ) → Option (List ℕ) → Type 0
-IsPastLimit old new = (bytes : List ℕ) × Consumes old new bytes × (length bytes ≡ 67108864 + 1)
+IsPastLimit old new = (bytes : List ℕ) × Consumes old new bytes × (length bytes ≡ MAX_INPUT + 1)

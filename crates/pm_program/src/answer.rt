@@ -4,7 +4,7 @@ ghost use Rattle.std.specs.Io.KnownBytes.{IsAtEnd};
 ghost use Rattle.pm_io.specs.Faults.{Rose};
 ghost use Rattle.pm_report.specs.Words.{◌&◌, line};
 ghost use Rattle.pm_script.specs.declared.session.Session.{Session};
-ghost use Rattle.pm_program.specs.Output.{IsOutput, IsAnswer, IsPastLimit, counts_of, refusal};
+ghost use Rattle.pm_program.specs.Output.{IsOutput, IsAnswer, IsPastLimit, counts_of, refusal as refusal_line};
 ghost use Rattle.pm_program.specs.Playing.{report_of};
 ghost use Rattle.pm_script.specs.Held.{Holds};
 
@@ -12,11 +12,8 @@ use crate::call::Status;
 use crate::replaying::replay;
 use crate::words::Command;
 use pm_io::{ReadError, Source, read_all};
-use pm_script::{Session, SessionError, read_session};
+use pm_script::{Code, MAX_INPUT, Refusal, Session, SessionError, read_session};
 use std::alloc::{AllocError, Global};
-
-/// The greatest number of bytes of an input.
-const MAX_INPUT: usize = 67_108_864;
 
 /// What is to be written, and the status that says so.
 #[derive(Drop)]
@@ -42,7 +39,13 @@ pub fn answer_of<R: Source>(
 {
     match read_all(alloc, source, MAX_INPUT) {
         Ok(input) => Ok(answer_to(alloc, command, &input)?),
-        Err(ReadError::TooLong) => Ok(refusal(alloc, 0, 1)?),
+        Err(ReadError::TooLong) => Ok(refusal(
+            alloc,
+            Refusal {
+                line: 0,
+                code: Code::InputTooLong,
+            },
+        )?),
         Err(e) => Err(e),
     }
 }
@@ -57,7 +60,7 @@ fn answer_to(alloc: Global, command: Command, input: &[u8]) -> Result<Answer, Al
             status: Status::Done,
             text: told(alloc, command, &session)?,
         }),
-        Err(SessionError::Refused { line, code }) => refusal(alloc, line, code),
+        Err(SessionError::Refused(refused)) => refusal(alloc, refused),
         Err(SessionError::NoMemory) => Err(AllocError),
     }
 }
@@ -83,12 +86,14 @@ fn counts(alloc: Global, lines: usize, size: usize) -> Result<String, AllocError
 }
 
 /// The line that refuses an input.
-fn refusal(alloc: Global, number: u32, code: u32) -> Result<Answer, AllocError>
-    ensures text { IfOk result (λ a. string_bytes a.text ≡ line (codes "refused" & decimal number & decimal code)) }
+fn refusal(alloc: Global, refused: Refusal) -> Result<Answer, AllocError>
+    ensures text { IfOk result (λ a. string_bytes a.text ≡ refusal_line refused) }
     ensures status { IfOk result (λ a. a.status ≡ Status.SessionRefused) }
 {
+    let line = refused.line;
+    let number = refused.code.number();
     Ok(Answer {
         status: Status::SessionRefused,
-        text: format!(in alloc; "refused {number} {code}\n")?,
+        text: format!(in alloc; "refused {line} {number}\n")?,
     })
 }

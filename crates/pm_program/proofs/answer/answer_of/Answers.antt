@@ -1,5 +1,6 @@
 use Rattle.std.proofs.Common.{ap, ◌≡◌, ◌∙◌, true, length, subst, string_bytes}
 use Rattle.std.specs.Prelude.{nat_lt, Err}
+use Rattle.pm_script.specs.declared.session.TheConstants.{MAX_INPUT}
 use Rattle.pm_program.specs.Output.{IsOutput}
 use Rattle.pm_program.proofs.TooLong.{whole_input, past_limit, refused_whole}
 use Rattle.pm_program.proofs.answer.answer_of.Goals as goal
@@ -7,7 +8,7 @@ use Rattle.pm_program.proofs.answer.answer_of.Goals as goal
 pub returns-in_ok-refusal-in-Err-TooLong-clause-output : goal.returns-in_ok-refusal-in-Err-TooLong-clause-output
 returns-in_ok-refusal-in-Err-TooLong-clause-output g c input is =
     let more = c.in-Err-TooLong.ensures.too_long (ap Err c.in-Err-TooLong.field-0-is) in
-    let past : nat_lt 67108864 (length input) ≡ true = past_limit _ (g.R.Source.left c.read_all.new.source) more.0 input more.1 more.2 is in
+    let past : nat_lt MAX_INPUT (length input) ≡ true = past_limit _ (g.R.Source.left c.read_all.new.source) more.0 input more.1 more.2 is in
     refused_whole c.args.command input _ _ past c.in_ok-refusal-in-Err-TooLong.ensures.text c.in_ok-refusal-in-Err-TooLong.ensures.status
 
 pub returns-in_ok-answer_to-in-Ok-clause-output : goal.returns-in_ok-answer_to-in-Ok-clause-output
