@@ -1,1 +1,3 @@
 pub mod Merges
+pub mod Threads
+pub mod Works

@@ -1,0 +1,46 @@
+-- A session whose clients run on threads of their own: its order, and what it comes to.
+use Rattle.std.specs.Prelude.{ℕ, zero, suc, ◌+◌, Bool, true, false, List, [], ◌∷◌, map, cond, ◌==◌, Option, None, Some, slice_get}
+use Rattle.pm_session.specs.declared.line.Line.{Line}
+use Rattle.pm_session.specs.declared.line.Act.{Act}
+use Rattle.pm_session.specs.declared.line.Act.TheVariants.{Edit, Undo, Redo, Cursor, Submit, Ask, Present, Take, Push, Pull, Forge}
+use Rattle.pm_workers.specs.Merges.{ClientLine}
+
+-- whether an act presents a message
+abbrev pub presents : {Op C : Type 0} → Act Op C → Bool
+presents (Present j) = true
+presents (Push lost) = true
+presents (Pull lost) = true
+presents (Forge version steps) = true
+presents (Edit op event) = false
+presents Undo = false
+presents Redo = false
+presents (Cursor p side) = false
+presents Submit = false
+presents Ask = false
+presents (Take n) = false
+
+module _ {Op C : Type 0} where
+  -- The lines of client i: the place of each, the first line at place k, and whether it presents a message.
+  abbrev pub lines_of : ℕ → ℕ → List (Line Op C) → List ClientLine
+  lines_of i k [] = []
+  lines_of i k (line ∷ lines) =
+      cond (line.client == i) ((k, presents line.act) ∷ lines_of i (k + 1) lines) (lines_of i (k + 1) lines)
+
+  -- the lines of n clients, client by client, from client i on
+  abbrev pub by_client : ℕ → ℕ → List (Line Op C) → List (List ClientLine)
+  by_client i zero lines = []
+  by_client i (suc n) lines = lines_of i 0 lines ∷ by_client (i + 1) n lines
+
+  -- the clients of the lines that present a message, in the order of the lines
+  abbrev pub callers : List (Line Op C) → List ℕ
+  callers [] = []
+  callers (line ∷ lines) = cond (presents line.act) (line.client ∷ callers lines) (callers lines)
+
+  abbrev pub with_some : Option (Line Op C) → List (Line Op C) → List (Line Op C)
+  with_some None lines = lines
+  with_some (Some line) lines = line ∷ lines
+
+  -- the lines at these places, in this order
+  abbrev pub in_order : List (Line Op C) → List ℕ → List (Line Op C)
+  in_order lines [] = []
+  in_order lines (k ∷ order) = with_some (slice_get lines k) (in_order lines order)
