@@ -1,1 +1,3 @@
 pub mod MergeLaws
+pub mod Owns
+pub mod Orders

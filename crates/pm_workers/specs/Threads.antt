@@ -1,9 +1,23 @@
 -- A session whose clients run on threads of their own: its order, and what it comes to.
-use Rattle.std.specs.Prelude.{ℕ, zero, suc, ◌+◌, Bool, true, false, List, [], ◌∷◌, map, cond, ◌==◌, Option, None, Some, slice_get}
+use Rattle.std.specs.Prelude.{ℕ, zero, suc, ◌+◌, Bool, true, false, List, [], ◌∷◌, ◌++◌, take, drop, cond, ◌==◌, Option, None, Some, get_or, slice_get, slice_set}
+use Rattle.pm_change.specs.Changes.{Meaning}
+use Rattle.pm_authority.specs.declared.authority.Authority.{Authority}
+use Rattle.pm_authority.specs.declared.machine.Request.{Request}
+use Rattle.pm_authority.specs.declared.message.Answer.{Answer}
+use Rattle.pm_authority.specs.Presents.{presented}
 use Rattle.pm_session.specs.declared.line.Line.{Line}
 use Rattle.pm_session.specs.declared.line.Act.{Act}
 use Rattle.pm_session.specs.declared.line.Act.TheVariants.{Edit, Undo, Redo, Cursor, Submit, Ask, Present, Take, Push, Pull, Forge}
 use Rattle.pm_workers.specs.Merges.{ClientLine}
+
+module _ {Rules Doc Reason C : Type 0} (m : Meaning Rules Doc Reason C) where
+  -- an authority as a machine: what it is after a request
+  abbrev pub after_request : Rules → Authority C Rules Doc Reason → Request C → Authority C Rules Doc Reason
+  after_request rules a q = (presented m rules a q.message).1
+
+  -- and what it replies to a request
+  abbrev pub reply_to : Rules → Authority C Rules Doc Reason → Request C → Answer C Rules Doc Reason
+  reply_to rules a q = (presented m rules a q.message).0
 
 -- whether an act presents a message
 abbrev pub presents : {Op C : Type 0} → Act Op C → Bool
@@ -44,3 +58,21 @@ module _ {Op C : Type 0} where
   abbrev pub in_order : List (Line Op C) → List ℕ → List (Line Op C)
   in_order lines [] = []
   in_order lines (k ∷ order) = with_some (slice_get lines k) (in_order lines order)
+
+  -- the lines of client i, in order
+  abbrev pub own_lines : ℕ → List (Line Op C) → List (Line Op C)
+  own_lines i [] = []
+  own_lines i (line ∷ lines) = cond (line.client == i) (line ∷ own_lines i lines) (own_lines i lines)
+
+  -- of the outcomes of lines, one for each, those of client i's lines
+  abbrev pub own_outcomes : {A : Type 0} → ℕ → List (Line Op C) → List A → List A
+  own_outcomes i [] outcomes = []
+  own_outcomes i (line ∷ lines) [] = []
+  own_outcomes i (line ∷ lines) (o ∷ outcomes) = cond (line.client == i) (o ∷ own_outcomes i lines outcomes) (own_outcomes i lines outcomes)
+
+  -- One outcome for each line: the next of its client's. `left` has for each client its outcomes that are not dealt yet.
+  abbrev pub dealt : {A : Type 0} → List (Line Op C) → List (List A) → List A
+  dealt [] left = []
+  dealt (line ∷ lines) left =
+      let own = get_or left line.client [] in
+      take 1 own ++ dealt lines (slice_set left line.client (drop 1 own))
