@@ -19,7 +19,7 @@ use Rattle.pm_workers.specs.Threads.{presents, callers, own_lines, own_outcomes,
 use Rattle.pm_workers.specs.Works.{Work, works}
 use Rattle.pm_workers.proofs.MergeLaws.{get-within, set-there}
 use Rattle.pm_workers.proofs.Owns.{own-here, own-there}
-use Rattle.pm_workers.proofs.Steps.{Makes, makes-at, answers, Stepped, alone, call}
+use Rattle.pm_workers.proofs.Steps.{Makes, makes-at, answers_to, Stepped, alone, call}
 
 some-is : {A : Type 0} (x y : A) → Some x ≡ Some y → x ≡ y
 some-is x y e = cc
@@ -50,11 +50,11 @@ module _ {Rules Doc Reason C Op : Type 0} (m : Meaning Rules Doc Reason C) (rule
     pub callers_are : callers lines ≡ map (λ e. e.seat) h
     pub within : Each (λ line. line.client < length s.members) lines
     pub each : (i : ℕ) (x : Member C Rules Doc Reason) → slice_get s.members i ≡ Some x
-        → Makes m rules makes i x (own_lines i lines) (answers m rules i s.authority h) (calls_of i h)
+        → Makes m rules makes i x (own_lines i lines) (answers_to m rules i s.authority h) (calls_of i h)
 
   -- what the lines of client i come to by themselves
   abbrev pub own_work : ℕ → Member C Rules Doc Reason → List (Line Op C) → Authority C Rules Doc Reason → List (Past (Request C)) → Work C Rules Doc Reason
-  own_work i x lines a h = works m rules makes (own_lines i lines) x (answers m rules i a h)
+  own_work i x lines a h = works m rules makes (own_lines i lines) x (answers_to m rules i a h)
 
   -- In the session client i comes to what its lines come to by themselves.
   pub record AsAlone (s : State C Rules Doc Reason) (lines : List (Line Op C)) (h : List (Past (Request C))) (i : ℕ) (x : Member C Rules Doc Reason) : Type 0 where
@@ -80,13 +80,13 @@ module _ {Rules Doc Reason C Op : Type 0} (m : Meaning Rules Doc Reason C) (rule
     }
       where
         by : (i : ℕ) (y : Member C Rules Doc Reason) → ((i ≡ line.client) × (y ≡ one.member)) ⊎ ((i ≡ line.client → ⊥) × (slice_get s.members i ≡ Some y))
-            → Makes m rules makes i y (own_lines i lines) (answers m rules i one.authority one.left) (calls_of i one.left)
+            → Makes m rules makes i y (own_lines i lines) (answers_to m rules i one.authority one.left) (calls_of i one.left)
         by i y (inl e) =
-            subst (λ z. Makes m rules makes i z (own_lines i lines) (answers m rules i one.authority one.left) (calls_of i one.left)) (sym e.1)
-            (subst (λ k. Makes m rules makes k one.member (own_lines k lines) (answers m rules k one.authority one.left) (calls_of k one.left)) (sym e.0) one.goes_on)
+            subst (λ z. Makes m rules makes i z (own_lines i lines) (answers_to m rules i one.authority one.left) (calls_of i one.left)) (sym e.1)
+            (subst (λ k. Makes m rules makes k one.member (own_lines k lines) (answers_to m rules k one.authority one.left) (calls_of k one.left)) (sym e.0) one.goes_on)
         by i y (inr e) =
             let ne : line.client ≢ i = λ q. e.0 (sym q) in
-            makes-at m rules makes i y (own_lines i (line ∷ lines)) (own_lines i lines) (answers m rules i s.authority h) (answers m rules i one.authority one.left) (calls_of i h) (calls_of i one.left)
+            makes-at m rules makes i y (own_lines i (line ∷ lines)) (own_lines i lines) (answers_to m rules i s.authority h) (answers_to m rules i one.authority one.left) (calls_of i h) (calls_of i one.left)
             (own-there i line lines ne) (one.same_answers i ne) (one.same_calls i ne) (calls.each i y e.1)
 
     split : session m rules makes s (line ∷ lines) ≡ (one.outcome ∷ (session m rules makes then_room lines).0, (session m rules makes then_room lines).1)
@@ -98,9 +98,9 @@ module _ {Rules Doc Reason C Op : Type 0} (m : Meaning Rules Doc Reason C) (rule
         let there = more.each c one.member (set-there s.members c one.member x at) in
         let own : own_lines c (line ∷ lines) ≡ line ∷ own_lines c lines = own-here c line lines refl in
         record {
-          member = ap (λ p. slice_get p.1.members c) split ∙ there.member ∙ ap Some (sym (ap (λ l. (works m rules makes l x (answers m rules c s.authority h)).member) own ∙ one.member_is));
+          member = ap (λ p. slice_get p.1.members c) split ∙ there.member ∙ ap Some (sym (ap (λ l. (works m rules makes l x (answers_to m rules c s.authority h)).member) own ∙ one.member_is));
           outcomes = ap (λ p. own_outcomes c (line ∷ lines) p.0) split ∙ outcomes-here c line lines one.outcome (session m rules makes then_room lines).0 refl
-            ∙ ap (λ l. one.outcome ∷ l) there.outcomes ∙ sym (ap (λ l. (works m rules makes l x (answers m rules c s.authority h)).outcomes) own ∙ one.outcomes_are);
+            ∙ ap (λ l. one.outcome ∷ l) there.outcomes ∙ sym (ap (λ l. (works m rules makes l x (answers_to m rules c s.authority h)).outcomes) own ∙ one.outcomes_are);
         }
 
     as-alone-there : (i : ℕ) (y : Member C Rules Doc Reason) → line.client ≢ i → slice_get s.members i ≡ Some y → slice_get then_room.members i ≡ Some y
@@ -108,7 +108,7 @@ module _ {Rules Doc Reason C Op : Type 0} (m : Meaning Rules Doc Reason C) (rule
     as-alone-there i y ne was now more =
         let there = more.each i y now in
         let same : own_work i y (line ∷ lines) s.authority h ≡ own_work i y lines one.authority one.left =
-        ap (λ l. works m rules makes l y (answers m rules i s.authority h)) (own-there i line lines ne) ∙ ap (λ l. works m rules makes (own_lines i lines) y l) (one.same_answers i ne) in
+        ap (λ l. works m rules makes l y (answers_to m rules i s.authority h)) (own-there i line lines ne) ∙ ap (λ l. works m rules makes (own_lines i lines) y l) (one.same_answers i ne) in
         record {
           member = ap (λ p. slice_get p.1.members i) split ∙ there.member ∙ ap (λ w. Some w.member) (sym same);
           outcomes = ap (λ p. own_outcomes i (line ∷ lines) p.0) split ∙ outcomes-there i line lines one.outcome (session m rules makes then_room lines).0 ne
@@ -134,10 +134,10 @@ module _ {Rules Doc Reason C Op : Type 0} (m : Meaning Rules Doc Reason C) (rule
       found h calls = member-at s.members line.client calls.within.0
 
       goes : (h : List (Past (Request C))) (calls : Calls s (line ∷ lines) h)
-          → Makes m rules makes line.client (found h calls).0 (line ∷ own_lines line.client lines) (answers m rules line.client s.authority h) (calls_of line.client h)
+          → Makes m rules makes line.client (found h calls).0 (line ∷ own_lines line.client lines) (answers_to m rules line.client s.authority h) (calls_of line.client h)
       goes h calls =
           let c = line.client in
-          subst (λ l. Makes m rules makes c (found h calls).0 l (answers m rules c s.authority h) (calls_of c h)) (own-here c line lines refl) (calls.each c (found h calls).0 (found h calls).1)
+          subst (λ l. Makes m rules makes c (found h calls).0 l (answers_to m rules c s.authority h) (calls_of c h)) (own-here c line lines refl) (calls.each c (found h calls).0 (found h calls).1)
 
       by : (b : Bool) → presents line.act ≡ b → (h : List (Past (Request C))) → Calls s (line ∷ lines) h → Agrees s (line ∷ lines) h
       by false e h calls =

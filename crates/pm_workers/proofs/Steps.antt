@@ -44,6 +44,11 @@ module _ {Q : Type 0} (i : ℕ) (e : Past Q) (es : List (Past Q)) where
   pub calls-there : e.seat ≢ i → calls_of i (e ∷ es) ≡ calls_of i es
   calls-there ne = ap (λ b. cond b (e.request ∷ calls_of i es) (calls_of i es)) (ne_eqb e.seat i ne)
 
+module _ {Rules Doc Reason C : Type 0} (m : Meaning Rules Doc Reason C) (rules : Rules) where
+  -- an authority's answers to client i's calls of a history
+  abbrev pub answers_to : ℕ → Authority C Rules Doc Reason → List (Past (Request C)) → List (Answer C Rules Doc Reason)
+  answers_to i a h = answers_of (after_request m) (reply_to m) rules i a h
+
 module _ {Rules Doc Reason C Op : Type 0} (m : Meaning Rules Doc Reason C) (rules : Rules) (makes : Doc → Op → Result (List C) NoSteps) where
   -- Along these lines the act tells whether a message is presented.
   abbrev pub Tells : List (Line Op C) → Member C Rules Doc Reason → List (Answer C Rules Doc Reason) → Type 0
@@ -53,14 +58,14 @@ module _ {Rules Doc Reason C Op : Type 0} (m : Meaning Rules Doc Reason C) (rule
       × Tells lines (finished m rules makes line.act x (answer_to (asked line.act x) answers)).1 (answers_after (asked line.act x) answers)
 
   -- These calls are those that the lines of client i make where they get these answers.
-  pub record Makes (i : ℕ) (x : Member C Rules Doc Reason) (lines : List (Line Op C)) (answers : List (Answer C Rules Doc Reason)) (calls : List (Request C)) : Type 0 where
+  pub record Makes (i : ℕ) (x : Member C Rules Doc Reason) (lines : List (Line Op C)) (answers : List (Answer C Rules Doc Reason)) (asks : List (Request C)) : Type 0 where
     pub tells : Tells lines x answers
-    pub calls : calls ≡ map (request i) (works m rules makes lines x answers).messages
+    pub calls : asks ≡ map (request i) (works m rules makes lines x answers).messages
 
-  pub makes-at : (i : ℕ) (x : Member C Rules Doc Reason) (xs ys : List (Line Op C)) (as bs : List (Answer C Rules Doc Reason)) (cs ds : List (Request C))
-      → xs ≡ ys → as ≡ bs → cs ≡ ds → Makes i x xs as cs → Makes i x ys bs ds
-  makes-at i x xs ys as bs cs ds e f g h =
-      subst (λ l. Makes i x l bs ds) e (subst (λ l. Makes i x xs l ds) f (subst (λ l. Makes i x xs as l) g h))
+  pub makes-at : (i : ℕ) (x : Member C Rules Doc Reason) (xs ys : List (Line Op C)) (rs ts : List (Answer C Rules Doc Reason)) (cs ds : List (Request C))
+      → xs ≡ ys → rs ≡ ts → cs ≡ ds → Makes i x xs rs cs → Makes i x ys ts ds
+  makes-at i x xs ys rs ts cs ds e f g h =
+      subst (λ l. Makes i x l ts ds) e (subst (λ l. Makes i x xs l ds) f (subst (λ l. Makes i x xs rs l) g h))
 
   -- a line that presents nothing
   makes-alone : (i : ℕ) (x : Member C Rules Doc Reason) (line : Line Op C) (lines : List (Line Op C)) (answers : List (Answer C Rules Doc Reason)) (calls : List (Request C))
@@ -89,10 +94,6 @@ module _ {Rules Doc Reason C Op : Type 0} (m : Meaning Rules Doc Reason C) (rule
         calls = rest;
       })
 
-  -- the answers to client i's calls
-  abbrev pub answers : ℕ → Authority C Rules Doc Reason → List (Past (Request C)) → List (Answer C Rules Doc Reason)
-  answers i a h = answers_of (after_request m) (reply_to m) rules i a h
-
   -- The first of a client's lines, at a room and what is left of a history: what it comes to, the history that is then left,
   -- and that the client's works go on from there. No other client's works change.
   pub record Stepped (s : State C Rules Doc Reason) (h : List (Past (Request C))) (line : Line Op C) (x : Member C Rules Doc Reason) (lines : List (Line Op C)) : Type 0 where
@@ -102,10 +103,10 @@ module _ {Rules Doc Reason C Op : Type 0} (m : Meaning Rules Doc Reason C) (rule
     pub left : List (Past (Request C))
     pub played_is : played m rules makes s line ≡ (outcome, placed s line.client authority member)
     pub state_is : state_at (after_request m) rules s.authority h ≡ state_at (after_request m) rules authority left
-    pub goes_on : Makes line.client member lines (answers line.client authority left) (calls_of line.client left)
-    pub outcomes_are : (works m rules makes (line ∷ lines) x (answers line.client s.authority h)).outcomes ≡ outcome ∷ (works m rules makes lines member (answers line.client authority left)).outcomes
-    pub member_is : (works m rules makes (line ∷ lines) x (answers line.client s.authority h)).member ≡ (works m rules makes lines member (answers line.client authority left)).member
-    pub same_answers : (i : ℕ) → line.client ≢ i → answers i s.authority h ≡ answers i authority left
+    pub goes_on : Makes line.client member lines (answers_to m rules line.client authority left) (calls_of line.client left)
+    pub outcomes_are : (works m rules makes (line ∷ lines) x (answers_to m rules line.client s.authority h)).outcomes ≡ outcome ∷ (works m rules makes lines member (answers_to m rules line.client authority left)).outcomes
+    pub member_is : (works m rules makes (line ∷ lines) x (answers_to m rules line.client s.authority h)).member ≡ (works m rules makes lines member (answers_to m rules line.client authority left)).member
+    pub same_answers : (i : ℕ) → line.client ≢ i → answers_to m rules i s.authority h ≡ answers_to m rules i authority left
     pub same_calls : (i : ℕ) → line.client ≢ i → calls_of i h ≡ calls_of i left
 
   played-by : (s : State C Rules Doc Reason) (line : Line Op C) (x : Member C Rules Doc Reason) (o : Option (Message C)) → slice_get s.members line.client ≡ Some x → asked line.act x ≡ o
@@ -117,23 +118,23 @@ module _ {Rules Doc Reason C Op : Type 0} (m : Meaning Rules Doc Reason C) (rule
       ∙ ap (λ z. ((by_answer m rules s.authority z (finished m rules makes line.act x)).0,
       placed s line.client (by_answer m rules s.authority z (finished m rules makes line.act x)).1 (by_answer m rules s.authority z (finished m rules makes line.act x)).2)) e
 
-  works-by : (line : Line Op C) (lines : List (Line Op C)) (x : Member C Rules Doc Reason) (as : List (Answer C Rules Doc Reason)) (o : Option (Message C)) → asked line.act x ≡ o
-      → ((works m rules makes (line ∷ lines) x as).outcomes
-      ≡ (finished m rules makes line.act x (answer_to o as)).0 ∷ (works m rules makes lines (finished m rules makes line.act x (answer_to o as)).1 (answers_after o as)).outcomes)
-      × ((works m rules makes (line ∷ lines) x as).member ≡ (works m rules makes lines (finished m rules makes line.act x (answer_to o as)).1 (answers_after o as)).member)
-  works-by line lines x as o e = (
-    ap (λ z. (finished m rules makes line.act x (answer_to z as)).0 ∷ (works m rules makes lines (finished m rules makes line.act x (answer_to z as)).1 (answers_after z as)).outcomes) e,
-    ap (λ z. (works m rules makes lines (finished m rules makes line.act x (answer_to z as)).1 (answers_after z as)).member) e,
+  works-by : (line : Line Op C) (lines : List (Line Op C)) (x : Member C Rules Doc Reason) (rs : List (Answer C Rules Doc Reason)) (o : Option (Message C)) → asked line.act x ≡ o
+      → ((works m rules makes (line ∷ lines) x rs).outcomes
+      ≡ (finished m rules makes line.act x (answer_to o rs)).0 ∷ (works m rules makes lines (finished m rules makes line.act x (answer_to o rs)).1 (answers_after o rs)).outcomes)
+      × ((works m rules makes (line ∷ lines) x rs).member ≡ (works m rules makes lines (finished m rules makes line.act x (answer_to o rs)).1 (answers_after o rs)).member)
+  works-by line lines x rs o e = (
+    ap (λ z. (finished m rules makes line.act x (answer_to z rs)).0 ∷ (works m rules makes lines (finished m rules makes line.act x (answer_to z rs)).1 (answers_after z rs)).outcomes) e,
+    ap (λ z. (works m rules makes lines (finished m rules makes line.act x (answer_to z rs)).1 (answers_after z rs)).member) e,
   )
 
   -- a line that presents nothing leaves the authority and the history
   pub alone : (s : State C Rules Doc Reason) (h : List (Past (Request C))) (line : Line Op C) (x : Member C Rules Doc Reason) (lines : List (Line Op C))
-      → slice_get s.members line.client ≡ Some x → presents line.act ≡ false → Makes line.client x (line ∷ lines) (answers line.client s.authority h) (calls_of line.client h)
+      → slice_get s.members line.client ≡ Some x → presents line.act ≡ false → Makes line.client x (line ∷ lines) (answers_to m rules line.client s.authority h) (calls_of line.client h)
       → Stepped s h line x lines
   alone s h line x lines at quiet fits =
-      let as = answers line.client s.authority h in
-      let one = makes-alone line.client x line lines as (calls_of line.client h) quiet fits in
-      let w = works-by line lines x as None one.0 in
+      let rs = answers_to m rules line.client s.authority h in
+      let one = makes-alone line.client x line lines rs (calls_of line.client h) quiet fits in
+      let w = works-by line lines x rs None one.0 in
       record {
         outcome = (finished m rules makes line.act x None).0;
         member = (finished m rules makes line.act x None).1;
@@ -151,17 +152,17 @@ module _ {Rules Doc Reason C Op : Type 0} (m : Meaning Rules Doc Reason C) (rule
   -- a line that presents a message makes the first call of the history
   pub call : (s : State C Rules Doc Reason) (e : Past (Request C)) (h : List (Past (Request C))) (line : Line Op C) (x : Member C Rules Doc Reason) (lines : List (Line Op C))
       → slice_get s.members line.client ≡ Some x → presents line.act ≡ true → e.seat ≡ line.client
-      → Makes line.client x (line ∷ lines) (answers line.client s.authority (e ∷ h)) (calls_of line.client (e ∷ h))
+      → Makes line.client x (line ∷ lines) (answers_to m rules line.client s.authority (e ∷ h)) (calls_of line.client (e ∷ h))
       → Stepped s (e ∷ h) line x lines
   call s e h line x lines at speaks seat fits =
       let a = after_request m rules s.authority e.request in
       let r = reply_to m rules s.authority e.request in
-      let as = answers line.client a h in
-      let told : answers line.client s.authority (e ∷ h) ≡ r ∷ as = answers-here (after_request m) (reply_to m) rules line.client s.authority e h seat in
+      let rs = answers_to m rules line.client a h in
+      let told : answers_to m rules line.client s.authority (e ∷ h) ≡ r ∷ rs = answers-here (after_request m) (reply_to m) rules line.client s.authority e h seat in
       let asks : calls_of line.client (e ∷ h) ≡ e.request ∷ calls_of line.client h = calls-here line.client e h seat in
-      let now = makes-at line.client x (line ∷ lines) (line ∷ lines) (answers line.client s.authority (e ∷ h)) (r ∷ as) (calls_of line.client (e ∷ h)) (e.request ∷ calls_of line.client h) refl told asks fits in
-      let one = makes-call line.client x line lines r as e.request (calls_of line.client h) speaks now in
-      let w = works-by line lines x (r ∷ as) (Some e.request.message) one.0 in
+      let now = makes-at line.client x (line ∷ lines) (line ∷ lines) (answers_to m rules line.client s.authority (e ∷ h)) (r ∷ rs) (calls_of line.client (e ∷ h)) (e.request ∷ calls_of line.client h) refl told asks fits in
+      let one = makes-call line.client x line lines r rs e.request (calls_of line.client h) speaks now in
+      let w = works-by line lines x (r ∷ rs) (Some e.request.message) one.0 in
       record {
         outcome = (finished m rules makes line.act x (Some r)).0;
         member = (finished m rules makes line.act x (Some r)).1;
