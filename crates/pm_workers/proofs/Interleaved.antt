@@ -68,11 +68,11 @@ module _ {Rules Doc Reason C Op : Type 0} (m : Meaning Rules Doc Reason C) (rule
     pub each : (i : ℕ) (x : Member C Rules Doc Reason) → slice_get s.members i ≡ Some x → AsAlone s lines h i x
 
   module _ (s : State C Rules Doc Reason) (h : List (Past (Request C))) (line : Line Op C) (lines : List (Line Op C)) (calls : Calls s (line ∷ lines) h)
-      (x : Member C Rules Doc Reason) (at : slice_get s.members line.client ≡ Some x) (one : Stepped m rules makes s h line x (own_lines line.client lines)) where
+      (x : Member C Rules Doc Reason) (at : slice_get s.members line.client ≡ Some x) (left : List (Past (Request C))) (one : Stepped m rules makes s h line x (own_lines line.client lines) left) where
     abbrev then_room : State C Rules Doc Reason
     then_room = placed s line.client one.authority one.member
 
-    calls-then : callers lines ≡ map (λ e. e.seat) one.left → Calls then_room lines one.left
+    calls-then : callers lines ≡ map (λ e. e.seat) left → Calls then_room lines left
     calls-then callers_are = record {
       callers_are = callers_are;
       within = rw (set-length s.members line.client one.member) calls.within.1;
@@ -80,19 +80,19 @@ module _ {Rules Doc Reason C Op : Type 0} (m : Meaning Rules Doc Reason C) (rule
     }
       where
         by : (i : ℕ) (y : Member C Rules Doc Reason) → ((i ≡ line.client) × (y ≡ one.member)) ⊎ ((i ≡ line.client → ⊥) × (slice_get s.members i ≡ Some y))
-            → Makes m rules makes i y (own_lines i lines) (answers_to m rules i one.authority one.left) (calls_of i one.left)
+            → Makes m rules makes i y (own_lines i lines) (answers_to m rules i one.authority left) (calls_of i left)
         by i y (inl e) =
-            subst (λ z. Makes m rules makes i z (own_lines i lines) (answers_to m rules i one.authority one.left) (calls_of i one.left)) (sym e.1)
-            (subst (λ k. Makes m rules makes k one.member (own_lines k lines) (answers_to m rules k one.authority one.left) (calls_of k one.left)) (sym e.0) one.goes_on)
+            subst (λ z. Makes m rules makes i z (own_lines i lines) (answers_to m rules i one.authority left) (calls_of i left)) (sym e.1)
+            (subst (λ k. Makes m rules makes k one.member (own_lines k lines) (answers_to m rules k one.authority left) (calls_of k left)) (sym e.0) one.goes_on)
         by i y (inr e) =
             let ne : line.client ≢ i = λ q. e.0 (sym q) in
-            makes-at m rules makes i y (own_lines i (line ∷ lines)) (own_lines i lines) (answers_to m rules i s.authority h) (answers_to m rules i one.authority one.left) (calls_of i h) (calls_of i one.left)
+            makes-at m rules makes i y (own_lines i (line ∷ lines)) (own_lines i lines) (answers_to m rules i s.authority h) (answers_to m rules i one.authority left) (calls_of i h) (calls_of i left)
             (own-there i line lines ne) (one.same_answers i ne) (one.same_calls i ne) (calls.each i y e.1)
 
     split : session m rules makes s (line ∷ lines) ≡ (one.outcome ∷ (session m rules makes then_room lines).0, (session m rules makes then_room lines).1)
     split = ap (λ p. (p.0 ∷ (session m rules makes p.1 lines).0, (session m rules makes p.1 lines).1)) one.played_is
 
-    as-alone-here : Agrees then_room lines one.left → AsAlone s (line ∷ lines) h line.client x
+    as-alone-here : Agrees then_room lines left → AsAlone s (line ∷ lines) h line.client x
     as-alone-here more =
         let c = line.client in
         let there = more.each c one.member (set-there s.members c one.member x at) in
@@ -104,10 +104,10 @@ module _ {Rules Doc Reason C Op : Type 0} (m : Meaning Rules Doc Reason C) (rule
         }
 
     as-alone-there : (i : ℕ) (y : Member C Rules Doc Reason) → line.client ≢ i → slice_get s.members i ≡ Some y → slice_get then_room.members i ≡ Some y
-        → Agrees then_room lines one.left → AsAlone s (line ∷ lines) h i y
+        → Agrees then_room lines left → AsAlone s (line ∷ lines) h i y
     as-alone-there i y ne was now more =
         let there = more.each i y now in
-        let same : own_work i y (line ∷ lines) s.authority h ≡ own_work i y lines one.authority one.left =
+        let same : own_work i y (line ∷ lines) s.authority h ≡ own_work i y lines one.authority left =
         ap (λ l. works m rules makes l y (answers_to m rules i s.authority h)) (own-there i line lines ne) ∙ ap (λ l. works m rules makes (own_lines i lines) y l) (one.same_answers i ne) in
         record {
           member = ap (λ p. slice_get p.1.members i) split ∙ there.member ∙ ap (λ w. Some w.member) (sym same);
@@ -115,7 +115,7 @@ module _ {Rules Doc Reason C Op : Type 0} (m : Meaning Rules Doc Reason C) (rule
             ∙ there.outcomes ∙ ap (λ w. w.outcomes) (sym same);
         }
 
-    agrees-then : Agrees then_room lines one.left → Agrees s (line ∷ lines) h
+    agrees-then : Agrees then_room lines left → Agrees s (line ∷ lines) h
     agrees-then more = record {
       authority = ap (λ p. p.1.authority) split ∙ more.authority ∙ sym one.state_is;
       count = ap (λ p. length p.1.members) split ∙ more.count ∙ set-length s.members line.client one.member;
@@ -144,7 +144,7 @@ module _ {Rules Doc Reason C Op : Type 0} (m : Meaning Rules Doc Reason C) (rule
           let f = found h calls in
           let one = alone m rules makes s h line f.0 (own_lines line.client lines) f.1 e (goes h calls) in
           let callers_are : callers lines ≡ map (λ p. p.seat) h = sym (ap (λ b. cond b (line.client ∷ callers lines) (callers lines)) e) ∙ calls.callers_are in
-          agrees-then s h line lines calls f.0 f.1 one (more (placed s line.client one.authority one.member) h (calls-then s h line lines calls f.0 f.1 one callers_are))
+          agrees-then s h line lines calls f.0 f.1 h one (more (placed s line.client one.authority one.member) h (calls-then s h line lines calls f.0 f.1 h one callers_are))
       by true e [] calls =
           let all : line.client ∷ callers lines ≡ [] = sym (ap (λ b. cond b (line.client ∷ callers lines) (callers lines)) e) ∙ calls.callers_are in
           absurd (cc)
@@ -154,7 +154,7 @@ module _ {Rules Doc Reason C Op : Type 0} (m : Meaning Rules Doc Reason C) (rule
           let seat : p.seat ≡ line.client = cc in
           let callers_are : callers lines ≡ map (λ q. q.seat) h = cc in
           let one = call m rules makes s p h line f.0 (own_lines line.client lines) f.1 e seat (goes (p ∷ h) calls) in
-          agrees-then s (p ∷ h) line lines calls f.0 f.1 one (more (placed s line.client one.authority one.member) h (calls-then s (p ∷ h) line lines calls f.0 f.1 one callers_are))
+          agrees-then s (p ∷ h) line lines calls f.0 f.1 h one (more (placed s line.client one.authority one.member) h (calls-then s (p ∷ h) line lines calls f.0 f.1 h one callers_are))
 
   -- A session in any order, whose lines make the calls of a history, leaves the authority at the history's end, and each client
   -- at what its own lines come to.

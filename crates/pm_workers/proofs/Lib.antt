@@ -1,3 +1,5 @@
 pub mod MergeLaws
 pub mod Owns
 pub mod Orders
+pub mod Steps
+pub mod Interleaved

@@ -94,13 +94,12 @@ module _ {Rules Doc Reason C Op : Type 0} (m : Meaning Rules Doc Reason C) (rule
         calls = rest;
       })
 
-  -- The first of a client's lines, at a room and what is left of a history: what it comes to, the history that is then left,
-  -- and that the client's works go on from there. No other client's works change.
-  pub record Stepped (s : State C Rules Doc Reason) (h : List (Past (Request C))) (line : Line Op C) (x : Member C Rules Doc Reason) (lines : List (Line Op C)) : Type 0 where
+  -- The first of a client's lines, at a room and a history, of which `left` is then left: what it comes to, and that the
+  -- client's other lines go on from there. To no other client anything changes.
+  pub record Stepped (s : State C Rules Doc Reason) (h : List (Past (Request C))) (line : Line Op C) (x : Member C Rules Doc Reason) (lines : List (Line Op C)) (left : List (Past (Request C))) : Type 0 where
     pub outcome : Outcome C Rules Doc Reason
     pub member : Member C Rules Doc Reason
     pub authority : Authority C Rules Doc Reason
-    pub left : List (Past (Request C))
     pub played_is : played m rules makes s line ≡ (outcome, placed s line.client authority member)
     pub state_is : state_at (after_request m) rules s.authority h ≡ state_at (after_request m) rules authority left
     pub goes_on : Makes line.client member lines (answers_to m rules line.client authority left) (calls_of line.client left)
@@ -130,7 +129,7 @@ module _ {Rules Doc Reason C Op : Type 0} (m : Meaning Rules Doc Reason C) (rule
   -- a line that presents nothing leaves the authority and the history
   pub alone : (s : State C Rules Doc Reason) (h : List (Past (Request C))) (line : Line Op C) (x : Member C Rules Doc Reason) (lines : List (Line Op C))
       → slice_get s.members line.client ≡ Some x → presents line.act ≡ false → Makes line.client x (line ∷ lines) (answers_to m rules line.client s.authority h) (calls_of line.client h)
-      → Stepped s h line x lines
+      → Stepped s h line x lines h
   alone s h line x lines at quiet fits =
       let rs = answers_to m rules line.client s.authority h in
       let one = makes-alone line.client x line lines rs (calls_of line.client h) quiet fits in
@@ -139,7 +138,6 @@ module _ {Rules Doc Reason C Op : Type 0} (m : Meaning Rules Doc Reason C) (rule
         outcome = (finished m rules makes line.act x None).0;
         member = (finished m rules makes line.act x None).1;
         authority = s.authority;
-        left = h;
         played_is = played-by s line x None at one.0;
         state_is = refl;
         goes_on = one.1;
@@ -153,7 +151,7 @@ module _ {Rules Doc Reason C Op : Type 0} (m : Meaning Rules Doc Reason C) (rule
   pub call : (s : State C Rules Doc Reason) (e : Past (Request C)) (h : List (Past (Request C))) (line : Line Op C) (x : Member C Rules Doc Reason) (lines : List (Line Op C))
       → slice_get s.members line.client ≡ Some x → presents line.act ≡ true → e.seat ≡ line.client
       → Makes line.client x (line ∷ lines) (answers_to m rules line.client s.authority (e ∷ h)) (calls_of line.client (e ∷ h))
-      → Stepped s (e ∷ h) line x lines
+      → Stepped s (e ∷ h) line x lines h
   call s e h line x lines at speaks seat fits =
       let a = after_request m rules s.authority e.request in
       let r = reply_to m rules s.authority e.request in
@@ -167,7 +165,6 @@ module _ {Rules Doc Reason C Op : Type 0} (m : Meaning Rules Doc Reason C) (rule
         outcome = (finished m rules makes line.act x (Some r)).0;
         member = (finished m rules makes line.act x (Some r)).1;
         authority = a;
-        left = h;
         played_is = played-by s line x (Some e.request.message) at one.0;
         state_is = refl;
         goes_on = one.1;
