@@ -3,3 +3,5 @@ pub mod Owns
 pub mod Orders
 pub mod Steps
 pub mod Interleaved
+pub mod Suiting
+pub mod Telling
