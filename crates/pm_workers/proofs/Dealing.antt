@@ -7,7 +7,7 @@ use native.Mathlib.Decide.{ℕ_discrete}
 use Rattle.pm_session.specs.declared.line.Line.{Line}
 use Rattle.pm_workers.specs.Threads.{own_outcomes, dealt}
 use Rattle.pm_workers.proofs.MergeLaws.{length-set}
-use Rattle.pm_workers.proofs.Interleaved.{member-at, outcomes-here, outcomes-there}
+use Rattle.pm_workers.proofs.Interleaved.{outcomes-here, outcomes-there}
 
 -- two lists of one length with the same at each place
 pub same-places : {A : Type 0} (xs ys : List A) → length xs ≡ length ys → ((i : ℕ) (x : A) → slice_get xs i ≡ Some x → slice_get ys i ≡ Some x) → xs ≡ ys

@@ -24,7 +24,7 @@ use Rattle.pm_workers.proofs.Steps.{Makes, makes-at, answers_to, Stepped, alone,
 some-is : {A : Type 0} (x y : A) → Some x ≡ Some y → x ≡ y
 some-is x y e = cc
 
-member-at : {A : Type 0} (xs : List A) (i : ℕ) → i < length xs → (x : A) × (slice_get xs i ≡ Some x)
+pub member-at : {A : Type 0} (xs : List A) (i : ℕ) → i < length xs → (x : A) × (slice_get xs i ≡ Some x)
 member-at [] i within = absurd (omega (arith, within))
 member-at (x ∷ xs) zero within = (x, refl)
 member-at (x ∷ xs) (suc i) within = member-at xs i (omega (arith, within))
@@ -37,10 +37,10 @@ set-elsewhere (x ∷ xs) (suc i) zero v ne = refl
 set-elsewhere (x ∷ xs) (suc i) (suc j) v ne = set-elsewhere xs i j v (λ e. ne (ap suc e))
 
 module _ {Op C A : Type 0} (i : ℕ) (line : Line Op C) (lines : List (Line Op C)) (o : A) (outcomes : List A) where
-  outcomes-here : line.client ≡ i → own_outcomes i (line ∷ lines) (o ∷ outcomes) ≡ o ∷ own_outcomes i lines outcomes
+  pub outcomes-here : line.client ≡ i → own_outcomes i (line ∷ lines) (o ∷ outcomes) ≡ o ∷ own_outcomes i lines outcomes
   outcomes-here e = ap (λ b. cond b (o ∷ own_outcomes i lines outcomes) (own_outcomes i lines outcomes)) (eq-eqb line.client i e)
 
-  outcomes-there : line.client ≢ i → own_outcomes i (line ∷ lines) (o ∷ outcomes) ≡ own_outcomes i lines outcomes
+  pub outcomes-there : line.client ≢ i → own_outcomes i (line ∷ lines) (o ∷ outcomes) ≡ own_outcomes i lines outcomes
   outcomes-there ne = ap (λ b. cond b (o ∷ own_outcomes i lines outcomes) (own_outcomes i lines outcomes)) (ne_eqb line.client i ne)
 
 module _ {Rules Doc Reason C Op : Type 0} (m : Meaning Rules Doc Reason C) (rules : Rules) (makes : Doc → Op → Result (List C) NoSteps) where

@@ -5,3 +5,6 @@ pub mod Steps
 pub mod Interleaved
 pub mod Suiting
 pub mod Telling
+pub mod Dealing
+pub mod Filing
+pub mod Threaded
