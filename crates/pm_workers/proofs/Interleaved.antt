@@ -1,6 +1,6 @@
 -- A session in any order comes to what each member's lines come to, where the calls that they make are those of a history.
 use Rattle.std.specs.List.{AllByRecursion as Each}
-use Rattle.std.proofs.Common.{◌≡◌, ◌≢◌, ◌⊎◌, inl, inr, ℕ, zero, suc, ◌<◌, Bool, true, false, cond, List, [], ◌∷◌, length, map, Option, None, Some, slice_get, slice_set, get_or, Result, refl, sym, ap, ◌∙◌, subst, arith, eq-eqb, ne_eqb}
+use Rattle.std.proofs.Common.{◌≡◌, ◌≢◌, ◌⊎◌, inl, inr, ℕ, zero, suc, ◌<◌, Bool, true, false, cond, List, [], ◌∷◌, length, map, Some, slice_get, slice_set, Result, refl, sym, ap, ◌∙◌, subst, arith, eq-eqb, ne_eqb}
 use mathlib.Core.Logic.{dite}
 use native.Mathlib.Decide.{ℕ_discrete}
 use Rattle.pm_change.specs.Changes.{Meaning}
@@ -11,13 +11,12 @@ use Rattle.pm_desk.specs.Histories.{state_at, calls_of}
 use Rattle.pm_session.specs.declared.line.Line.{Line}
 use Rattle.pm_session.specs.declared.member.Member.{Member}
 use Rattle.pm_session.specs.declared.maker.NoSteps.{NoSteps}
-use Rattle.pm_session.specs.declared.outcome.Outcome.{Outcome}
-use Rattle.pm_session.specs.Events.{State, placed, played}
+use Rattle.pm_session.specs.Events.{State, placed}
 use Rattle.pm_session.specs.Sessions.{session}
 use Rattle.pm_session.proofs.SoundLaws.{get-set, set-length}
 use Rattle.pm_workers.specs.Threads.{presents, callers, own_lines, own_outcomes, after_request}
 use Rattle.pm_workers.specs.Works.{Work, works}
-use Rattle.pm_workers.proofs.MergeLaws.{get-within, set-there}
+use Rattle.pm_workers.proofs.MergeLaws.{set-there}
 use Rattle.pm_workers.proofs.Owns.{own-here, own-there}
 use Rattle.pm_workers.proofs.Steps.{Makes, makes-at, answers_to, Stepped, alone, call}
 
@@ -100,7 +99,7 @@ module _ {Rules Doc Reason C Op : Type 0} (m : Meaning Rules Doc Reason C) (rule
         record {
           member = ap (λ p. slice_get p.1.members c) split ∙ there.member ∙ ap Some (sym (ap (λ l. (works m rules makes l x (answers_to m rules c s.authority h)).member) own ∙ one.member_is));
           outcomes = ap (λ p. own_outcomes c (line ∷ lines) p.0) split ∙ outcomes-here c line lines one.outcome (session m rules makes then_room lines).0 refl
-            ∙ ap (λ l. one.outcome ∷ l) there.outcomes ∙ sym (ap (λ l. (works m rules makes l x (answers_to m rules c s.authority h)).outcomes) own ∙ one.outcomes_are);
+              ∙ ap (λ l. one.outcome ∷ l) there.outcomes ∙ sym (ap (λ l. (works m rules makes l x (answers_to m rules c s.authority h)).outcomes) own ∙ one.outcomes_are);
         }
 
     as-alone-there : (i : ℕ) (y : Member C Rules Doc Reason) → line.client ≢ i → slice_get s.members i ≡ Some y → slice_get then_room.members i ≡ Some y
@@ -112,7 +111,7 @@ module _ {Rules Doc Reason C Op : Type 0} (m : Meaning Rules Doc Reason C) (rule
         record {
           member = ap (λ p. slice_get p.1.members i) split ∙ there.member ∙ ap (λ w. Some w.member) (sym same);
           outcomes = ap (λ p. own_outcomes i (line ∷ lines) p.0) split ∙ outcomes-there i line lines one.outcome (session m rules makes then_room lines).0 ne
-            ∙ there.outcomes ∙ ap (λ w. w.outcomes) (sym same);
+              ∙ there.outcomes ∙ ap (λ w. w.outcomes) (sym same);
         }
 
     agrees-then : Agrees then_room lines left → Agrees s (line ∷ lines) h
@@ -120,9 +119,9 @@ module _ {Rules Doc Reason C Op : Type 0} (m : Meaning Rules Doc Reason C) (rule
       authority = ap (λ p. p.1.authority) split ∙ more.authority ∙ sym one.state_is;
       count = ap (λ p. length p.1.members) split ∙ more.count ∙ set-length s.members line.client one.member;
       each = λ i y there. dite (ℕ_discrete line.client i)
-        (λ e. let same : x ≡ y = some-is x y (sym at ∙ (ap (slice_get s.members) e ∙ there)) in
-        subst (λ z. AsAlone s (line ∷ lines) h i z) same (subst (λ k. AsAlone s (line ∷ lines) h k x) e (as-alone-here more)))
-        (λ ne. as-alone-there i y ne there (set-elsewhere s.members line.client i one.member ne ∙ there) more);
+          (λ e. let same : x ≡ y = some-is x y (sym at ∙ (ap (slice_get s.members) e ∙ there)) in
+          subst (λ z. AsAlone s (line ∷ lines) h i z) same (subst (λ k. AsAlone s (line ∷ lines) h k x) e (as-alone-here more)))
+          (λ ne. as-alone-there i y ne there (set-elsewhere s.members line.client i one.member ne ∙ there) more);
     }
 
   -- one line and then the others

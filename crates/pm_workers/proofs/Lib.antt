@@ -3,8 +3,9 @@ pub mod Owns
 pub mod Orders
 pub mod Steps
 pub mod Interleaved
-pub mod Suiting
+pub mod Reordering
 pub mod Telling
 pub mod Dealing
 pub mod Filing
 pub mod Threaded
+pub mod OneThread

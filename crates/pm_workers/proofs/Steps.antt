@@ -1,5 +1,5 @@
 -- One line of a session, and the works of the members before and after it.
-use Rattle.std.proofs.Common.{◌≡◌, ◌≢◌, ℕ, Bool, true, false, cond, List, [], ◌∷◌, map, Option, None, Some, slice_get, Result, refl, sym, ap, ◌∙◌, subst, eq-eqb, ne_eqb}
+use Rattle.std.proofs.Common.{◌≡◌, ◌≢◌, ℕ, true, false, cond, List, [], ◌∷◌, map, Option, None, Some, slice_get, Result, refl, sym, ap, ◌∙◌, subst, eq-eqb, ne_eqb}
 use Rattle.std.specs.Prelude.{is_some}
 use Rattle.pm_change.specs.Changes.{Meaning}
 use Rattle.pm_authority.specs.declared.authority.Authority.{Authority}
@@ -14,7 +14,7 @@ use Rattle.pm_session.specs.declared.maker.NoSteps.{NoSteps}
 use Rattle.pm_session.specs.declared.outcome.Outcome.{Outcome}
 use Rattle.pm_session.specs.Events.{State, placed, by_some, by_answer, asked, finished, acted, played}
 use Rattle.pm_workers.specs.Threads.{presents, after_request, reply_to}
-use Rattle.pm_workers.specs.Works.{answers_of, Work, works, answer_to, answers_after, with_message}
+use Rattle.pm_workers.specs.Works.{answers_of, works, answer_to, answers_after, with_message}
 
 none-of : {A : Type 0} (o : Option A) → is_some o ≡ false → o ≡ None
 none-of None e = refl
@@ -72,11 +72,13 @@ module _ {Rules Doc Reason C Op : Type 0} (m : Meaning Rules Doc Reason C) (rule
       → presents line.act ≡ false → Makes i x (line ∷ lines) answers calls
       → (asked line.act x ≡ None) × Makes i (finished m rules makes line.act x None).1 lines answers calls
   makes-alone i x line lines answers calls quiet h =
-      let e : asked line.act x ≡ None = none-of (asked line.act x) (h.tells.0 ∙ quiet) in
-      (e, record {
-        tells = subst (λ o. Tells lines (finished m rules makes line.act x (answer_to o answers)).1 (answers_after o answers)) e h.tells.1;
-        calls = h.calls ∙ ap (λ o. map (request i) (with_message o (works m rules makes lines (finished m rules makes line.act x (answer_to o answers)).1 (answers_after o answers)).messages)) e;
-      })
+      let e : asked line.act x ≡ None = none-of (asked line.act x) (h.tells.0 ∙ quiet) in (
+        e,
+        record {
+          tells = subst (λ o. Tells lines (finished m rules makes line.act x (answer_to o answers)).1 (answers_after o answers)) e h.tells.1;
+          calls = h.calls ∙ ap (λ o. map (request i) (with_message o (works m rules makes lines (finished m rules makes line.act x (answer_to o answers)).1 (answers_after o answers)).messages)) e;
+        },
+      )
 
   -- a line that presents a message
   makes-call : (i : ℕ) (x : Member C Rules Doc Reason) (line : Line Op C) (lines : List (Line Op C)) (r : Answer C Rules Doc Reason) (answers : List (Answer C Rules Doc Reason))
@@ -88,11 +90,13 @@ module _ {Rules Doc Reason C Op : Type 0} (m : Meaning Rules Doc Reason C) (rule
       let all : q ∷ calls ≡ request i s.0 ∷ map (request i) (works m rules makes lines next answers).messages =
       h.calls ∙ ap (λ o. map (request i) (with_message o (works m rules makes lines (finished m rules makes line.act x (answer_to o (r ∷ answers))).1 (answers_after o (r ∷ answers))).messages)) s.1 in
       let one : q ≡ request i s.0 = cc in
-      let rest : calls ≡ map (request i) (works m rules makes lines next answers).messages = cc in
-      (s.1 ∙ ap Some (sym (ap (λ (p : Request C). p.message) one)), record {
-        tells = subst (λ o. Tells lines (finished m rules makes line.act x (answer_to o (r ∷ answers))).1 (answers_after o (r ∷ answers))) s.1 h.tells.1;
-        calls = rest;
-      })
+      let rest : calls ≡ map (request i) (works m rules makes lines next answers).messages = cc in (
+        s.1 ∙ ap Some (sym (ap (λ (p : Request C). p.message) one)),
+        record {
+          tells = subst (λ o. Tells lines (finished m rules makes line.act x (answer_to o (r ∷ answers))).1 (answers_after o (r ∷ answers))) s.1 h.tells.1;
+          calls = rest;
+        },
+      )
 
   -- The first of a client's lines, at a room and a history, of which `left` is then left: what it comes to, and that the
   -- client's other lines go on from there. To no other client anything changes.
@@ -110,12 +114,16 @@ module _ {Rules Doc Reason C Op : Type 0} (m : Meaning Rules Doc Reason C) (rule
 
   played-by : (s : State C Rules Doc Reason) (line : Line Op C) (x : Member C Rules Doc Reason) (o : Option (Message C)) → slice_get s.members line.client ≡ Some x → asked line.act x ≡ o
       → played m rules makes s line
-      ≡ ((by_answer m rules s.authority o (finished m rules makes line.act x)).0,
-      placed s line.client (by_answer m rules s.authority o (finished m rules makes line.act x)).1 (by_answer m rules s.authority o (finished m rules makes line.act x)).2)
+      ≡ (
+        (by_answer m rules s.authority o (finished m rules makes line.act x)).0,
+        placed s line.client (by_answer m rules s.authority o (finished m rules makes line.act x)).1 (by_answer m rules s.authority o (finished m rules makes line.act x)).2,
+      )
   played-by s line x o at e =
       ap (λ y. by_some s line.client y (acted m rules makes s.authority line.act)) at
-      ∙ ap (λ z. ((by_answer m rules s.authority z (finished m rules makes line.act x)).0,
-      placed s line.client (by_answer m rules s.authority z (finished m rules makes line.act x)).1 (by_answer m rules s.authority z (finished m rules makes line.act x)).2)) e
+      ∙ ap (λ z. (
+        (by_answer m rules s.authority z (finished m rules makes line.act x)).0,
+        placed s line.client (by_answer m rules s.authority z (finished m rules makes line.act x)).1 (by_answer m rules s.authority z (finished m rules makes line.act x)).2,
+      )) e
 
   works-by : (line : Line Op C) (lines : List (Line Op C)) (x : Member C Rules Doc Reason) (rs : List (Answer C Rules Doc Reason)) (o : Option (Message C)) → asked line.act x ≡ o
       → ((works m rules makes (line ∷ lines) x rs).outcomes

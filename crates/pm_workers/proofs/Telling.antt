@@ -1,7 +1,7 @@
 -- Of lines that suit a member its acts tell which present a message.
 use Rattle.std.specs.List.{AllByRecursion as Each}
 use Rattle.std.specs.Prelude.{◌≡◌, ℕ, ℤ, zero, suc, ◌+◌, ◌-◌, ◌<◌, ◌≤◌, ◌&&◌, nat_lt, Bool, true, false, if◌then◌else◌, List, [], ◌∷◌, ◌++◌, length, cond, is_some, slice_get, Option, Some, None, Result, Ok, Err, refl}
-use Rattle.std.proofs.Common.{sym, ap, ◌∙◌, subst, arith, length-append}
+use Rattle.std.proofs.Common.{sym, ap, ◌∙◌, arith, length-append}
 use Rattle.std.proofs.lemmas.Bool.{eq-eqb}
 use Rattle.pm_change.specs.Changes.{Meaning}
 use Rattle.pm_authority.specs.declared.running.Refusal.{Refusal}
@@ -10,7 +10,7 @@ use Rattle.pm_authority.specs.declared.message.Answer.{Answer}
 use Rattle.pm_client.specs.declared.client.Client.{Client}
 use Rattle.pm_client.specs.declared.taken.Kind.{Kind}
 use Rattle.pm_client.specs.declared.taken.Kind.TheVariants.{Submit as Submission, Ask as Asking}
-use Rattle.pm_client.specs.Clients.{edited, last_turned, event_turned, cursor_set, message_of, composed, kept, taken}
+use Rattle.pm_client.specs.Clients.{edited, last_turned, event_turned, cursor_set, message_of, composed, kept}
 use Rattle.pm_session.specs.declared.line.Line.{Line}
 use Rattle.pm_session.specs.declared.line.Act.{Act}
 use Rattle.pm_session.specs.declared.line.Act.TheVariants.{Edit, Undo, Redo, Cursor, Submit, Ask, Present, Take, Push, Pull, Forge}
@@ -27,7 +27,7 @@ use Rattle.pm_session.proofs.Keeping.{KeepsBox, edited-keeps, turned-keeps, take
 use Rattle.pm_workers.specs.Threads.{presents}
 use Rattle.pm_workers.specs.Works.{works, answer_to, answers_after, with_message}
 use Rattle.pm_workers.proofs.Steps.{Tells}
-use Rattle.pm_workers.proofs.Suiting.{done-more}
+use Rattle.pm_workers.proofs.Reordering.{done-more}
 
 some-within : {A : Type 0} (xs : List A) (k : ℕ) → k < length xs → is_some (slice_get xs k) ≡ true
 some-within [] k h = absurd (omega (arith, h))
@@ -169,9 +169,10 @@ module _ {Rules Doc Reason C Op : Type 0} (m : Meaning Rules Doc Reason C) (rule
       done-more gets_one i earlier line ∙ ap (λ b. answered_by i earlier + cond (b && gets_one act) 1 0) (eq-eqb line.client i own) in
       record {
         kind = k.kind;
-        counted = λ e is. let same : d ≡ e = cc in
-          (ap (λ (y : Client C Rules Doc Reason). length y.messages) (sym same) ∙ more.0 ∙ ap (λ j. j + cond (composes_one act) 1 0) n.0 ∙ sym one,
-          ap (λ (y : Client C Rules Doc Reason). length y.answers) (sym same) ∙ more.1 ∙ ap (λ j. j + cond (gets_one act) 1 0) n.1 ∙ sym two);
+        counted = λ e is. let same : d ≡ e = cc in (
+          ap (λ (y : Client C Rules Doc Reason). length y.messages) (sym same) ∙ more.0 ∙ ap (λ j. j + cond (composes_one act) 1 0) n.0 ∙ sym one,
+          ap (λ (y : Client C Rules Doc Reason). length y.answers) (sym same) ∙ more.1 ∙ ap (λ j. j + cond (gets_one act) 1 0) n.1 ∙ sym two,
+        );
       }
 
   -- where there are answers enough, the message gets one, and there are enough for the others

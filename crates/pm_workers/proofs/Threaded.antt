@@ -1,6 +1,6 @@
 -- A session whose clients run on threads is the session on one thread, in the order that the history of its calls makes.
 use Rattle.std.specs.List.{AllByRecursion as Each}
-use Rattle.std.proofs.Common.{◌≡◌, ℕ, suc, ◌<◌, ◌≤◌, Bool, true, false, cond, List, [], ◌∷◌, length, map, slice_get, Option, None, Some, All, Result, refl, sym, ap, ◌∙◌, subst, arith}
+use Rattle.std.proofs.Common.{◌≡◌, ℕ, suc, ◌<◌, Bool, true, false, cond, List, [], ◌∷◌, length, map, slice_get, Option, None, Some, All, Result, refl, sym, ap, ◌∙◌, subst, arith}
 use Rattle.std.specs.Prelude.{is_some}
 use Rattle.pm_change.specs.Changes.{Meaning}
 use Rattle.pm_authority.specs.declared.machine.Request.{Request}
@@ -10,23 +10,21 @@ use Rattle.pm_desk.specs.declared.history.Past.{Past}
 use Rattle.pm_desk.specs.Histories.{state_at, calls_of}
 use Rattle.pm_session.specs.declared.line.Line.{Line}
 use Rattle.pm_session.specs.declared.member.Member.{Member}
-use Rattle.pm_session.specs.declared.member.Member.TheVariants.{Editor}
 use Rattle.pm_session.specs.declared.maker.NoSteps.{NoSteps}
 use Rattle.pm_session.specs.Events.{State, asked, finished}
 use Rattle.pm_session.specs.Members.{is_raw, kinds_of}
 use Rattle.pm_session.specs.Sessions.{session}
 use Rattle.pm_session.specs.Suits.{LinesSuit}
 use Rattle.pm_workers.specs.Merges.{merged}
-use Rattle.pm_workers.specs.Threads.{presents, by_client, callers, in_order, own_lines, own_outcomes, dealt, after_request, reply_to}
+use Rattle.pm_workers.specs.Threads.{presents, by_client, callers, in_order, own_lines, own_outcomes, after_request, reply_to}
 use Rattle.pm_workers.specs.Works.{works, answer_to, answers_after, with_message}
 use Rattle.pm_workers.proofs.MergeLaws.{each-of, length-map, map-get}
 use Rattle.pm_workers.proofs.Owns.{presenting}
-use Rattle.pm_workers.proofs.Steps.{Tells, Makes, makes-at, request, answers_to}
-use Rattle.pm_workers.proofs.Interleaved.{own_work, AsAlone, Calls, Agrees, agrees, member-at}
-use Rattle.pm_workers.proofs.Suiting.{own-are, suit-own, suit-order}
-use Rattle.pm_workers.proofs.Telling.{Keeps, tells}
+use Rattle.pm_workers.proofs.Steps.{Tells, makes-at, request, answers_to}
+use Rattle.pm_workers.proofs.Interleaved.{own_work, agrees, member-at}
+use Rattle.pm_workers.proofs.Reordering.{own-are, suit-own, suit-order}
+use Rattle.pm_workers.proofs.Telling.{tells}
 use Rattle.pm_workers.proofs.Filing.{answers-calls, own-ordered, callers-ordered, suit-within}
-use Rattle.pm_workers.proofs.Dealing.{same-places, deals}
 
 module _ {Rules Doc Reason C Op : Type 0} (m : Meaning Rules Doc Reason C) (rules : Rules) (makes : Doc → Op → Result (List C) NoSteps) where
   -- as many lines present a message as there are messages
@@ -101,7 +99,7 @@ module _ {Rules Doc Reason C Op : Type 0} (m : Meaning Rules Doc Reason C) (rule
           callers_are = callers_are;
           within = subst (λ k. Each (λ (line : Line Op C). line.client < k) ordered) kinds (suit-within ordered (kinds_of s.members) suits.earlier ordered suits.suit);
           each = λ i x at. makes-at m rules makes i x (own_lines i lines) (own_lines i ordered) (answers_to m rules i s.authority h) (answers_to m rules i s.authority h) (calls_of i h) (calls_of i h)
-            (sym (own i)) refl refl (record { tells = own-tells i x at; calls = calls i x at });
+              (sym (own i)) refl refl (record { tells = own-tells i x at; calls = calls i x at });
         }) in
         record {
           own = own;

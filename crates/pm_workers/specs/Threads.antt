@@ -19,6 +19,22 @@ module _ {Rules Doc Reason C : Type 0} (m : Meaning Rules Doc Reason C) where
   abbrev pub reply_to : Rules → Authority C Rules Doc Reason → Request C → Answer C Rules Doc Reason
   reply_to rules a q = (presented m rules a q.message).0
 
+abbrev pub with_some : {A : Type 0} → Option A → List A → List A
+with_some None items = items
+with_some (Some item) items = item ∷ items
+
+-- the items at these places, in this order
+abbrev pub in_order : {A : Type 0} → List A → List ℕ → List A
+in_order items [] = []
+in_order items (k ∷ order) = with_some (slice_get items k) (in_order items order)
+
+-- One item for each of these clients: the next of that client's. `left` has for each client its items that are not dealt yet.
+abbrev pub dealt : {A : Type 0} → List ℕ → List (List A) → List A
+dealt [] left = []
+dealt (client ∷ clients) left =
+    let own = get_or left client [] in
+    take 1 own ++ dealt clients (slice_set left client (drop 1 own))
+
 -- whether an act presents a message
 abbrev pub presents : {Op C : Type 0} → Act Op C → Bool
 presents (Present j) = true
@@ -50,15 +66,6 @@ module _ {Op C : Type 0} where
   callers [] = []
   callers (line ∷ lines) = cond (presents line.act) (line.client ∷ callers lines) (callers lines)
 
-  abbrev pub with_some : Option (Line Op C) → List (Line Op C) → List (Line Op C)
-  with_some None lines = lines
-  with_some (Some line) lines = line ∷ lines
-
-  -- the lines at these places, in this order
-  abbrev pub in_order : List (Line Op C) → List ℕ → List (Line Op C)
-  in_order lines [] = []
-  in_order lines (k ∷ order) = with_some (slice_get lines k) (in_order lines order)
-
   -- the lines of client i, in order
   abbrev pub own_lines : ℕ → List (Line Op C) → List (Line Op C)
   own_lines i [] = []
@@ -69,10 +76,3 @@ module _ {Op C : Type 0} where
   own_outcomes i [] outcomes = []
   own_outcomes i (line ∷ lines) [] = []
   own_outcomes i (line ∷ lines) (o ∷ outcomes) = cond (line.client == i) (o ∷ own_outcomes i lines outcomes) (own_outcomes i lines outcomes)
-
-  -- One outcome for each line: the next of its client's. `left` has for each client its outcomes that are not dealt yet.
-  abbrev pub dealt : {A : Type 0} → List (Line Op C) → List (List A) → List A
-  dealt [] left = []
-  dealt (line ∷ lines) left =
-      let own = get_or left line.client [] in
-      take 1 own ++ dealt lines (slice_set left line.client (drop 1 own))

@@ -16,8 +16,8 @@ module _ {M R Q A : Type 0} (next : R → M → Q → M) (reply : R → M → Q 
   answers_of n machine [] = []
   answers_of n machine (e ∷ es) =
       cond (e.seat == n)
-          (reply rules machine e.request ∷ answers_of n (next rules machine e.request) es)
-          (answers_of n (next rules machine e.request) es)
+      (reply rules machine e.request ∷ answers_of n (next rules machine e.request) es)
+      (answers_of n (next rules machine e.request) es)
 
 -- what lines come to: the outcome of each, the messages that they presented, and the member after the last
 pub record Work (C Rules Doc Reason : Type 0) : Type 0 where

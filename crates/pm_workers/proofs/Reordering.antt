@@ -8,7 +8,7 @@ use mathlib.Core.Logic.{dite}
 use native.Mathlib.Decide.{ℕ_discrete}
 use Rattle.pm_session.specs.declared.line.Line.{Line}
 use Rattle.pm_session.specs.declared.line.Act.{Act}
-use Rattle.pm_session.specs.Suits.{composes_one, gets_one, done_by, composed_by, answered_by, NamesOneOf, Suits, AllSuit, LinesSuit}
+use Rattle.pm_session.specs.Suits.{composes_one, gets_one, done_by, composed_by, answered_by, NamesOneOf, AllSuit, LinesSuit}
 use Rattle.pm_session.specs.Events.{State}
 use Rattle.pm_session.specs.Members.{kinds_of}
 use Rattle.pm_workers.specs.Threads.{own_lines}
@@ -76,12 +76,14 @@ module _ {Op C : Type 0} where
   suit-all raw earlier [] h = tt
   suit-all raw earlier (line ∷ lines) h =
       let c = line.client in
-      let mine : AllSuit raw earlier (line ∷ own_lines c lines) = subst (λ l. AllSuit raw earlier l) (own-here c line lines refl) (h c) in
-      (mine.0, suit-all raw (earlier ++ line ∷ []) lines (λ i. dite (ℕ_discrete c i)
-      (λ e. subst (λ k. AllSuit raw (earlier ++ line ∷ []) (own_lines k lines)) e mine.1)
-      (λ ne. let much = much-other i earlier line ne in
-      suit-same raw i earlier (earlier ++ line ∷ []) (own_lines i lines) (sym much.0, sym much.1) (own-are i lines)
-      (subst (λ l. AllSuit raw earlier l) (own-there i line lines ne) (h i)))))
+      let mine : AllSuit raw earlier (line ∷ own_lines c lines) = subst (λ l. AllSuit raw earlier l) (own-here c line lines refl) (h c) in (
+        mine.0,
+        suit-all raw (earlier ++ line ∷ []) lines (λ i. dite (ℕ_discrete c i)
+            (λ e. subst (λ k. AllSuit raw (earlier ++ line ∷ []) (own_lines k lines)) e mine.1)
+            (λ ne. let much = much-other i earlier line ne in
+            suit-same raw i earlier (earlier ++ line ∷ []) (own_lines i lines) (sym much.0, sym much.1) (own-are i lines)
+            (subst (λ l. AllSuit raw earlier l) (own-there i line lines ne) (h i)))),
+      )
 
 -- Lines suit a room in each order that keeps the order of each client's lines.
 pub suit-order : {Rules Doc Reason C Op : Type 0} (s : State C Rules Doc Reason) (lines ordered : List (Line Op C)) → ((i : ℕ) → own_lines i ordered ≡ own_lines i lines)
