@@ -15,8 +15,7 @@ use Rattle.pm_session.specs.Events.{State, asked, finished}
 use Rattle.pm_session.specs.Members.{is_raw, kinds_of}
 use Rattle.pm_session.specs.Sessions.{session}
 use Rattle.pm_session.specs.Suits.{LinesSuit}
-use Rattle.pm_workers.specs.Merges.{merged}
-use Rattle.pm_workers.specs.Threads.{presents, by_client, callers, in_order, own_lines, own_outcomes, after_request, reply_to}
+use Rattle.pm_workers.specs.Threads.{presents, order_of, callers, in_order, own_lines, own_outcomes, after_request, reply_to}
 use Rattle.pm_workers.specs.Works.{works, answer_to, answers_after, with_message}
 use Rattle.pm_workers.proofs.MergeLaws.{each-of, length-map, map-get}
 use Rattle.pm_workers.proofs.Owns.{presenting}
@@ -42,10 +41,6 @@ module _ {Rules Doc Reason C Op : Type 0} (m : Meaning Rules Doc Reason C) (rule
       one-more None rest false e = refl
       one-more (Some message) rest true e = refl
       one-more (Some message) rest false e = absurd (cc)
-
-  -- the order that a history of calls makes of a file's lines, for a room of so many members
-  abbrev pub order_of : ℕ → List (Line Op C) → List (Past (Request C)) → List ℕ
-  order_of n lines h = merged (map (λ past. past.seat) h) (by_client 0 n lines)
 
   -- The calls of each client in the history are those that its own lines make, where they get the history's answers.
   abbrev pub OwnCalls : State C Rules Doc Reason → List (Line Op C) → List (Past (Request C)) → Type 0

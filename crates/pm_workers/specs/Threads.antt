@@ -1,14 +1,15 @@
 -- A session whose clients run on threads of their own: its order, and what it comes to.
-use Rattle.std.specs.Prelude.{ℕ, zero, suc, ◌+◌, Bool, true, false, List, [], ◌∷◌, ◌++◌, take, drop, cond, ◌==◌, Option, None, Some, get_or, slice_get, slice_set}
+use Rattle.std.specs.Prelude.{ℕ, zero, suc, ◌+◌, Bool, true, false, List, [], ◌∷◌, ◌++◌, map, take, drop, cond, ◌==◌, Option, None, Some, get_or, slice_get, slice_set}
 use Rattle.pm_change.specs.Changes.{Meaning}
 use Rattle.pm_authority.specs.declared.authority.Authority.{Authority}
 use Rattle.pm_authority.specs.declared.machine.Request.{Request}
 use Rattle.pm_authority.specs.declared.message.Answer.{Answer}
 use Rattle.pm_authority.specs.Presents.{presented}
+use Rattle.pm_desk.specs.declared.history.Past.{Past}
 use Rattle.pm_session.specs.declared.line.Line.{Line}
 use Rattle.pm_session.specs.declared.line.Act.{Act}
 use Rattle.pm_session.specs.declared.line.Act.TheVariants.{Edit, Undo, Redo, Cursor, Submit, Ask, Present, Take, Push, Pull, Forge}
-use Rattle.pm_workers.specs.Merges.{ClientLine}
+use Rattle.pm_workers.specs.Merges.{ClientLine, merged}
 
 module _ {Rules Doc Reason C : Type 0} (m : Meaning Rules Doc Reason C) where
   -- an authority as a machine: what it is after a request
@@ -60,6 +61,10 @@ module _ {Op C : Type 0} where
   abbrev pub by_client : ℕ → ℕ → List (Line Op C) → List (List ClientLine)
   by_client i zero lines = []
   by_client i (suc n) lines = lines_of i 0 lines ∷ by_client (i + 1) n lines
+
+  -- the order that a history of calls makes of the lines of n clients: their places
+  abbrev pub order_of : {Q : Type 0} → ℕ → List (Line Op C) → List (Past Q) → List ℕ
+  order_of n lines history = merged (map (λ past. past.seat) history) (by_client 0 n lines)
 
   -- the clients of the lines that present a message, in the order of the lines
   abbrev pub callers : List (Line Op C) → List ℕ
