@@ -59,7 +59,7 @@ module _ {Op C : Type 0} (lines : List (Line Op C)) where
   pub client-is : (n i : ℕ) → i < n → slice_get (by_all n) i ≡ Some (lines_of i 0 lines)
   client-is n i lt = let e : 0 + i ≡ i = omega arith in client-at n 0 i lt ∙ ap (λ j. Some (lines_of j 0 lines)) e
 
-  client-or : (n i : ℕ) → i < n → get_or (by_all n) i [] ≡ lines_of i 0 lines
+  pub client-or : (n i : ℕ) → i < n → get_or (by_all n) i [] ≡ lines_of i 0 lines
   client-or n i lt = get_or_from_slice_get (by_all n) i (lines_of i 0 lines) [] (client-is n i lt)
 
   in-place : (i : ℕ) → Places lines i 0 lines

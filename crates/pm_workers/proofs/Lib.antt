@@ -9,3 +9,4 @@ pub mod Dealing
 pub mod Filing
 pub mod Threaded
 pub mod OneThread
+pub mod Loops
