@@ -16,14 +16,18 @@ module _ {M R Q A : Type 0} (next : R → M → Q → M) (reply : R → M → Q 
   answers_of n machine [] = []
   answers_of n machine (e ∷ es) =
       cond (e.seat == n)
-          (reply rules machine e.request ∷ answers_of n (next rules machine e.request) es)
-          (answers_of n (next rules machine e.request) es)
+      (reply rules machine e.request ∷ answers_of n (next rules machine e.request) es)
+      (answers_of n (next rules machine e.request) es)
 
 -- what lines come to: the outcome of each, the messages that they presented, and the member after the last
 pub record Work (C Rules Doc Reason : Type 0) : Type 0 where
   pub outcomes : List (Outcome C Rules Doc Reason)
   pub messages : List (Message C)
   pub member : Member C Rules Doc Reason
+
+abbrev pub with_message : {C : Type 0} → Option (Message C) → List (Message C) → List (Message C)
+with_message None messages = messages
+with_message (Some message) messages = message ∷ messages
 
 module _ {Rules Doc Reason C : Type 0} where
   -- of the answers that are to come, the one to this message, where there is a message
@@ -37,10 +41,6 @@ module _ {Rules Doc Reason C : Type 0} where
   answers_after None answers = answers
   answers_after (Some message) [] = []
   answers_after (Some message) (answer ∷ answers) = answers
-
-  abbrev pub with_message : Option (Message C) → List (Message C) → List (Message C)
-  with_message None messages = messages
-  with_message (Some message) messages = message ∷ messages
 
 module _ {Rules Doc Reason C : Type 0} (m : Meaning Rules Doc Reason C) (rules : Rules) {Op : Type 0} (makes : Doc → Op → Result (List C) NoSteps) where
   -- What a member does by these lines, where its messages get these answers one after another. It speaks of no authority:
