@@ -16,3 +16,4 @@ pub mod Working
 pub mod Suitings
 pub mod Crews
 pub mod Unused
+pub mod Handing

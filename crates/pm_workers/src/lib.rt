@@ -2,6 +2,7 @@
 #![tactic(auto)]
 
 mod crew;
+mod hands;
 mod host;
 pub mod opening;
 pub mod order;
