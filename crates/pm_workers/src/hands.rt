@@ -44,10 +44,7 @@ pub(crate) fn hand_out<O: Drop, C: Drop>(
 }
 
 /// The client of each line.
-pub(crate) fn clients_of<O, C>(
-    alloc: Global,
-    lines: &[Line<O, C>],
-) -> Result<Vec<u32>, AllocError>
+pub(crate) fn clients_of<O, C>(alloc: Global, lines: &[Line<O, C>]) -> Result<Vec<u32>, AllocError>
     ensures { IfOk result (λ v. v.items ≡ map (λ line. line.client) lines.now) }
 {
     let mut clients = Vec::new(alloc);
