@@ -1,5 +1,5 @@
 use Rattle.std.specs.Prelude.{option_to_list}
-use Rattle.std.proofs.Common.{rules, ◌≡◌, ◌++◌, length, slice_index_or, ◌∙◌}
+use Rattle.std.proofs.Common.{rules, ◌≡◌, ◌++◌, slice_index_or, ◌∙◌}
 use Rattle.pm_workers.proofs.MergeLaws.{length-set}
 use Rattle.pm_workers.proofs.Handing.{dealt-next}
 use Rattle.pm_workers.proofs.hands.deal.Goals.{in-Some+in_ok-push, in_default}

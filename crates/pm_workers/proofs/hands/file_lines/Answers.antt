@@ -1,6 +1,5 @@
-use Rattle.std.proofs.Common.{rules, ◌≡◌, length, ◌∙◌}
+use Rattle.std.proofs.Common.{rules}
 use Rattle.pm_workers.proofs.Handing.{none-filed, filed-next}
-use Rattle.pm_workers.proofs.MergeLaws.{length-set}
 use Rattle.pm_workers.proofs.hands.file_lines.Goals as goal
 
 pub loop-at-init : goal.loop-at-init
