@@ -29,6 +29,7 @@ impl<C: Change> Machine for Authority<C>
 where
     C::Rules: Drop,
 {
+    ghost use Rattle.std.specs.Prelude.{◌<◌, ◌^◌, length};
     ghost use Rattle.pm_authority.specs.Presents.{presented};
     ghost use Rattle.pm_authority.specs.Kept.{IsKept};
     ghost use Rattle.pm_authority.specs.Requests.{IsOwn};
@@ -43,7 +44,7 @@ where
 
     ghost reply = { λ rules a q. (presented C.means rules a q.message).0 };
 
-    ghost good = { λ rules a. IsKept C.means rules a };
+    ghost good = { λ rules a. IsKept C.means rules a × (length a.log < 2 ^ 64) };
 
     ghost own = { λ n q. IsOwn n q };
 
@@ -53,6 +54,9 @@ where
         rules: &C::Rules,
         request: &Request<C>,
     ) -> Result<Answer<C>, AllocError> {
-        self.present(alloc, rules, request.client, &request.message)
+        let reply = self.present(alloc, rules, request.client, &request.message)?;
+        // A log that is held has a length of 64 bits.
+        let _length = self.log().len();
+        Ok(reply)
     }
 }

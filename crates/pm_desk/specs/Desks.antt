@@ -50,7 +50,7 @@ module _ {M R Q : Type 0} where
 
   -- The reply to q is the machine's at the end of a history, `before`. That history begins with all that the seat had
   -- seen, and of the seat's calls it has those that the seat had seen and no other. The seat t has then seen this history
-  -- and its call, and else is as before. Each entry is its seat's own, and the machine was good.
+  -- and its call, and else is as before. Each entry is its seat's own, and the machine was good and is good after the call.
   pub record Told {A : Type 0} (next : R → M → Q → M) (reply : R → M → Q → A) (good : R → M → Type 0) (own : ℕ → Q → Type 0) (opening : Opening M R) (s : SeatValue M R Q) (q : Q) (r : A) (t : SeatValue M R Q) : Type 0 where
     pub before : List (Past Q)
     pub begins : StartsWith before s.seen
@@ -58,6 +58,7 @@ module _ {M R Q : Type 0} where
     pub seen : t ≡ record s { seen = before ++ past s.number q ∷ [] }
     pub owned : Owned own before
     pub right : good opening.rules (state_at next opening.rules opening.machine before)
+    pub right_after : good opening.rules (next opening.rules (state_at next opening.rules opening.machine before) q)
     pub reply_is : r ≡ reply opening.rules (state_at next opening.rules opening.machine before) q
 
   -- A closed history, where each seat that was split from the first is joined to it. It begins with what the first seat

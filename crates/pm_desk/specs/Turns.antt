@@ -166,6 +166,7 @@ module _ {M R Q : Type 0} where
     pub seen : w ≡ record v { seen = before ++ past v.number q ∷ []; had = before ++ past v.number q ∷ [] }
     pub owned : Owned own before
     pub right : good about.rules (state_at next about.rules about.machine before)
+    pub right_after : good about.rules (next about.rules (state_at next about.rules about.machine before) q)
     pub reply_is : r ≡ reply about.rules (state_at next about.rules about.machine before) q
 
   -- what the first seat knows of a closed history, where each seat that was split from it is joined

@@ -1,1 +1,7 @@
 pub mod Merges
+pub mod Threads
+pub mod Works
+pub mod Seats
+pub mod Suiting
+pub mod Worked
+pub mod Seatings
