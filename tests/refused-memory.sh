@@ -41,6 +41,14 @@ for word in ${WORDS:-check replay}; do
   judge "$word of a folder" $? 3 "" "read fault"
   "$program" "$word" <&- >"$work/out" 2>"$work/told"
   judge "$word of a closed input" $? 3 "" "read fault"
+  "$program" "$word" <"$session" 2>/dev/full >/dev/full
+  status=$?
+  : >"$work/told"
+  judge "$word to full devices" $status 4 "" ""
+  "$program" "$word" <"$top" >"$work/out" 2>/dev/full
+  judge "$word of a folder, told to a full device" $? 3 "" ""
+  "$program" "$word" <"$top" >"$work/out" 2>&-
+  judge "$word of a folder, told to nobody" $? 3 "" ""
   "$program" "$word" "$word" <"$session" >"$work/out" 2>"$work/told"
   judge "$word twice" $? 2 "" usage
 done
@@ -50,6 +58,14 @@ judge "no word" $? 2 "" usage
 judge "an empty word" $? 2 "" usage
 "$program" "$(head -c 100000 /dev/zero | tr '\0' x)" <"$session" >"$work/out" 2>"$work/told"
 judge "a long word" $? 2 "" usage
+"$program" "$(printf '\377')" <"$session" >"$work/out" 2>"$work/told"
+judge "a word that is no text" $? 2 "" usage
+"$program" x <"$session" >"$work/out" 2>/dev/full
+status=$?
+: >"$work/told"
+judge "an unknown word, told to a full device" $status 2 "" ""
+"$program" x <"$session" >"$work/out" 2>&-
+judge "an unknown word, told to nobody" $? 2 "" ""
 
 if ! command -v gcc >/dev/null 2>&1; then
   echo "refused-memory: refused allocations and failing reads and writes are left out, for there is no gcc"

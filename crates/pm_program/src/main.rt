@@ -25,15 +25,18 @@ fn main(rt: HostRuntime) -> io::Result<ExitCode> {
     let mut sink = StdSink::new(rt.stdout());
     let status = match words_of(&rt) {
         Ok(words) => run(alloc, &words, &mut source, &mut sink, &OpenGate),
-        Err(_) => Status::NoMemory,
+        Err(e) if e.kind() == io::ErrorKind::OutOfMemory => Status::NoMemory,
+        // A word that is no text is none of the forms.
+        Err(_) => Status::Usage,
     };
-    match status {
-        Status::Done | Status::SessionRefused => {}
-        Status::Usage => eprintln!(rt; "usage: check | replay")?,
-        Status::ReadFault => eprintln!(rt; "read fault")?,
-        Status::WriteFault => eprintln!(rt; "write fault")?,
-        Status::NoMemory => eprintln!(rt; "no memory")?,
-    }
+    // Where standard error takes nothing, the number still tells.
+    let _told = match status {
+        Status::Done | Status::SessionRefused => Ok(()),
+        Status::Usage => eprintln!(rt; "usage: check | replay"),
+        Status::ReadFault => eprintln!(rt; "read fault"),
+        Status::WriteFault => eprintln!(rt; "write fault"),
+        Status::NoMemory => eprintln!(rt; "no memory"),
+    };
     Ok(ExitCode::from(status.number()))
 }
 
