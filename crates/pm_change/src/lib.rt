@@ -8,8 +8,10 @@ pub mod change;
 pub mod failed;
 pub mod machine;
 pub mod name;
+pub mod no_step;
 
 pub use change::Change;
 pub use failed::Failed;
 pub use machine::Machine;
 pub use name::Name;
+pub use no_step::{MakeError, NoStep};

@@ -1,5 +1,5 @@
 -- Steps that are known to apply.
-use Rattle.std.proofs.Common.{All, ◌≡◌, ℕ, ℤ, ◌+◌, ◌-◌, ◌<◌, ◌≤◌, ◌⊎◌, ◌^◌, List, ◌++◌, length, take, drop, ap, sym, ◌∙◌, arith, subst, append_assoc, Some, Ok, Err, length-append, inl, inr}
+use Rattle.std.proofs.Common.{All, ◌≡◌, ℕ, ◌+◌, ◌-◌, ◌<◌, ◌≤◌, ◌⊎◌, ◌^◌, List, ◌++◌, length, take, drop, ap, sym, ◌∙◌, arith, subst, append_assoc, Some, Ok, Err, length-append, inl, inr}
 use Rattle.std.proofs.lemmas.List.{take-append-drop}
 use Rattle.std.proofs.lemmas.List.Elements.{All-from_recursion}
 use Rattle.std.proofs.Math.Seq.{drop-append_seam}
@@ -19,6 +19,7 @@ use Rattle.pm_client.specs.Plans.{Meets, MayConfirm, Fits}
 use Rattle.pm_client.proofs.Prefixes.{front-applies}
 use Rattle.pm_client.specs.Clients.{own_run, carried}
 use Rattle.pm_client.proofs.Keeps.{base-good}
+use Rattle.pm_client.specs.declared.cursors.Cursor.{Cursor}
 use Rattle.pm_client.specs.Cursors.{AreWithin, HasRoomIn}
 use Rattle.pm_client.specs.Rebases.{maps_of}
 use Rattle.pm_client.specs.Rebasables.{NamedHasMap, CanRebaseOver}
@@ -61,7 +62,7 @@ module _ {Rules Doc Reason C : Type 0} (m : Meaning Rules Doc Reason C) (rules :
   run-maps laws doc end ns good ran = All-from_recursion (NamedHasMap m) ns (maps-fit m rules laws doc end ns good (run-fold m rules doc end 0 ns ran)).1
 
   -- over which the document's cursors may go
-  pub run-room : Laws m → (doc end : Doc) (ns : List (Named C)) (cs : List (ℕ × ℤ)) → m.is_good rules doc → AreWithin (m.size doc) cs → run m rules doc 0 ns ≡ Ok end
+  pub run-room : Laws m → (doc end : Doc) (ns : List (Named C)) (cs : List Cursor) → m.is_good rules doc → AreWithin (m.size doc) cs → run m rules doc 0 ns ≡ Ok end
       → All (HasRoomIn (maps_of m ns)) cs
   run-room laws doc end ns cs good within ran =
       cursors-room (maps_of m ns) (m.size doc) (m.size end) (plain-paired m rules ns) (maps-fit m rules laws doc end ns good (run-fold m rules doc end 0 ns ran)).0 cs within

@@ -32,7 +32,7 @@ use Rattle.pm_client.specs.Kins.{IsOwn, IsForeign, IsPrefix, IsPart, MessageStan
 use Rattle.pm_client.proofs.Lists.{All-more, All-push, Each-append, Each-front, Each-back, nothing}
 use Rattle.pm_client.specs.Serials.{Parted, Rises, own_serials, serials_of, merged}
 use Rattle.pm_client.specs.Rebases.{maps_of, start, rebased}
-use Rattle.pm_client.specs.Cursors.{IsWithin}
+use Rattle.pm_client.specs.Cursors.{cursor, IsWithin}
 use Rattle.pm_client.proofs.RebaseLaws.{maps-fit, plain-paired, cursors-move, fork, over-can, rebased-applied}
 use Rattle.pm_client.specs.declared.rebasing.Rebasing.{Rebasing}
 use Rattle.pm_client.specs.Timelines.{IsTimeline, edit_steps}
@@ -217,7 +217,7 @@ module _ {Rules Doc Reason C : Type 0} (m : Meaning Rules Doc Reason C) (rules :
     first_good = kin.first_good;
     log_applies = kin.log_applies;
     own = kin.own;
-    cursors = Each-append (IsWithin (m.size c.doc)) c.cursors ((p, side) ∷ []) kin.cursors ((within, is_side), tt);
+    cursors = Each-append (IsWithin (m.size c.doc)) c.cursors (cursor p side ∷ []) kin.cursors ((within, is_side), tt);
     parted = kin.parted;
     stands = kin.stands;
     timeline = kin.timeline;

@@ -1,5 +1,5 @@
 -- A plan for the answer of a number.
-use Rattle.std.proofs.Common.{◌≡◌, ℕ, ℤ, ◌-◌, ◌≤◌, ◌<◌, ◌==◌, if◌then◌else◌, Bool, true, false, List, Vec, length, length-drop, drop, Some, slice_index_or, sym, ap, ◌∙◌, subst, refl}
+use Rattle.std.proofs.Common.{◌≡◌, ℕ, ◌-◌, ◌≤◌, ◌<◌, ◌==◌, if◌then◌else◌, Bool, true, false, List, Vec, length, length-drop, drop, Some, slice_index_or, sym, ap, ◌∙◌, subst, refl}
 use Rattle.std.specs.Prelude.{Result, Ok, Err, IfOk, OnOk, OnErr}
 use Rattle.std.proofs.lemmas.Bool.{eqb-true}
 use Rattle.std.proofs.lemmas.List.{length-map}
@@ -11,6 +11,7 @@ use Rattle.pm_authority.specs.Runs.{AllApply}
 use Rattle.pm_client.specs.declared.plan.Plan.TheVariants.{Rebase}
 use Rattle.pm_client.specs.declared.rebasing.Rebasing.{Rebasing}
 use Rattle.pm_client.specs.Clients.{own_run, carried, confirmed_first, others_taken, rest_taken}
+use Rattle.pm_client.specs.declared.cursors.Cursor.{Cursor}
 use Rattle.pm_client.specs.Cursors.{moved_over}
 use Rattle.pm_client.specs.Serials.{merged}
 use Rattle.pm_authority.specs.declared.message.Answer.{Answer}
@@ -50,7 +51,7 @@ carried-is m rules c rest foreign later own base so is f l = rw (f, l) at is
 
 -- the plan that carries the later pending steps over others' entries
 pub plan-is : {Rules Doc Reason C : Type 0} (m : Meaning Rules Doc Reason C) (rules : Rules) (c : Client C Rules Doc Reason) (rest : List (Named C)) (own : ℕ) (foreign : Vec (List Span) Global) (base : Doc)
-    (so : Rebasing C Rules Doc Reason) (dropped : List ℕ) (cursors : List (ℕ × ℤ)) → own ≡ own_run c.name rest → own ≤ length rest → (own ≡ length rest → ⊥)
+    (so : Rebasing C Rules Doc Reason) (dropped : List ℕ) (cursors : List Cursor) → own ≡ own_run c.name rest → own ≤ length rest → (own ≡ length rest → ⊥)
     → AllApply m rules c.base rest base → foreign.items ≡ ranges_of m (drop own rest) → so ≡ carried m rules c own (drop own rest) base → dropped ≡ merged c.dropped so.dropped
     → cursors ≡ moved_over so.maps c.cursors
     → carried_out c (Rebase own foreign base so dropped cursors) ≡ rest_taken m rules c rest (own_run c.name rest)

@@ -1,5 +1,5 @@
 -- What holds while steps are carried over others' steps.
-use Rattle.std.specs.Prelude.{◌≡◌, ℕ, ℤ, List, [], ◌∷◌, ◌++◌, length, Option, Some, None, Result, Ok, Err, refl, All}
+use Rattle.std.specs.Prelude.{◌≡◌, ℕ, List, [], ◌∷◌, ◌++◌, length, Option, Some, None, Result, Ok, Err, refl, All}
 use Rattle.std.specs.List.{AllByRecursion as Each}
 use Rattle.std.proofs.Common.{subst, ap, sym, ◌∙◌}
 use Rattle.std.proofs.lemmas.List.Elements.{All-from_recursion}
@@ -18,19 +18,20 @@ use Rattle.pm_authority.proofs.RunFolds.{changes-append}
 use Rattle.pm_client.specs.declared.rebasing.Rebasing.{Rebasing}
 use Rattle.pm_client.specs.Rebases.{maps_of, start, lost, held, ended, led, rebased_one, rebased}
 use Rattle.pm_client.specs.Rebasables.{HasMap, NamedHasMap, CanRebase, MayRebase, CanRebaseOver}
+use Rattle.pm_client.specs.declared.cursors.Cursor.{Cursor}
 use Rattle.pm_client.specs.Cursors.{AreWithin, HasRoomIn, moved_over}
 use Rattle.pm_client.proofs.Prefixes.{front-applies}
 
 -- cursors may go over maps that lead from their document, and stand in the one that these lead to
-pub cursors-move : (ms : List Mirrored) (n k : ℕ) → ArePaired ms → FitBetween ms n k → (cs : List (ℕ × ℤ)) → AreWithin n cs
+pub cursors-move : (ms : List Mirrored) (n k : ℕ) → ArePaired ms → FitBetween ms n k → (cs : List Cursor) → AreWithin n cs
     → Each (HasRoomIn ms) cs × AreWithin k (moved_over ms cs)
 cursors-move ms n k paired fits [] h = (tt, tt)
 cursors-move ms n k paired fits (c ∷ cs) h =
     let go = cursors-move ms n k paired fits cs h.1 in
-    let here = position-fits ms n k c.0 c.1 paired fits h.0.0 in
+    let here = position-fits ms n k c.pos c.side paired fits h.0.0 in
     (((h.0.1, here.0), go.0), ((here.1, h.0.1), go.1))
 
-pub cursors-room : (ms : List Mirrored) (n k : ℕ) → ArePaired ms → FitBetween ms n k → (cs : List (ℕ × ℤ)) → AreWithin n cs → All (HasRoomIn ms) cs
+pub cursors-room : (ms : List Mirrored) (n k : ℕ) → ArePaired ms → FitBetween ms n k → (cs : List Cursor) → AreWithin n cs → All (HasRoomIn ms) cs
 cursors-room ms n k paired fits cs h = All-from_recursion (HasRoomIn ms) cs (cursors-move ms n k paired fits cs h).0
 
 module _ {Rules Doc Reason C : Type 0} (m : Meaning Rules Doc Reason C) (rules : Rules) where

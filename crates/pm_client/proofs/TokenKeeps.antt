@@ -20,7 +20,7 @@ use Rattle.pm_client.proofs.Lists.{Each-front, Each-back, take-seam}
 use Rattle.pm_client.specs.Serials.{serials_of, own_serials, Rises}
 use Rattle.pm_client.specs.Rebases.{maps_of, start, rebased}
 use Rattle.pm_client.proofs.RebaseLaws.{fork, maps-fit, plain-paired}
-use Rattle.pm_client.specs.Cursors.{moved_cursor}
+use Rattle.pm_client.specs.Cursors.{cursor, moved_cursor}
 use Rattle.pm_client.specs.Timelines.{edit_steps}
 use Rattle.pm_client.specs.Clients.{named, own_run, gone_on, edited, tried, confirmed, brought, taken_if, taken_at, answer_at}
 use Rattle.pm_client.proofs.Takings.{own_run-is, one-taken, answer-stands}
@@ -211,7 +211,7 @@ module _ {Rules Doc Reason C : Type 0} (m : Meaning Rules Doc Reason C) (rules :
       ap (λ l. names_after m (names_after m names l) r.kept) went ∙ ap (λ l. names_after m l r.kept) (names-append m names s.standing front) in
       let there : Has (names_after m (names_after m shared front) r.kept) t = (after.0, ap (λ l. slice_get l after.0) (sym same) ∙ after.1) in (
         (through r.maps p (pos 1)).pos,
-        get-map (moved_cursor r.maps) c.cursors i (p, pos 1) at,
+        get-map (moved_cursor r.maps) c.cursors i (cursor p (pos 1)) at,
         ap (λ l. slice_get l (through r.maps p (pos 1)).pos) same ∙ leads p t was there,
       )
 
@@ -231,7 +231,7 @@ module _ {Rules Doc Reason C : Type 0} (m : Meaning Rules Doc Reason C) (rules :
       ap (λ l. names_after m (names_after m names l) (c.pending ++ new)) none-passed ∙ names-append m names c.pending new in
       let there : Has (names_after m old new) t = (after.0, ap (λ l. slice_get l after.0) (sym same) ∙ after.1) in (
         (through (maps_of m new) p (pos 1)).pos,
-        get-map (moved_cursor (maps_of m new)) c.cursors i (p, pos 1) at,
+        get-map (moved_cursor (maps_of m new)) c.cursors i (cursor p (pos 1)) at,
         ap (λ l. slice_get l (through (maps_of m new) p (pos 1)).pos) same ∙ leads p t before there,
       )
 

@@ -1,11 +1,13 @@
 -- What a client's calls make of it. Each is a function of the client's state.
-use Rattle.std.specs.Prelude.{ℕ, ℤ, ◌+◌, ◌-◌, ◌≡◌, ◌<◌, ◌==◌, nat_le, if◌then◌else◌, Bool, true, false, List, [], ◌∷◌, ◌++◌, length, take, drop, slice_get, Option, Some, None, Result, Ok, Err}
+use Rattle.std.specs.Prelude.{ℕ, ℤ, ◌+◌, ◌-◌, ◌≡◌, ◌<◌, ◌==◌, nat_le, if◌then◌else◌, true, List, [], ◌∷◌, ◌++◌, length, take, drop, slice_get, Option, Some, None, Result, Ok, Err}
 use Rattle.pm_change.specs.Changes.{Meaning, fold}
 use Rattle.pm_map.specs.declared.step_map.Span.{Span}
 use Rattle.pm_history.specs.declared.item.Item.{Item}
 use Rattle.pm_history.specs.declared.branch.Event.{Event}
 use Rattle.pm_history.specs.declared.branches.Branches.{Branches}
 use Rattle.pm_history.specs.declared.branches.Side.TheVariants.{Edit}
+use Rattle.pm_history.specs.declared.direction.Direction.{Direction}
+use Rattle.pm_history.specs.declared.direction.Direction.TheVariants.{Undo, Redo}
 use Rattle.pm_history.specs.declared.undoing.Undone.{Undone}
 use Rattle.pm_history.specs.Histories.{event_of, names_in, new_history, noted_all, last_items, last_of, rebased as rebased_last, undone}
 use Rattle.pm_history.specs.Tied.{all_tied}
@@ -29,7 +31,7 @@ use Rattle.pm_client.specs.declared.taken.Taken.{Taken}
 use Rattle.pm_client.specs.declared.taken.Taken.TheVariants.{Confirmed, Rebased, Stale, Refused}
 use Rattle.pm_client.specs.declared.rebasing.Rebasing.{Rebasing}
 use Rattle.pm_client.specs.Rebases.{maps_of, ranges_of, start, rebased}
-use Rattle.pm_client.specs.Cursors.{moved_over}
+use Rattle.pm_client.specs.Cursors.{cursor, moved_over}
 use Rattle.pm_client.specs.Timelines.{edit_steps}
 use Rattle.pm_client.specs.Serials.{merged}
 
@@ -80,7 +82,7 @@ module _ {Rules Doc Reason C : Type 0} where
 
   -- one cursor more was set
   abbrev pub cursor_set : Client C Rules Doc Reason → ℕ → ℤ → Client C Rules Doc Reason
-  cursor_set c p side = record c { cursors = c.cursors ++ (p, side) ∷ [] }
+  cursor_set c p side = record c { cursors = c.cursors ++ cursor p side ∷ [] }
 
   -- the message of this number, counted from 1
   abbrev pub message_at : Client C Rules Doc Reason → ℕ → Option (Message C)
@@ -119,10 +121,10 @@ module _ {Rules Doc Reason C : Type 0} (m : Meaning Rules Doc Reason C) where
         history = history;
       }
 
-  -- The client once an event of this number was undone by what was made, or redone where `redo` holds. The steps made are an
-  -- event of the other branch, which has the same number.
-  abbrev pub turned : Client C Rules Doc Reason → Bool → Option ℕ → Undone Doc C → Client C Rules Doc Reason
-  turned c redo number w = gone_on c w.made w.doc (undone redo c.history (event_of number (names_in w.items)) w.items)
+  -- The client once an event of this number was undone, or redone, by what was made. The steps made are an event of the other
+  -- branch, which has the same number.
+  abbrev pub turned : Client C Rules Doc Reason → Direction → Option ℕ → Undone Doc C → Client C Rules Doc Reason
+  turned c way number w = gone_on c w.made w.doc (undone way c.history (event_of number (names_in w.items)) w.items)
 
 module _ {Rules Doc Reason C : Type 0} (m : Meaning Rules Doc Reason C) (rules : Rules) where
   -- What steps get that were tried on the client's document: one is refused, or they are made, as steps of an edit with this
@@ -138,23 +140,23 @@ module _ {Rules Doc Reason C : Type 0} (m : Meaning Rules Doc Reason C) (rules :
   edited c cs event = tried c cs event (run m rules c.doc 0 (named c.name (c.serials + 1) cs))
 
   -- How many steps undoing this event makes, and the client after it.
-  abbrev pub event_turned : Client C Rules Doc Reason → Bool → Event → ℕ × Client C Rules Doc Reason
-  event_turned c redo e =
+  abbrev pub event_turned : Client C Rules Doc Reason → Direction → Event → ℕ × Client C Rules Doc Reason
+  event_turned c way e =
       let w = undo_event m rules c.name e.names c.history.items c.doc (c.serials + 1) in
-      (length w.made, turned m c redo e.number w)
+      (length w.made, turned m c way e.number w)
 
   -- the same of the last event of a branch, unless it has none
-  abbrev pub last_turned : Client C Rules Doc Reason → Bool → Option Event → Option (ℕ × Client C Rules Doc Reason)
-  last_turned c redo None = None
-  last_turned c redo (Some e) = Some (event_turned c redo e)
+  abbrev pub last_turned : Client C Rules Doc Reason → Direction → Option Event → Option (ℕ × Client C Rules Doc Reason)
+  last_turned c way None = None
+  last_turned c way (Some e) = Some (event_turned c way e)
 
   -- The last event is undone.
   abbrev pub undone_last : Client C Rules Doc Reason → Option (ℕ × Client C Rules Doc Reason)
-  undone_last c = last_turned c false (last_of false c.history)
+  undone_last c = last_turned c Undo (last_of Undo c.history)
 
   -- The last event that was undone is redone.
   abbrev pub redone_last : Client C Rules Doc Reason → Option (ℕ × Client C Rules Doc Reason)
-  redone_last c = last_turned c true (last_of true c.history)
+  redone_last c = last_turned c Redo (last_of Redo c.history)
 
   -- an edit's error is the refusal, or want of memory
   abbrev pub IsRefusal : Result (Client C Rules Doc Reason) (Refusal Reason) → EditError Reason → Type 0

@@ -7,6 +7,7 @@ use Rattle.pm_change.specs.Changes.{Meaning}
 use Rattle.pm_authority.specs.declared.named.Named.{Named}
 use Rattle.pm_client.specs.declared.client.Client.{Client}
 use Rattle.pm_client.specs.Clients.{own_run}
+use Rattle.pm_client.specs.Cursors.{cursor}
 
 -- A token of the first document is named by its place, and a token that a step puts in by the step's name and its place
 -- among those that the step puts in.
@@ -107,8 +108,8 @@ module _ {Rules Doc Reason C : Type 0} (m : Meaning Rules Doc Reason C) (log : L
   -- and over the steps passed and then the next pending ones.
   abbrev pub KeepsTokens : ℕ → Type 0
   KeepsTokens base_size =
-      (names : List Token) → MayName base_size names → (i p : ℕ) (t : Token) → slice_get c.cursors i ≡ Some (p, pos 1)
+      (names : List Token) → MayName base_size names → (i p : ℕ) (t : Token) → slice_get c.cursors i ≡ Some (cursor p (pos 1))
       → slice_get (names_after m names c.pending) p ≡ Some t
       → Has (names_after m (names_after m names (passed log c.version d.version)) d.pending) t
-      → (q : ℕ) × (slice_get d.cursors i ≡ Some (q, pos 1))
+      → (q : ℕ) × (slice_get d.cursors i ≡ Some (cursor q (pos 1)))
       × (slice_get (names_after m (names_after m names (passed log c.version d.version)) d.pending) q ≡ Some t)

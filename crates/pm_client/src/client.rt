@@ -5,6 +5,7 @@ ghost use Rattle.pm_map.specs.Moves.{IsSide};
 ghost use Rattle.pm_client.specs.Clients.{new_client, cursor_set, IsCursorRefusal, composed, kept, message_of, message_at};
 ghost use Rattle.pm_client.specs.Kins.{AnswerStands, Kin};
 
+use crate::cursors::Cursor;
 use crate::failing::CursorError;
 use crate::taken::Kind;
 use pm_authority::{Answer, Message, Named, copy_steps};
@@ -28,7 +29,7 @@ pub struct Client<C: Change> {
     pub(crate) answers: Listed<Answer<C>>,
     pub(crate) serials: u64,
     pub(crate) dropped: Listed<u64>,
-    pub(crate) cursors: Listed<(u64, i8)>,
+    pub(crate) cursors: Listed<Cursor>,
     pub(crate) history: Branches<C>,
 }
 
@@ -97,7 +98,7 @@ impl<C: Change> Client<C> {
     }
 
     /// The cursors where they stand now, in the order in which they were set.
-    pub fn cursors(&self) -> &[(u64, i8)]
+    pub fn cursors(&self) -> &[Cursor]
         ensures { result.now ≡ self.now.cursors }
     {
         self.cursors.as_slice()
@@ -142,7 +143,7 @@ impl<C: Change> Client<C> {
         if pos > C::size(&self.doc) as u64 {
             return Err(CursorError::Range);
         }
-        self.cursors.push((pos, side))?;
+        self.cursors.push(Cursor { pos, side })?;
         Ok(())
     }
 

@@ -6,19 +6,29 @@ use pm_list::Listed;
 use pm_map::Mapping;
 use std::alloc::{AllocError, Global};
 
-/// The cursors where these maps lead them. A cursor is a position, in tokens, and its side, 1 or -1.
+/// A position, in tokens, that goes over the steps, and its side: what is put in right there comes behind it by -1 and before
+/// it by 1.
+#[derive(Clone, Copy, Debug, PartialEq, Eq)]
+pub struct Cursor {
+    pub pos: u64,
+    pub side: i8,
+}
+
+/// The cursors where these maps lead them, each by its side, which it keeps.
 pub fn move_all(
     alloc: Global,
-    cursors: &[(u64, i8)],
+    cursors: &[Cursor],
     maps: &Mapping,
-) -> Result<Listed<(u64, i8)>, AllocError>
+) -> Result<Listed<Cursor>, AllocError>
     requires { All (HasRoomIn maps.now) cursors.now }
     ensures { IfOk result (λ l. l ≡ moved_over maps.now cursors.now) }
 {
     let mut moved = Listed::new(alloc);
     for cursor in cursors {
-        let (pos, side) = *cursor;
-        moved.push((maps.map(pos, side).pos, side))?;
+        moved.push(Cursor {
+            pos: maps.map(cursor.pos, cursor.side).pos,
+            side: cursor.side,
+        })?;
     }
     Ok(moved)
 }

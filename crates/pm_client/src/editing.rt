@@ -1,6 +1,7 @@
 //! Making steps, and undoing and redoing them.
-ghost use Rattle.std.specs.Prelude.{◌≡◌, ◌+◌, ◌↔◌, List, [], length, false, true, Ok, Err, Some, None, IfOk, IfErr, OnOk, OnErr, All};
+ghost use Rattle.std.specs.Prelude.{◌≡◌, ◌+◌, ◌↔◌, List, [], length, Ok, Err, Some, None, IfOk, IfErr, OnOk, OnErr, All};
 ghost use Rattle.pm_authority.specs.declared.named.Named.{Named};
+ghost use Rattle.pm_history.specs.declared.direction.Direction.TheVariants.{Undo, Redo};
 ghost use Rattle.pm_history.specs.Histories.{last_of};
 ghost use Rattle.pm_client.specs.declared.failing.UndoError.TheVariants.{NothingToUndo, NoMemory};
 ghost use Rattle.pm_client.specs.Clients.{named, edited, IsRefusal, turned, last_turned, undone_last, redone_last};
@@ -19,7 +20,7 @@ use crate::naming::name_steps;
 use crate::rebasing::maps_over;
 use pm_authority::Refusal;
 use pm_change::{Change, Failed};
-use pm_history::{Event, Side, Undone, names_in, undo_event};
+use pm_history::{Direction, Event, Side, Undone, names_in, undo_event};
 use std::alloc::{AllocError, Global};
 
 impl<C: Change> Client<C> {
@@ -102,15 +103,15 @@ impl<C: Change> Client<C> {
             → Kin C.means rules.now first log self.new }
         // Where nothing has changed since the event, its earlier document is given back.
         ensures restores { OnOk result ((first : C.Doc) (log : List (Named C)) (kin : Kin C.means rules.now first log self.old)
-            → GivesBack C.means rules.now false self.old first kin.timeline self.new.doc) }
+            → GivesBack C.means rules.now Undo self.old first kin.timeline self.new.doc) }
         // It is the undo of the event over the client's whole timeline.
         ensures whole { IfOk result (λ n. (first : C.Doc) (log : List (Named C)) (kin : Kin C.means rules.now first log self.old)
-            → TurnsOver C.means rules.now false self.old first kin.timeline n self.new) }
+            → TurnsOver C.means rules.now Undo self.old first kin.timeline n self.new) }
         // A cursor with side 1 that stood before a token stands before it, where that is still there.
         ensures tokens { OnOk result ((first : C.Doc) (log : List (Named C)) → Kin C.means rules.now first log self.old
             → KeepsTokens C.means log self.old self.new (C.means.size self.old.base)) }
     {
-        self.turn(alloc, rules, false)
+        self.turn(alloc, rules, Direction::Undo)
     }
 
     /// Redoes the last event that was undone, as `undo` undoes one, with the events to undo and to redo exchanged. It costs the
@@ -125,25 +126,30 @@ impl<C: Change> Client<C> {
             → Kin C.means rules.now first log self.new }
         // Where nothing has changed since the event, its earlier document is given back.
         ensures restores { OnOk result ((first : C.Doc) (log : List (Named C)) (kin : Kin C.means rules.now first log self.old)
-            → GivesBack C.means rules.now true self.old first kin.timeline self.new.doc) }
+            → GivesBack C.means rules.now Redo self.old first kin.timeline self.new.doc) }
         // It is the undo of the event over the client's whole timeline.
         ensures whole { IfOk result (λ n. (first : C.Doc) (log : List (Named C)) (kin : Kin C.means rules.now first log self.old)
-            → TurnsOver C.means rules.now true self.old first kin.timeline n self.new) }
+            → TurnsOver C.means rules.now Redo self.old first kin.timeline n self.new) }
         // A cursor with side 1 that stood before a token stands before it, where that is still there.
         ensures tokens { OnOk result ((first : C.Doc) (log : List (Named C)) → Kin C.means rules.now first log self.old
             → KeepsTokens C.means log self.old self.new (C.means.size self.old.base)) }
     {
-        self.turn(alloc, rules, true)
+        self.turn(alloc, rules, Direction::Redo)
     }
 
-    /// Undoes the last event, or redoes it where `redo` holds.
-    fn turn(&mut self, alloc: Global, rules: &C::Rules, redo: bool) -> Result<u64, UndoError>
+    /// Undoes the last event, or redoes it.
+    fn turn(
+        &mut self,
+        alloc: Global,
+        rules: &C::Rules,
+        direction: Direction,
+    ) -> Result<u64, UndoError>
         requires { Stands C.means rules.now self.old }
-        ensures turned { IfOk result (λ n. last_turned C.means rules.now self.old redo (last_of redo self.old.history) ≡ Some (n, self.new)) }
-        ensures nothing { (result ≡ Err NothingToUndo) ↔ (last_of redo self.old.history ≡ None) }
+        ensures turned { IfOk result (λ n. last_turned C.means rules.now self.old direction (last_of direction self.old.history) ≡ Some (n, self.new)) }
+        ensures nothing { (result ≡ Err NothingToUndo) ↔ (last_of direction self.old.history ≡ None) }
         ensures err { OnErr result (self.new ≡ self.old) }
     {
-        let Some(event) = self.history.last(redo) else {
+        let Some(event) = self.history.last(direction) else {
             return Err(UndoError::NothingToUndo);
         };
         let number = event.number;
@@ -156,14 +162,14 @@ impl<C: Change> Client<C> {
             C::copy_doc(alloc, &self.doc)?,
             self.serials.checked_add(1).ok_or(AllocError)?,
         )?;
-        self.take_turn(alloc, redo, number, made)
+        self.take_turn(alloc, direction, number, made)
     }
 
     /// The steps that undo the last event were made. For want of memory the client is as it was.
     fn take_turn(
         &mut self,
         alloc: Global,
-        redo: bool,
+        direction: Direction,
         number: Option<u32>,
         undone: Undone<C::Doc, C>,
     ) -> Result<u64, UndoError>
@@ -171,7 +177,7 @@ impl<C: Change> Client<C> {
         requires room { All (HasRoomIn (maps_of C.means (named self.old.name (self.old.serials + 1) undone.made))) self.old.cursors }
         requires serials { undone.serial ≡ self.old.serials + 1 + length undone.made }
         ensures count { IfOk result (λ n. n ≡ length undone.made) }
-        ensures turned { OnOk result (self.new ≡ turned C.means self.old redo number undone) }
+        ensures turned { OnOk result (self.new ≡ turned C.means self.old direction number undone) }
         ensures memory { IfErr result (λ e. e ≡ NoMemory) }
         ensures err { OnErr result (self.new ≡ self.old) }
     {
@@ -191,7 +197,7 @@ impl<C: Change> Client<C> {
         };
         let before = self.pending.len();
         self.pending.append(added)?;
-        if let Err(AllocError) = self.history.undone(redo, event, items) {
+        if let Err(AllocError) = self.history.undone(direction, event, items) {
             self.pending.truncate(before);
             return Err(UndoError::NoMemory);
         }

@@ -14,5 +14,6 @@ pub mod taken;
 pub mod taking;
 
 pub use client::Client;
+pub use cursors::Cursor;
 pub use failing::{CursorError, EditError, UndoError};
 pub use taken::{Kind, Taken};

@@ -1,4 +1,5 @@
 //! What taking an answer is to do.
+use crate::cursors::Cursor;
 use crate::rebasing::Rebasing;
 use pm_change::Change;
 use pm_list::Listed;
@@ -24,6 +25,6 @@ pub enum Plan<C: Change> {
         base: C::Doc,
         rebasing: Rebasing<C>,
         dropped: Listed<u64>,
-        cursors: Listed<(u64, i8)>,
+        cursors: Listed<Cursor>,
     },
 }

@@ -1,5 +1,7 @@
 -- The step of each edit, or why there is none.
 use Rattle.std.specs.Prelude.{ℕ, ◌+◌, ◌-◌, Bool, true, false, not, ◌&&◌, ◌||◌, ◌==◌, nat_lt, Option, Some, None, List, [], ◌∷◌, length, Result, Ok, Err}
+use Rattle.pm_change.specs.declared.no_step.NoStep.{NoStep}
+use Rattle.pm_change.specs.declared.no_step.NoStep.TheVariants.{Range, NotThere, NoFit}
 use Rattle.pm_marks.specs.declared.mark.Mark.{Mark}
 use Rattle.pm_tokens.specs.Tokens.{Attrs, Token, Doc}
 use Rattle.pm_tokens.specs.Scan.{is_whole, part, depth_at}
@@ -11,18 +13,16 @@ use Rattle.pm_schema.specs.declared.schema.Schema.{Schema}
 use Rattle.pm_schema.specs.Types as types
 use Rattle.pm_resolve.specs.Places.{marks_at, inclusive_in}
 use Rattle.pm_fit.specs.Fits.{fit_step}
-use Rattle.pm_edit.specs.declared.refusal.EditRefusal.{EditRefusal}
-use Rattle.pm_edit.specs.declared.refusal.EditRefusal.TheVariants.{Range, NotThere, NoFit}
 use Rattle.pm_edit.specs.Nodes.{node_at, behind, meet, closed, text_slice, empty_node, split_slice}
 
 -- ---- refusals
 
 -- what an edit gives
 abbrev pub Answer : Type 0
-Answer = Result Step EditRefusal
+Answer = Result Step NoStep
 
 -- refused where the test is true
-abbrev pub refuse : EditRefusal → Bool → Answer → Answer
+abbrev pub refuse : NoStep → Bool → Answer → Answer
 refuse reason true answer = Err reason
 refuse reason false answer = answer
 

@@ -1,6 +1,9 @@
 -- The steps of an op, and how a call answers with them.
 use Rattle.std.specs.Prelude.{◌≡◌, List, [], ◌∷◌, map, Vec, Result, Ok, Err}
 use Rattle.std.specs.declared.alloc.Global.{Global}
+use Rattle.pm_change.specs.declared.no_step.NoStep.{NoStep}
+use Rattle.pm_change.specs.declared.no_step.MakeError.{MakeError}
+use Rattle.pm_change.specs.declared.no_step.MakeError.TheVariants.{NoStep as NoneMade, NoMemory}
 use Rattle.pm_tokens.specs.Tokens.{Doc}
 use Rattle.pm_text.specs.Units.{utf16}
 use Rattle.pm_node.specs.Trees.{node_tokens}
@@ -10,8 +13,6 @@ use Rattle.pm_step.specs.Steps.{step_of}
 use Rattle.pm_schema.specs.declared.schema.Schema.{Schema}
 use Rattle.pm_ops.specs.declared.op.Op.{Op}
 use Rattle.pm_ops.specs.declared.op.Op.TheVariants as op
-use Rattle.pm_edit.specs.declared.refusal.EditRefusal.{EditRefusal}
-use Rattle.pm_edit.specs.declared.refusal.EditRefusal.TheVariants.{Range, NotThere, NoFit, NoMemory}
 use Rattle.pm_edit.specs.Edits.{Answer, insert_text, delete, paste, insert_node, split, join, wrap, lift, set_type, add_mark, remove_mark}
 
 -- the step of an op on a document, or why there is none
@@ -30,26 +31,22 @@ answer_of s d (op.RemoveMark from to mark) = remove_mark d from to mark
 answer_of s d (op.Step step) = Ok (step_of step)
 
 -- a list of this one step
-abbrev pub one : Answer → Result (List steps.Step) EditRefusal
+abbrev pub one : Answer → Result (List steps.Step) NoStep
 one (Ok step) = Ok (step ∷ [])
 one (Err reason) = Err reason
 
 -- the steps of an op on a document: exactly one, or why there is none
-unfoldable pub steps_of : Schema → Doc → Op → Result (List steps.Step) EditRefusal
+unfoldable pub steps_of : Schema → Doc → Op → Result (List steps.Step) NoStep
 steps_of s d o = one (answer_of s d o)
 
--- the call gave this very step, or this very refusal, or memory ran out
-abbrev pub Answers : Answer → Result Step EditRefusal → Type 0
+-- the call gave this very step, or told this very reason why there is none, or memory ran out
+abbrev pub Answers : Answer → Result Step MakeError → Type 0
 Answers answer (Ok step) = answer ≡ Ok (step_of step)
-Answers answer (Err Range) = answer ≡ Err Range
-Answers answer (Err NotThere) = answer ≡ Err NotThere
-Answers answer (Err NoFit) = answer ≡ Err NoFit
+Answers answer (Err (NoneMade reason)) = answer ≡ Err reason
 Answers answer (Err NoMemory) = Unit {0}
 
 -- the same of lists of steps
-abbrev pub AnswersList : Result (List steps.Step) EditRefusal → Result (Vec Step Global) EditRefusal → Type 0
+abbrev pub AnswersList : Result (List steps.Step) NoStep → Result (Vec Step Global) MakeError → Type 0
 AnswersList answer (Ok made) = answer ≡ Ok (map step_of made.items)
-AnswersList answer (Err Range) = answer ≡ Err Range
-AnswersList answer (Err NotThere) = answer ≡ Err NotThere
-AnswersList answer (Err NoFit) = answer ≡ Err NoFit
+AnswersList answer (Err (NoneMade reason)) = answer ≡ Err reason
 AnswersList answer (Err NoMemory) = Unit {0}

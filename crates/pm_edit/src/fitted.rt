@@ -11,8 +11,8 @@ ghost use Rattle.pm_edit.specs.Edits.{fitted, insert_text, delete, paste, insert
 ghost use Rattle.pm_edit.specs.Ops.{Answers};
 
 use crate::places::{in_range, is_position, place_at};
-use crate::refusal::EditRefusal;
 use crate::slices::{node_slice, text_slice};
+use pm_change::{MakeError, NoStep};
 use pm_fit::fit;
 use pm_node::{Document, Node, Units};
 use pm_schema::Schema;
@@ -30,16 +30,16 @@ pub fn insert_text(
     from: u64,
     to: u64,
     text: &str,
-) -> Result<Step, EditRefusal>
+) -> Result<Step, MakeError>
     requires { Valid (documents_of schema.now.spec) doc.now }
     ensures { Answers (insert_text schema.now doc.now from to (utf16 text.now)) result }
 {
     if !in_range(doc, from, to) {
-        return Err(EditRefusal::Range);
+        return Err(MakeError::NoStep(NoStep::Range));
     }
     let units = Units::new(units_of(alloc, text)?);
     if from == to && units.len() == 0 {
-        return Err(EditRefusal::NotThere);
+        return Err(MakeError::NoStep(NoStep::NotThere));
     }
     fit_text(alloc, schema, doc, from, to, &units)
 }
@@ -52,15 +52,15 @@ pub fn delete(
     doc: &Document,
     from: u64,
     to: u64,
-) -> Result<Step, EditRefusal>
+) -> Result<Step, MakeError>
     requires { Valid (documents_of schema.now.spec) doc.now }
     ensures { Answers (delete schema.now doc.now from to) result }
 {
     if !in_range(doc, from, to) {
-        return Err(EditRefusal::Range);
+        return Err(MakeError::NoStep(NoStep::Range));
     }
     if from == to {
-        return Err(EditRefusal::NotThere);
+        return Err(MakeError::NoStep(NoStep::NotThere));
     }
     fit_in(alloc, schema, doc, from, to, &Slice::empty(alloc))
 }
@@ -74,15 +74,15 @@ pub fn paste(
     from: u64,
     to: u64,
     slice: &Slice,
-) -> Result<Step, EditRefusal>
+) -> Result<Step, MakeError>
     requires { Valid (documents_of schema.now.spec) doc.now }
     ensures { Answers (paste schema.now doc.now from to slice.now) result }
 {
     if !in_range(doc, from, to) {
-        return Err(EditRefusal::Range);
+        return Err(MakeError::NoStep(NoStep::Range));
     }
     if from == to && slice.size() == 0 {
-        return Err(EditRefusal::NotThere);
+        return Err(MakeError::NoStep(NoStep::NotThere));
     }
     fit_in(alloc, schema, doc, from, to, slice)
 }
@@ -95,12 +95,12 @@ pub fn insert_node(
     doc: &Document,
     pos: u64,
     node: &Node,
-) -> Result<Step, EditRefusal>
+) -> Result<Step, MakeError>
     requires { Valid (documents_of schema.now.spec) doc.now }
     ensures { Answers (insert_node schema.now doc.now pos (node_tokens node.now)) result }
 {
     if !is_position(doc, pos) {
-        return Err(EditRefusal::Range);
+        return Err(MakeError::NoStep(NoStep::Range));
     }
     let slice = node_slice(alloc, node)?;
     fit_in(alloc, schema, doc, pos, pos, &slice)
@@ -114,7 +114,7 @@ fn fit_text(
     from: u64,
     to: u64,
     units: &Units,
-) -> Result<Step, EditRefusal>
+) -> Result<Step, MakeError>
     requires valid { Valid (documents_of schema.now.spec) doc.now }
     requires order { from ≤ to }
     requires within { to ≤ length doc.now.tokens }
@@ -134,7 +134,7 @@ fn fit_in(
     from: u64,
     to: u64,
     slice: &Slice,
-) -> Result<Step, EditRefusal>
+) -> Result<Step, MakeError>
     requires valid { Valid (documents_of schema.now.spec) doc.now }
     requires order { from ≤ to }
     requires within { to ≤ length doc.now.tokens }
@@ -142,6 +142,6 @@ fn fit_in(
 {
     match fit(alloc, schema, doc, from, to, slice)? {
         Some(step) => Ok(step),
-        None => Err(EditRefusal::NoFit),
+        None => Err(MakeError::NoStep(NoStep::NoFit)),
     }
 }

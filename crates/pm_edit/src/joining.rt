@@ -8,7 +8,7 @@ ghost use Rattle.pm_edit.specs.Edits.{join};
 ghost use Rattle.pm_edit.specs.Ops.{Answers};
 
 use crate::places::{depth_at, is_position};
-use crate::refusal::EditRefusal;
+use pm_change::{MakeError, NoStep};
 use pm_node::Document;
 use pm_schema::Schema;
 use pm_slice::Slice;
@@ -23,20 +23,20 @@ pub fn join(
     doc: &Document,
     pos: u64,
     depth: u64,
-) -> Result<Step, EditRefusal>
+) -> Result<Step, MakeError>
     requires { Valid (documents_of schema.now.spec) doc.now }
     ensures { Answers (join doc.now pos depth) result }
 {
     let _ = schema;
     if !is_position(doc, pos) {
-        return Err(EditRefusal::Range);
+        return Err(MakeError::NoStep(NoStep::Range));
     }
     if depth == 0 {
-        return Err(EditRefusal::NotThere);
+        return Err(MakeError::NoStep(NoStep::NotThere));
     }
     let met = meet(alloc, doc, pos, depth)?;
     if !met {
-        return Err(EditRefusal::NotThere);
+        return Err(MakeError::NoStep(NoStep::NotThere));
     }
     Ok(Step::Replace(ReplaceStep {
         from: pos - depth,

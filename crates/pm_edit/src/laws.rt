@@ -1,18 +1,11 @@
 //! Laws of ops. Each call does nothing; its contract is the law.
-ghost use Rattle.pm_edit.specs.Laws.{MakesSome, NeedsNoMemory};
+ghost use Rattle.pm_edit.specs.Laws.{MakesSome};
 
 use pm_schema::Schema;
 
-/// An op gives at least one step, or a refusal.
+/// An op gives at least one step, or it is told why not.
 pub fn makes_some(schema: &Schema)
     ensures { MakesSome schema.now }
-{
-    let _ = schema;
-}
-
-/// No op means that memory runs out: that comes of the call alone.
-pub fn needs_no_memory(schema: &Schema)
-    ensures { NeedsNoMemory schema.now }
 {
     let _ = schema;
 }

@@ -6,7 +6,7 @@ ghost use Rattle.pm_edit.specs.Ops.{Answers};
 
 use crate::nodes::node_at;
 use crate::places::is_position;
-use crate::refusal::EditRefusal;
+use pm_change::{MakeError, NoStep};
 use pm_node::Document;
 use pm_schema::Schema;
 use pm_slice::Slice;
@@ -15,16 +15,16 @@ use std::alloc::Global;
 
 /// Puts the content of the node that begins at a position in its place. `Range` comes exactly where the position passes the
 /// size, and `NotThere` where no node begins there, or a leaf or a text does.
-pub fn lift(alloc: Global, schema: &Schema, doc: &Document, pos: u64) -> Result<Step, EditRefusal>
+pub fn lift(alloc: Global, schema: &Schema, doc: &Document, pos: u64) -> Result<Step, MakeError>
     requires { Valid (documents_of schema.now.spec) doc.now }
     ensures { Answers (lift doc.now pos) result }
 {
     let _ = schema;
     if !is_position(doc, pos) {
-        return Err(EditRefusal::Range);
+        return Err(MakeError::NoStep(NoStep::Range));
     }
     match node_at(alloc, doc, pos)? {
         Some(found) => Ok(found.replaced(pos, Slice::empty(alloc), 0)),
-        None => Err(EditRefusal::NotThere),
+        None => Err(MakeError::NoStep(NoStep::NotThere)),
     }
 }

@@ -5,8 +5,8 @@ ghost use Rattle.pm_edit.specs.Edits.{add_mark, remove_mark};
 ghost use Rattle.pm_edit.specs.Ops.{Answers};
 
 use crate::places::in_range;
-use crate::refusal::EditRefusal;
 use pm_attrs::Attrs;
+use pm_change::{MakeError, NoStep};
 use pm_marks::Mark;
 use pm_node::Document;
 use pm_schema::Schema;
@@ -22,16 +22,16 @@ pub fn add_mark(
     from: u64,
     to: u64,
     mark: &Mark<Attrs>,
-) -> Result<Step, EditRefusal>
+) -> Result<Step, MakeError>
     requires { Valid (documents_of schema.now.spec) doc.now }
     ensures { Answers (add_mark doc.now from to mark.now) result }
 {
     let _ = schema;
     if !in_range(doc, from, to) {
-        return Err(EditRefusal::Range);
+        return Err(MakeError::NoStep(NoStep::Range));
     }
     if from == to {
-        return Err(EditRefusal::NotThere);
+        return Err(MakeError::NoStep(NoStep::NotThere));
     }
     let marking = Marking::Add(mark.copy(alloc)?);
     Ok(Step::Mark(MarkStep { from, to, marking }))
@@ -46,16 +46,16 @@ pub fn remove_mark(
     from: u64,
     to: u64,
     mark: &Mark<Attrs>,
-) -> Result<Step, EditRefusal>
+) -> Result<Step, MakeError>
     requires { Valid (documents_of schema.now.spec) doc.now }
     ensures { Answers (remove_mark doc.now from to mark.now) result }
 {
     let _ = schema;
     if !in_range(doc, from, to) {
-        return Err(EditRefusal::Range);
+        return Err(MakeError::NoStep(NoStep::Range));
     }
     if from == to {
-        return Err(EditRefusal::NotThere);
+        return Err(MakeError::NoStep(NoStep::NotThere));
     }
     let marking = Marking::Remove(mark.copy(alloc)?);
     Ok(Step::Mark(MarkStep { from, to, marking }))

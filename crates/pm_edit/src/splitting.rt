@@ -8,8 +8,8 @@ ghost use Rattle.pm_edit.specs.Edits.{split};
 ghost use Rattle.pm_edit.specs.Ops.{Answers};
 
 use crate::places::{is_position, place_at};
-use crate::refusal::EditRefusal;
 use crate::slices::open_slice;
+use pm_change::{MakeError, NoStep};
 use pm_fit::push_hollow;
 use pm_node::{Document, Fragment};
 use pm_resolve::Place;
@@ -27,21 +27,21 @@ pub fn split(
     doc: &Document,
     pos: u64,
     depth: u64,
-) -> Result<Step, EditRefusal>
+) -> Result<Step, MakeError>
     requires { Valid (documents_of schema.now.spec) doc.now }
     ensures { Answers (split doc.now pos depth) result }
 {
     let _ = schema;
     if !is_position(doc, pos) {
-        return Err(EditRefusal::Range);
+        return Err(MakeError::NoStep(NoStep::Range));
     }
     if depth == 0 {
-        return Err(EditRefusal::NotThere);
+        return Err(MakeError::NoStep(NoStep::NotThere));
     }
     let place = place_at(alloc, doc, pos)?;
     let around = place.depth() as u64;
     if depth > around {
-        return Err(EditRefusal::NotThere);
+        return Err(MakeError::NoStep(NoStep::NotThere));
     }
     let slice = split_slice(alloc, &place, depth as usize)?;
     Ok(Step::Replace(ReplaceStep {

@@ -9,34 +9,34 @@ use crate::fitted::{delete, insert_node, insert_text, paste};
 use crate::joining::join;
 use crate::lifting::lift;
 use crate::marking::{add_mark, remove_mark};
-use crate::refusal::EditRefusal;
 use crate::splitting::split;
 use crate::typing::set_type;
 use crate::wrapping::wrap;
+use pm_change::MakeError;
 use pm_node::Document;
 use pm_ops::Op;
 use pm_schema::Schema;
 use pm_step::Step;
 use std::alloc::Global;
 
-/// The steps of an op on a document: exactly one, or the refusal of the op's edit. `Op::Step` gives its step.
+/// The steps of an op on a document: exactly one, or why the op's edit makes none. `Op::Step` gives its step.
 pub fn steps_for(
     alloc: Global,
     schema: &Schema,
     doc: &Document,
     op: &Op,
-) -> Result<Vec<Step>, EditRefusal>
+) -> Result<Vec<Step>, MakeError>
     requires { Valid (documents_of schema.now.spec) doc.now }
     ensures { AnswersList (steps_of schema.now doc.now op.now) result }
 {
     match step_for(alloc, schema, doc, op) {
         Ok(step) => list_of(alloc, step),
-        Err(refusal) => Err(refusal),
+        Err(error) => Err(error),
     }
 }
 
 /// A list of this one step.
-fn list_of(alloc: Global, step: Step) -> Result<Vec<Step>, EditRefusal>
+fn list_of(alloc: Global, step: Step) -> Result<Vec<Step>, MakeError>
     ensures { AnswersList (Ok (step_of step ∷ [])) result }
 {
     let mut steps = Vec::new(alloc);
@@ -45,7 +45,7 @@ fn list_of(alloc: Global, step: Step) -> Result<Vec<Step>, EditRefusal>
 }
 
 /// The step of the op's edit.
-fn step_for(alloc: Global, schema: &Schema, doc: &Document, op: &Op) -> Result<Step, EditRefusal>
+fn step_for(alloc: Global, schema: &Schema, doc: &Document, op: &Op) -> Result<Step, MakeError>
     requires { Valid (documents_of schema.now.spec) doc.now }
     ensures { Answers (answer_of schema.now doc.now op.now) result }
 {

@@ -7,9 +7,9 @@ ghost use Rattle.pm_edit.specs.Ops.{Answers};
 use crate::empty::{empty_node, is_leaf};
 use crate::nodes::node_at;
 use crate::places::is_position;
-use crate::refusal::EditRefusal;
 use pm_attrs::Attrs;
 use pm_auto::TypeId;
+use pm_change::{MakeError, NoStep};
 use pm_marks::Same;
 use pm_node::Document;
 use pm_schema::Schema;
@@ -26,15 +26,15 @@ pub fn set_type(
     pos: u64,
     kind: TypeId,
     attrs: &Attrs,
-) -> Result<Step, EditRefusal>
+) -> Result<Step, MakeError>
     requires { Valid (documents_of schema.now.spec) doc.now }
     ensures { Answers (set_type schema.now doc.now pos kind attrs.now) result }
 {
     if !is_position(doc, pos) {
-        return Err(EditRefusal::Range);
+        return Err(MakeError::NoStep(NoStep::Range));
     }
     if is_leaf(schema, kind) {
-        return Err(EditRefusal::NotThere);
+        return Err(MakeError::NoStep(NoStep::NotThere));
     }
     match node_at(alloc, doc, pos)? {
         Some(found) => {
@@ -42,6 +42,6 @@ pub fn set_type(
             let slice = empty_node(alloc, kind, attrs, marks)?;
             Ok(found.replaced(pos, slice, 1))
         }
-        None => Err(EditRefusal::NotThere),
+        None => Err(MakeError::NoStep(NoStep::NotThere)),
     }
 }

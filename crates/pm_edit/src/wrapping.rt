@@ -6,9 +6,9 @@ ghost use Rattle.pm_edit.specs.Ops.{Answers};
 
 use crate::empty::{empty_node, is_leaf};
 use crate::places::{in_range, is_balanced};
-use crate::refusal::EditRefusal;
 use pm_attrs::Attrs;
 use pm_auto::TypeId;
+use pm_change::{MakeError, NoStep};
 use pm_marks::MarkSet;
 use pm_node::Document;
 use pm_schema::Schema;
@@ -25,23 +25,23 @@ pub fn wrap(
     to: u64,
     kind: TypeId,
     attrs: &Attrs,
-) -> Result<Step, EditRefusal>
+) -> Result<Step, MakeError>
     requires { Valid (documents_of schema.now.spec) doc.now }
     ensures { Answers (wrap schema.now doc.now from to kind attrs.now) result }
 {
     if !in_range(doc, from, to) {
-        return Err(EditRefusal::Range);
+        return Err(MakeError::NoStep(NoStep::Range));
     }
     if from == to {
-        return Err(EditRefusal::NotThere);
+        return Err(MakeError::NoStep(NoStep::NotThere));
     }
     let leaf = is_leaf(schema, kind);
     if leaf {
-        return Err(EditRefusal::NotThere);
+        return Err(MakeError::NoStep(NoStep::NotThere));
     }
     let balanced = is_balanced(alloc, doc, from, to)?;
     if !balanced {
-        return Err(EditRefusal::NotThere);
+        return Err(MakeError::NoStep(NoStep::NotThere));
     }
     let slice = empty_node(alloc, kind, attrs, MarkSet::empty(alloc))?;
     Ok(Step::ReplaceAround(ReplaceAroundStep {

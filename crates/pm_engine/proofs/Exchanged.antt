@@ -1,8 +1,9 @@
 -- What a client's edit, undo and exchange leave of its name, and how all stand after an exchange.
-use Rattle.std.specs.Prelude.{◌≡◌, ℕ, ◌+◌, true, false, List, Option, Some, None, Result, Ok, Err, IfOk, OnOk, OnErr}
+use Rattle.std.specs.Prelude.{◌≡◌, ℕ, ◌+◌, true, List, Option, Some, None, Result, Ok, Err, IfOk, OnOk, OnErr}
 use Rattle.std.proofs.Common.{sym, ap, ◌∙◌}
 use Rattle.pm_change.specs.Changes.{Meaning, Laws}
 use Rattle.pm_history.specs.declared.branch.Event.{Event}
+use Rattle.pm_history.specs.declared.direction.Direction.TheVariants.{Undo}
 use Rattle.pm_history.specs.Histories.{last_of}
 use Rattle.pm_authority.specs.declared.authority.Authority.{Authority}
 use Rattle.pm_authority.specs.declared.message.Answer.{Answer}
@@ -25,14 +26,14 @@ module _ {Rules Doc Reason C : Type 0} (m : Meaning Rules Doc Reason C) (rules :
   edit-name cs event (Ok n) made err = (edited-keeps m rules c cs event new made).name
   edit-name cs event (Err e) made err = ap (λ (x : Client C Rules Doc Reason). x.name) err
 
-  turn-name : (n : ℕ) (o : Option Event) → last_turned m rules c false o ≡ Some (n, new) → new.name ≡ c.name
+  turn-name : (n : ℕ) (o : Option Event) → last_turned m rules c Undo o ≡ Some (n, new) → new.name ≡ c.name
   turn-name n None h = absurd (cc)
   turn-name n (Some e) h =
-      let same : event_turned m rules c false e ≡ (n, new) = cc in
-      sym (ap (λ (p : ℕ × Client C Rules Doc Reason). p.1.name) same) ∙ (turned-keeps m rules c false e).name
+      let same : event_turned m rules c Undo e ≡ (n, new) = cc in
+      sym (ap (λ (p : ℕ × Client C Rules Doc Reason). p.1.name) same) ∙ (turned-keeps m rules c Undo e).name
 
   pub undo-name : {E : Type 0} (r : Result ℕ E) → IfOk r (λ n. undone_last m rules c ≡ Some (n, new)) → OnErr r (new ≡ c) → new.name ≡ c.name
-  undo-name (Ok n) undone err = turn-name n (last_of false c.history) undone
+  undo-name (Ok n) undone err = turn-name n (last_of Undo c.history) undone
   undo-name (Err e) undone err = ap (λ (x : Client C Rules Doc Reason). x.name) err
 
   pub take-name : {E : Type 0} (i name : ℕ) (r : Result Taken E) → IfOk r (λ t. (t, new) ≡ taken_at m rules c i) → c.name ≡ name → OnOk r (new.name ≡ name)

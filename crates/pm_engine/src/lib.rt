@@ -41,19 +41,19 @@ pub use pm_resolve::{Place, PlaceError, resolve};
 
 // Steps, where positions go over them, and what they make of documents.
 pub use pm_apply::DocChange;
-pub use pm_change::{Change, Failed};
+pub use pm_change::{Change, Failed, MakeError, NoStep};
 pub use pm_map::{Mapping, Moved, Recover, StepMap};
 pub use pm_replace::{Reason, replace};
 pub use pm_step::{MarkStep, Marking, NodeMarkStep, ReplaceAroundStep, ReplaceStep, Step};
 
 // Edits: what an editor asks for, the steps that do it, and a slice fitted to a place.
-pub use pm_edit::{EditRefusal, steps_for};
+pub use pm_edit::steps_for;
 pub use pm_fit::fit;
 pub use pm_ops::Op;
 
 // Working together: the authority with its log, the clients, what they send and what is answered.
 pub use pm_authority::{Answer, Authority, Message, Name, Named, Refusal, Request, copy_steps};
-pub use pm_client::{Client, CursorError, EditError, Kind, Taken, UndoError};
+pub use pm_client::{Client, Cursor, CursorError, EditError, Kind, Taken, UndoError};
 pub use pm_list::Listed;
 
 // The desk, at which threads share an authority.

@@ -8,6 +8,8 @@ use Rattle.pm_change.specs.Changes.{Meaning, Laws, fold}
 use Rattle.pm_history.specs.declared.item.Item.{Item}
 use Rattle.pm_history.specs.declared.branch.Event.{Event}
 use Rattle.pm_history.specs.declared.branches.Branches.{Branches}
+use Rattle.pm_history.specs.declared.direction.Direction.{Direction}
+use Rattle.pm_history.specs.declared.direction.Direction.TheVariants.{Undo, Redo}
 use Rattle.pm_history.specs.declared.undoing.Undone.{Undone}
 use Rattle.pm_history.specs.Items.{same_name, one_step}
 use Rattle.pm_history.specs.Histories.{holds, names_in, without_last, with_event, undone}
@@ -252,44 +254,44 @@ names-last : (es rest : List Event) (e : Event) → es ≡ rest ++ e ∷ [] → 
 names-last es rest e h = ap names_of h ∙ names-append rest (e ∷ []) ∙ ap (λ ns. names_of rest ++ ns) (append-nil e.names)
 
 -- the event that an undo takes, or a redo, is the last one of its branch
-abbrev pub IsLast : {C : Type 0} → Bool → Branches C → List Event → Event → Type 0
-IsLast false h rest e = h.undo ≡ rest ++ e ∷ []
-IsLast true h rest e = h.redo ≡ rest ++ e ∷ []
+abbrev pub IsLast : {C : Type 0} → Direction → Branches C → List Event → Event → Type 0
+IsLast Undo h rest e = h.undo ≡ rest ++ e ∷ []
+IsLast Redo h rest e = h.redo ≡ rest ++ e ∷ []
 
 module _ {Rules Doc Reason C : Type 0} (m : Meaning Rules Doc Reason C) (rules : Rules) where
   ties-of : (client serial : ℕ) (ns : List Name) (items : List (Item C)) (doc : Doc) (w : Undone Doc C) → w ≡ undo_event m rules client ns items doc serial
       → (P : Option Name → Type 0) → Each (λ n. P (Some n)) ns → Each (λ (j : Item C). P j.undoes) w.items
   ties-of client serial ns items doc w e P h = subst (λ (v : Undone Doc C). Each (λ (j : Item C). P j.undoes) v.items) (sym e) (event-ties m rules client P ns items doc serial h)
 
-  -- The last event was undone, or redone where `redo` holds, on the document behind the timeline: the steps made stand behind
-  -- it, and are an event of the other branch. Their names are new, and `more` is the last serial drawn.
-  pub history-undone : Laws m → (redo : Bool) (client drawn more serial : ℕ) (first doc : Doc) (steps : List (Step C)) (h : Branches C) (rest : List Event) (e made : Event) (w : Undone Doc C)
-      → m.is_good rules first → IsHistoryOf m rules client drawn first steps h → fold m rules first (changes_of steps) ≡ Some doc → IsLast redo h rest e
+  -- The last event was undone, or redone, on the document behind the timeline: the steps made stand behind it, and are an
+  -- event of the other branch. Their names are new, and `more` is the last serial drawn.
+  pub history-undone : Laws m → (way : Direction) (client drawn more serial : ℕ) (first doc : Doc) (steps : List (Step C)) (h : Branches C) (rest : List Event) (e made : Event) (w : Undone Doc C)
+      → m.is_good rules first → IsHistoryOf m rules client drawn first steps h → fold m rules first (changes_of steps) ≡ Some doc → IsLast way h rest e
       → drawn < serial → w ≡ undo_event m rules client e.names h.items doc serial → IsMade m rules client doc serial w → w.serial ≡ more + 1 → made.names ≡ names_in w.items
-      → IsHistoryOf m rules client more first (steps ++ made_steps client serial w.made w.items) (undone redo h made w.items)
-  history-undone laws false client drawn more serial first doc steps h rest e made w good k f last low is made_is count names =
+      → IsHistoryOf m rules client more first (steps ++ made_steps client serial w.made w.items) (undone way h made w.items)
+  history-undone laws Undo client drawn more serial first doc steps h rest e made w good k f last low is made_is count names =
       let live : live_names h ≡ (names_of rest ++ e.names) ++ names_of h.redo = ap (λ ns. ns ++ names_of h.redo) (names-last h.undo rest e last) in
       let split : IsSplit (live_names h) (names_of rest ++ names_of h.redo) [] e.names =
       split-undo (live_names h) (names_of rest) e.names (names_of h.redo) live k.tidy.differ in
-      let new : live_names (undone false h made w.items) ≡ ((names_of rest ++ names_of h.redo) ++ names_in w.items) ++ [] =
+      let new : live_names (undone Undo h made w.items) ≡ ((names_of rest ++ names_of h.redo) ++ names_in w.items) ++ [] =
       ap (λ es. names_of es ++ names_of (with_event h.redo made)) (names-without h.undo rest e last)
       ∙ ap (λ ns. names_of rest ++ ns) (names-with h.redo made (names_in w.items) names)
       ∙ sym (append_assoc (names_of rest) (names_of h.redo) (names_in w.items))
       ∙ sym (append-nil ((names_of rest ++ names_of h.redo) ++ names_in w.items)) in
       let shows = history-shows m rules laws (live_names h) first doc steps h.items good f k.remembers in
-      history-more m rules client drawn more serial first doc steps (made_steps client serial w.made w.items) h (undone false h made w.items) (names_of rest ++ names_of h.redo) [] e.names w.items
+      history-more m rules client drawn more serial first doc steps (made_steps client serial w.made w.items) h (undone Undo h made w.items) (names_of rest ++ names_of h.redo) [] e.names w.items
       k f split refl new made_is.items_are low (made-numbered m rules client doc w.doc serial w.made w.items made_is.as_many made_is.applies made_is.items_are)
       (omega (arith, made_is.as_many, made_is.serial_is, count)) (ties-of client serial e.names h.items doc w is)
       (subst (λ (v : Undone Doc C). Once v.items) (sym is) (event-once m rules client laws e.names h.items doc serial shows split.last_differ))
-  history-undone laws true client drawn more serial first doc steps h rest e made w good k f last low is made_is count names =
+  history-undone laws Redo client drawn more serial first doc steps h rest e made w good k f last low is made_is count names =
       let live : live_names h ≡ names_of h.undo ++ (names_of rest ++ e.names) = ap (λ ns. names_of h.undo ++ ns) (names-last h.redo rest e last) in
       let split : IsSplit (live_names h) (names_of h.undo) (names_of rest) e.names =
       split-redo (live_names h) (names_of h.undo) (names_of rest) e.names live k.tidy.differ in
-      let new : live_names (undone true h made w.items) ≡ (names_of h.undo ++ names_in w.items) ++ names_of rest =
+      let new : live_names (undone Redo h made w.items) ≡ (names_of h.undo ++ names_in w.items) ++ names_of rest =
       ap (λ es. names_of (with_event h.undo made) ++ names_of es) (names-without h.redo rest e last)
       ∙ ap (λ ns. ns ++ names_of rest) (names-with h.undo made (names_in w.items) names) in
       let shows = history-shows m rules laws (live_names h) first doc steps h.items good f k.remembers in
-      history-more m rules client drawn more serial first doc steps (made_steps client serial w.made w.items) h (undone true h made w.items) (names_of h.undo) (names_of rest) e.names w.items
+      history-more m rules client drawn more serial first doc steps (made_steps client serial w.made w.items) h (undone Redo h made w.items) (names_of h.undo) (names_of rest) e.names w.items
       k f split refl new made_is.items_are low (made-numbered m rules client doc w.doc serial w.made w.items made_is.as_many made_is.applies made_is.items_are)
       (omega (arith, made_is.as_many, made_is.serial_is, count)) (ties-of client serial e.names h.items doc w is)
       (subst (λ (v : Undone Doc C). Once v.items) (sym is) (event-once m rules client laws e.names h.items doc serial shows split.last_differ))

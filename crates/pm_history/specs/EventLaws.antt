@@ -5,6 +5,7 @@ use Rattle.pm_history.specs.declared.item.Item.{Item}
 use Rattle.pm_history.specs.declared.branch.Event.{Event}
 use Rattle.pm_history.specs.declared.branches.Branches.{Branches}
 use Rattle.pm_history.specs.declared.branches.Side.TheVariants.{Edit}
+use Rattle.pm_history.specs.declared.direction.Direction.TheVariants.{Undo, Redo}
 use Rattle.pm_history.specs.Histories.{event_of, names_in, recorded, undone}
 
 -- the edit has a number, and the event has the same
@@ -34,14 +35,14 @@ module _ {C : Type 0} (h : Branches C) where
   pub record MovesEvents (items : List (Item C)) : Type 0 where
     -- the last event to undo is gone, and no event is open
     pub left : (rest : List Event) (e : Event) → h.undo ≡ rest ++ e ∷ []
-        → ((undone false h (event_of e.number (names_in items)) items).undo ≡ rest) × ((undone false h (event_of e.number (names_in items)) items).is_open ≡ false)
+        → ((undone Undo h (event_of e.number (names_in items)) items).undo ≡ rest) × ((undone Undo h (event_of e.number (names_in items)) items).is_open ≡ false)
     -- where steps were made, an event of these steps with its number is the last one to redo; where none was, there is none more
     pub moved : (e : Event) (n : Name) (ns : List Name) → names_in items ≡ n ∷ ns
-        → (undone false h (event_of e.number (names_in items)) items).redo ≡ h.redo ++ event_of e.number (n ∷ ns) ∷ []
-    pub lost : (e : Event) → names_in items ≡ [] → (undone false h (event_of e.number (names_in items)) items).redo ≡ h.redo
+        → (undone Undo h (event_of e.number (names_in items)) items).redo ≡ h.redo ++ event_of e.number (n ∷ ns) ∷ []
+    pub lost : (e : Event) → names_in items ≡ [] → (undone Undo h (event_of e.number (names_in items)) items).redo ≡ h.redo
     -- the same of a redo, with the events to undo and to redo exchanged
     pub left_redo : (rest : List Event) (e : Event) → h.redo ≡ rest ++ e ∷ []
-        → ((undone true h (event_of e.number (names_in items)) items).redo ≡ rest) × ((undone true h (event_of e.number (names_in items)) items).is_open ≡ false)
+        → ((undone Redo h (event_of e.number (names_in items)) items).redo ≡ rest) × ((undone Redo h (event_of e.number (names_in items)) items).is_open ≡ false)
     pub moved_back : (e : Event) (n : Name) (ns : List Name) → names_in items ≡ n ∷ ns
-        → (undone true h (event_of e.number (names_in items)) items).undo ≡ h.undo ++ event_of e.number (n ∷ ns) ∷ []
-    pub lost_redo : (e : Event) → names_in items ≡ [] → (undone true h (event_of e.number (names_in items)) items).undo ≡ h.undo
+        → (undone Redo h (event_of e.number (names_in items)) items).undo ≡ h.undo ++ event_of e.number (n ∷ ns) ∷ []
+    pub lost_redo : (e : Event) → names_in items ≡ [] → (undone Redo h (event_of e.number (names_in items)) items).undo ≡ h.undo

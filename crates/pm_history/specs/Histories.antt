@@ -6,8 +6,10 @@ use Rattle.pm_map.specs.declared.mapping.Mirrored.{Mirrored}
 use Rattle.pm_history.specs.declared.item.Item.{Item}
 use Rattle.pm_history.specs.declared.branch.Event.{Event}
 use Rattle.pm_history.specs.declared.branches.Side.{Side}
-use Rattle.pm_history.specs.declared.branches.Side.TheVariants.{Edit, Undo, Redo}
+use Rattle.pm_history.specs.declared.branches.Side.TheVariants as side
 use Rattle.pm_history.specs.declared.branches.Branches.{Branches}
+use Rattle.pm_history.specs.declared.direction.Direction.{Direction}
+use Rattle.pm_history.specs.declared.direction.Direction.TheVariants.{Undo, Redo}
 use Rattle.pm_history.specs.Items.{one_step, foreign_item}
 use Rattle.pm_history.specs.Pairs.{paired}
 
@@ -98,9 +100,9 @@ module _ {C : Type 0} where
   -- Steps of an edit stand in the last event to undo, which is open then, and empty the redo branch. Steps of an undo stand
   -- in the last event to redo, and those of a redo in the last event to undo; both leave no event open.
   abbrev pub recorded : Branches C → List Name → Side → Branches C
-  recorded h ns (Edit event first) = record h { undo = put_event (opens h event first) event h.undo ns; redo = []; is_open = true }
-  recorded h ns (Undo event first) = record h { redo = put_event first event h.redo ns; is_open = false }
-  recorded h ns (Redo event first) = record h { undo = put_event first event h.undo ns; is_open = false }
+  recorded h ns (side.Edit event first) = record h { undo = put_event (opens h event first) event h.undo ns; redo = []; is_open = true }
+  recorded h ns (side.Undo event first) = record h { redo = put_event first event h.redo ns; is_open = false }
+  recorded h ns (side.Redo event first) = record h { undo = put_event first event h.undo ns; is_open = false }
 
   -- the names of these items; a foreign step has none
   abbrev pub names_in : List (Item C) → List Name
@@ -109,16 +111,16 @@ module _ {C : Type 0} where
 
   -- no step, nothing new
   abbrev pub recorded_where : Branches C → List Name → Side → Branches C
-  recorded_where h [] side = h
-  recorded_where h (n ∷ ns) side = recorded h (n ∷ ns) side
+  recorded_where h [] call = h
+  recorded_where h (n ∷ ns) call = recorded h (n ∷ ns) call
 
   -- own steps of one call
   abbrev pub noted_all : Branches C → List (Item C) → Side → Branches C
-  noted_all h is side = record (recorded_where h (names_in is) side) { items = h.items ++ is }
+  noted_all h is call = record (recorded_where h (names_in is) call) { items = h.items ++ is }
 
   -- one own step
   abbrev pub noted_own : Branches C → Item C → Side → Branches C
-  noted_own h i side = noted_all h (i ∷ []) side
+  noted_own h i call = noted_all h (i ∷ []) call
 
   -- the last items
   abbrev pub last_items : ℕ → List (Item C) → List (Item C)
@@ -134,26 +136,26 @@ module _ {C : Type 0} where
   }
 
   -- The branch has lost its last event, which is this one, and no event is open. None: it has no event, and nothing changes.
-  abbrev pub IsPopped : Bool → Branches C → Option Event → Branches C → Type 0
-  IsPopped true old (Some e) new = (old.redo ≡ new.redo ++ e ∷ []) × (new.undo ≡ old.undo) × (new.items ≡ old.items) × (new.is_open ≡ false)
-  IsPopped false old (Some e) new = (old.undo ≡ new.undo ++ e ∷ []) × (new.redo ≡ old.redo) × (new.items ≡ old.items) × (new.is_open ≡ false)
-  IsPopped true old None new = (old.redo ≡ []) × (new ≡ old)
-  IsPopped false old None new = (old.undo ≡ []) × (new ≡ old)
+  abbrev pub IsPopped : Direction → Branches C → Option Event → Branches C → Type 0
+  IsPopped Redo old (Some e) new = (old.redo ≡ new.redo ++ e ∷ []) × (new.undo ≡ old.undo) × (new.items ≡ old.items) × (new.is_open ≡ false)
+  IsPopped Undo old (Some e) new = (old.undo ≡ new.undo ++ e ∷ []) × (new.redo ≡ old.redo) × (new.items ≡ old.items) × (new.is_open ≡ false)
+  IsPopped Redo old None new = (old.redo ≡ []) × (new ≡ old)
+  IsPopped Undo old None new = (old.undo ≡ []) × (new ≡ old)
 
-  -- the last event to undo, or to redo where `redo` holds
-  abbrev pub last_of : Bool → Branches C → Option Event
-  last_of false h = last_event h.undo
-  last_of true h = last_event h.redo
+  -- the last event to undo, or to redo
+  abbrev pub last_of : Direction → Branches C → Option Event
+  last_of Undo h = last_event h.undo
+  last_of Redo h = last_event h.redo
 
-  -- An event passes over: the last event of the undo branch is gone, or where `redo` holds that of the redo branch, and this
-  -- one, unless it has no step, is an event of the other branch. No event is open.
-  abbrev pub turned : Bool → Branches C → Event → Branches C
-  turned false h e = record h { undo = without_last h.undo; redo = with_event h.redo e; is_open = false }
-  turned true h e = record h { undo = with_event h.undo e; redo = without_last h.redo; is_open = false }
+  -- An event passes over: the last event to undo, or to redo, is gone, and this one, unless it has no step, is an event of
+  -- the other branch. No event is open.
+  abbrev pub turned : Direction → Branches C → Event → Branches C
+  turned Undo h e = record h { undo = without_last h.undo; redo = with_event h.redo e; is_open = false }
+  turned Redo h e = record h { undo = with_event h.undo e; redo = without_last h.redo; is_open = false }
 
-  -- The last event was undone, or redone where `redo` holds, by the steps of these items. They are the event e.
-  abbrev pub undone : Bool → Branches C → Event → List (Item C) → Branches C
-  undone redo h e items = record (turned redo h e) { items = h.items ++ items }
+  -- The last event was undone, or redone, by the steps of these items. They are the event e.
+  abbrev pub undone : Direction → Branches C → Event → List (Item C) → Branches C
+  undone way h e items = record (turned way h e) { items = h.items ++ items }
 
   -- the maps behind an item that was found
   abbrev pub later_of : Option (Item C × List (Item C)) → Option (List Mirrored)

@@ -6,6 +6,7 @@ ghost use Rattle.pm_history.specs.Pairs.{paired};
 ghost use Rattle.pm_history.specs.Undos.{find};
 
 use crate::branch::{Branch, Event};
+use crate::direction::Direction;
 use crate::dropped::{any_dropped, foreign_items, without_dropped};
 use crate::item::Item;
 use crate::lane::paired;
@@ -207,27 +208,25 @@ impl<C> Branches<C> {
         self.items.replace_last(gone, Listed::from_vec(behind))
     }
 
-    /// The last event to undo, or to redo where `redo` holds. None exactly where there is none.
-    pub fn last(&self, redo: bool) -> Option<&Event>
-        ensures none { IsSome result ↔ IsSome (last_of redo self.now) }
-        ensures value { IfSome result (λ e. last_of redo self.now ≡ Some e.now) }
+    /// The last event to undo, or to redo. None exactly where there is none.
+    pub fn last(&self, direction: Direction) -> Option<&Event>
+        ensures none { IsSome result ↔ IsSome (last_of direction self.now) }
+        ensures value { IfSome result (λ e. last_of direction self.now ≡ Some e.now) }
     {
-        if redo {
-            self.redo.last()
-        } else {
-            self.undo.last()
+        match direction {
+            Direction::Undo => self.undo.last(),
+            Direction::Redo => self.redo.last(),
         }
     }
 
-    /// Takes the last event out, of the redo branch where `redo` holds and else of the undo branch, and closes the open event.
-    /// None exactly where the branch has no event, and then nothing changes. It takes no memory.
-    pub fn pop(&mut self, redo: bool) -> Option<Event>
-        ensures { IsPopped redo self.old result self.new }
+    /// Takes the last event to undo, or to redo, out of its branch, and closes the open event. None exactly where the branch
+    /// has no event, and then nothing changes. It takes no memory.
+    pub fn pop(&mut self, direction: Direction) -> Option<Event>
+        ensures { IsPopped direction self.old result self.new }
     {
-        let popped = if redo {
-            self.redo.pop()
-        } else {
-            self.undo.pop()
+        let popped = match direction {
+            Direction::Undo => self.undo.pop(),
+            Direction::Redo => self.redo.pop(),
         };
         if popped.is_some() {
             self.is_open = false;
@@ -235,23 +234,22 @@ impl<C> Branches<C> {
         popped
     }
 
-    /// The last event was undone, or redone where `redo` holds: it leaves its branch, `items` are behind the timeline, and
-    /// `made`, unless it has no step, is an event of the other branch. No event is open then. For want of memory nothing
-    /// changes.
+    /// The last event was undone, or redone: it leaves its branch, `items` are behind the timeline, and `made`, unless it has
+    /// no step, is an event of the other branch. No event is open then. For want of memory nothing changes.
     pub fn undone(
         &mut self,
-        redo: bool,
+        direction: Direction,
         made: Event,
         items: Listed<Item<C>>,
     ) -> Result<(), AllocError>
     where
         C: Drop,
-        ensures ok { OnOk result (self.new ≡ undone redo self.old made items) }
+        ensures ok { OnOk result (self.new ≡ undone direction self.old made items) }
         ensures err { OnErr result (self.new ≡ self.old) }
     {
         let count = self.items.len();
         self.items.append(items)?;
-        match self.turn(redo, made) {
+        match self.turn(direction, made) {
             Ok(()) => Ok(()),
             Err(AllocError) => {
                 self.items.truncate(count);
@@ -260,20 +258,23 @@ impl<C> Branches<C> {
         }
     }
 
-    fn turn(&mut self, redo: bool, made: Event) -> Result<(), AllocError>
-        ensures ok { OnOk result (self.new ≡ turned redo self.old made) }
+    fn turn(&mut self, direction: Direction, made: Event) -> Result<(), AllocError>
+        ensures ok { OnOk result (self.new ≡ turned direction self.old made) }
         ensures err { OnErr result (self.new ≡ self.old) }
     {
-        if redo {
-            self.undo.add(made)?;
-            self.redo.drop_last();
-            self.is_open = false;
-            Ok(())
-        } else {
-            self.redo.add(made)?;
-            self.undo.drop_last();
-            self.is_open = false;
-            Ok(())
+        match direction {
+            Direction::Undo => {
+                self.redo.add(made)?;
+                self.undo.drop_last();
+                self.is_open = false;
+                Ok(())
+            }
+            Direction::Redo => {
+                self.undo.add(made)?;
+                self.redo.drop_last();
+                self.is_open = false;
+                Ok(())
+            }
         }
     }
 

@@ -7,6 +7,7 @@
 
 mod branch;
 mod branches;
+mod direction;
 mod dropped;
 mod item;
 mod lane;
@@ -17,6 +18,7 @@ mod undoing;
 
 pub use branch::{Branch, Event};
 pub use branches::{Branches, Side, names_in};
+pub use direction::Direction;
 pub use item::Item;
 pub use tied::tie;
 pub use undoing::{Undone, undo_event};

@@ -20,7 +20,7 @@ use Rattle.pm_ops.specs.declared.op.Op.{Op}
 use Rattle.pm_session.specs.declared.line.Line.{Line}
 use Rattle.pm_session.specs.declared.line.Act.{Act}
 use Rattle.pm_session.specs.declared.line.Act.TheVariants.{Edit, Undo, Redo, Cursor, Submit, Ask, Present, Take, Push, Pull, Forge}
-use Rattle.pm_session.specs.Suits.{is_forge, NamesOneOf, composed_by, answered_by, Suits, AllSuit}
+use Rattle.pm_session.specs.Suits.{is_forge, names_one, NamesOneOf, composed_by, answered_by, Suits, AllSuit}
 use Rattle.pm_script.specs.declared.kinds.EditKind.{EditKind}
 use Rattle.pm_script.specs.declared.word.Word.{Word}
 use Rattle.pm_script.specs.declared.word.Word.TheVariants as word
@@ -28,7 +28,7 @@ use Rattle.pm_script.specs.Fields.{text_in, number_in, lost_in, is_side, as_side
 use Rattle.pm_script.specs.Words.{may_say}
 use Rattle.pm_script.specs.Ops.{op_of}
 use Rattle.pm_script.specs.Parts.{steps_in}
-use Rattle.pm_script.specs.Acts.{edit_in, cursor_in, forge_in, act_in, names_one}
+use Rattle.pm_script.specs.Acts.{edit_in, cursor_in, forge_in, act_in}
 use Rattle.pm_script.specs.declared.lines.TheConstants.{LAST_LINE}
 use Rattle.pm_script.specs.Lines.{client_in, word_in, cursors_by, is_raw, said, named, op_in, op_line}
 use Rattle.pm_script.specs.Sessions.{at_line, ops_of}

@@ -1,5 +1,5 @@
 -- What an op line does, by its word. Its fields are read in the order in which they stand here.
-use Rattle.std.specs.Prelude.{ℕ, Bool, ◌&&◌, nat_lt, nat_le, true, false, codes, Result, Ok}
+use Rattle.std.specs.Prelude.{codes, Result, Ok}
 use Rattle.serde_json.specs.Data.{Data}
 use Rattle.pm_list.specs.Readings.{◌>>=◌}
 use Rattle.pm_schema.specs.declared.spec.SchemaSpec.{SchemaSpec}
@@ -49,31 +49,3 @@ act_in s word.Take d = number_in (codes "answer") d >>= (λ n. Ok (Take n))
 act_in s word.Push d = lost_in d >>= (λ lost. Ok (Push lost))
 act_in s word.Pull d = lost_in d >>= (λ lost. Ok (Pull lost))
 act_in s word.Forge d = forge_in s d
-
--- an act that names a message or an answer names one of so many
-abbrev pub names_one : ℕ → ℕ → Act Op Step → Bool
-names_one messages answers (Edit op event) = true
-names_one messages answers Undo = true
-names_one messages answers Redo = true
-names_one messages answers (Cursor at side) = true
-names_one messages answers Submit = true
-names_one messages answers Ask = true
-names_one messages answers (Present j) = nat_lt 0 j && nat_le j messages
-names_one messages answers (Take n) = nat_lt 0 n && nat_le n answers
-names_one messages answers (Push lost) = true
-names_one messages answers (Pull lost) = true
-names_one messages answers (Forge version steps) = true
-
--- an act that sets a cursor
-abbrev pub sets_one : Act Op Step → Bool
-sets_one (Edit op event) = false
-sets_one Undo = false
-sets_one Redo = false
-sets_one (Cursor at side) = true
-sets_one Submit = false
-sets_one Ask = false
-sets_one (Present j) = false
-sets_one (Take n) = false
-sets_one (Push lost) = false
-sets_one (Pull lost) = false
-sets_one (Forge version steps) = false

@@ -13,12 +13,12 @@ use Rattle.pm_meaning.specs.Steps.{Step}
 use Rattle.pm_ops.specs.declared.op.Op.{Op}
 use Rattle.pm_session.specs.declared.line.Act.{Act}
 use Rattle.pm_session.specs.declared.line.Line.{Line}
-use Rattle.pm_session.specs.Suits.{done_by, composed_by, answered_by}
+use Rattle.pm_session.specs.Suits.{sets_one, names_one, done_by, composed_by, answered_by}
 use Rattle.pm_script.specs.declared.lines.TheConstants.{LAST_LINE}
 use Rattle.pm_script.specs.declared.word.Word.{Word}
 use Rattle.pm_script.specs.Words.{word_named, may_say}
 use Rattle.pm_script.specs.Fields.{text_in}
-use Rattle.pm_script.specs.Acts.{act_in, names_one, sets_one}
+use Rattle.pm_script.specs.Acts.{act_in}
 
 -- the place of the client that `c` names
 abbrev pub client_in : List ClientEntry → Data → Result ℕ Code

@@ -1,8 +1,7 @@
 //! What op lines do.
-ghost use Rattle.std.specs.Prelude.{◌≡◌};
 ghost use Rattle.serde_json.specs.View.{view};
 ghost use Rattle.pm_head.specs.Answers.{Gives};
-ghost use Rattle.pm_script.specs.Acts.{edit_in, cursor_in, forge_in, act_in, names_one, sets_one};
+ghost use Rattle.pm_script.specs.Acts.{edit_in, cursor_in, forge_in, act_in};
 
 use crate::fields::{event_in, lost_in, number_in, side_in};
 use crate::kinds::EditKind;
@@ -86,48 +85,4 @@ fn forge_in(alloc: Global, schema: &Schema, json: &Value) -> Result<Act<Op, DocC
     let version = number_in(json, "version")?;
     let steps = steps_in(alloc, schema, json)?;
     Ok(Act::Forge { version, steps })
-}
-
-/// Whether an act that names a message or an answer names one of so many.
-pub(crate) fn names_one(messages: u64, answers: u64, act: &Act<Op, DocChange>) -> bool
-    ensures { result ≡ names_one messages answers act.now }
-{
-    match act {
-        Act::Present { message } => 0 < *message && *message <= messages,
-        Act::Take { answer } => 0 < *answer && *answer <= answers,
-        Act::Edit { op: _, event: _ }
-        | Act::Undo
-        | Act::Redo
-        | Act::Cursor { pos: _, side: _ }
-        | Act::Submit
-        | Act::Ask
-        | Act::Push { lost: _ }
-        | Act::Pull { lost: _ }
-        | Act::Forge {
-            version: _,
-            steps: _,
-        } => true,
-    }
-}
-
-/// Whether an act sets a cursor.
-pub(crate) fn sets_one(act: &Act<Op, DocChange>) -> bool
-    ensures { result ≡ sets_one act.now }
-{
-    match act {
-        Act::Cursor { pos: _, side: _ } => true,
-        Act::Edit { op: _, event: _ }
-        | Act::Undo
-        | Act::Redo
-        | Act::Submit
-        | Act::Ask
-        | Act::Present { message: _ }
-        | Act::Take { answer: _ }
-        | Act::Push { lost: _ }
-        | Act::Pull { lost: _ }
-        | Act::Forge {
-            version: _,
-            steps: _,
-        } => false,
-    }
 }

@@ -1,12 +1,11 @@
 //! The op lines read so far.
 ghost use Rattle.std.specs.Prelude.{◌≡◌, ◌<◌, ◌+◌, ◌^◌, ◌++◌, ◌∷◌, [], ℕ, length, vec_len, slice_index, slice_set, if◌then◌else◌, IfOk, OnOk};
-ghost use Rattle.pm_session.specs.Suits.{composes_one, gets_one, composed_by, answered_by};
+ghost use Rattle.pm_session.specs.Suits.{composed_by, answered_by};
 ghost use Rattle.pm_script.specs.Lines.{cursors_by};
 
-use crate::acts::sets_one;
 use pm_apply::DocChange;
 use pm_ops::Op;
-use pm_session::{Act, Line};
+use pm_session::Line;
 use std::alloc::{AllocError, Global};
 
 /// The op lines read so far, with how many messages each client composed on them, how many answers it
@@ -75,12 +74,12 @@ impl Earlier {
         ensures cursors { vec_len self.new.cursors ≡ vec_len self.old.cursors }
     {
         let client = line.client as usize;
-        let composes = composes_one(&line.act);
-        let gets = gets_one(&line.act);
-        let sets = sets_one(&line.act);
+        let composes = line.act.composes();
+        let answers = line.act.answers();
+        let sets = line.act.sets_cursor();
         self.lines.push(line)?;
         count(&mut self.composed, client, composes);
-        count(&mut self.answered, client, gets);
+        count(&mut self.answered, client, answers);
         count(&mut self.cursors, client, sets);
         Ok(())
     }
@@ -95,44 +94,5 @@ fn count(counts: &mut Vec<u64>, client: usize, more: bool)
 {
     if more {
         counts[client] += 1;
-    }
-}
-
-/// Whether an act composes a message.
-fn composes_one(act: &Act<Op, DocChange>) -> bool
-    ensures { result ≡ composes_one act.now }
-{
-    match act {
-        Act::Submit | Act::Ask | Act::Push { lost: _ } | Act::Pull { lost: _ } => true,
-        Act::Edit { op: _, event: _ }
-        | Act::Undo
-        | Act::Redo
-        | Act::Cursor { pos: _, side: _ }
-        | Act::Present { message: _ }
-        | Act::Take { answer: _ }
-        | Act::Forge {
-            version: _,
-            steps: _,
-        } => false,
-    }
-}
-
-/// Whether an act gets an answer.
-fn gets_one(act: &Act<Op, DocChange>) -> bool
-    ensures { result ≡ gets_one act.now }
-{
-    match act {
-        Act::Present { message: _ } | Act::Push { lost: _ } | Act::Pull { lost: _ } => true,
-        Act::Edit { op: _, event: _ }
-        | Act::Undo
-        | Act::Redo
-        | Act::Cursor { pos: _, side: _ }
-        | Act::Submit
-        | Act::Ask
-        | Act::Take { answer: _ }
-        | Act::Forge {
-            version: _,
-            steps: _,
-        } => false,
     }
 }

@@ -5,7 +5,7 @@ ghost use Rattle.serde_json.specs.View.{view};
 ghost use Rattle.pm_head.specs.Answers.{Gives};
 ghost use Rattle.pm_script.specs.Lines.{client_in, word_in, is_raw, said, named, op_in, op_line};
 
-use crate::acts::{act_in, names_one};
+use crate::acts::act_in;
 use crate::earlier::Earlier;
 use crate::fields::text_in;
 use crate::word::Word;
@@ -143,7 +143,7 @@ fn named(
     requires answered { client < vec_len earlier.now.answered }
     ensures { Gives (λ a. a) result (named earlier.now.lines.items client act) }
 {
-    if names_one(earlier.composed(client), earlier.answered(client), &act) {
+    if act.names(earlier.composed(client), earlier.answered(client)) {
         Ok(act)
     } else {
         Err(LineError::Code(Code::NoSuchMessage))

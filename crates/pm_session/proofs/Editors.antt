@@ -2,6 +2,8 @@
 use Rattle.std.specs.Prelude.{◌≡◌, ◌⊎◌, Bool, List, Option, Some, None, Result, refl}
 use Rattle.std.proofs.Common.{ap, ◌∙◌, inl, inr}
 use Rattle.pm_change.specs.Changes.{Meaning}
+use Rattle.pm_change.specs.declared.no_step.NoStep.{NoStep}
+use Rattle.pm_change.specs.declared.no_step.NoStep.TheVariants.{NotThere}
 use Rattle.pm_authority.specs.declared.message.Message.{Message}
 use Rattle.pm_authority.specs.declared.message.Answer.{Answer}
 use Rattle.pm_authority.specs.declared.authority.Authority.{Authority}
@@ -14,9 +16,8 @@ use Rattle.pm_session.specs.declared.line.Act.{Act}
 use Rattle.pm_session.specs.declared.line.Act.TheVariants.{Edit, Undo, Redo, Cursor, Submit, Ask, Present, Take, Push, Pull, Forge}
 use Rattle.pm_session.specs.declared.member.Member.{Member}
 use Rattle.pm_session.specs.declared.member.Member.TheVariants.{Editor}
-use Rattle.pm_session.specs.declared.maker.NoSteps.{NoSteps}
 use Rattle.pm_session.specs.declared.outcome.Outcome.{Outcome}
-use Rattle.pm_session.specs.declared.outcome.Outcome.TheVariants.{NoPlace}
+use Rattle.pm_session.specs.declared.outcome.Outcome.TheVariants.{NoStep as NoneMade}
 use Rattle.pm_session.specs.Events.{edits, turns, sets, composes, takes, keeps, ends, by_answer, acted}
 use Rattle.pm_session.specs.Left.{AuthorityTells, LeftAsWas, LeftPresenting, LeftExchanging, LeftBy}
 
@@ -35,7 +36,7 @@ module _ {Rules Doc Reason C : Type 0} (m : Meaning Rules Doc Reason C) (rules :
   -- an editor presents a message and keeps the answer
   abbrev pub presents : Authority C Rules Doc Reason → Client C Rules Doc Reason → Option (Message C)
       → Outcome C Rules Doc Reason × Authority C Rules Doc Reason × Client C Rules Doc Reason
-  presents a c None = (NoPlace, a, c)
+  presents a c None = (NoneMade NotThere, a, c)
   presents a c (Some message) = let p = presented m rules a message in ((keeps c (Some p.0)).0, p.1, kept c p.0)
 
   -- an editor composes a message, presents it and keeps the answer, and takes it unless it is lost
@@ -46,7 +47,7 @@ module _ {Rules Doc Reason C : Type 0} (m : Meaning Rules Doc Reason C) (rules :
       let q = ends m rules lost (kept (composed c kind) p.0) p.0 in
       (q.0, p.1, q.1)
 
-  module _ {Op : Type 0} (makes : Doc → Op → Result (List C) NoSteps) where
+  module _ {Op : Type 0} (makes : Doc → Op → Result (List C) NoStep) where
     -- what an editor does by this act
     abbrev pub editor_acts : Authority C Rules Doc Reason → Act Op C → Client C Rules Doc Reason
         → Outcome C Rules Doc Reason × Authority C Rules Doc Reason × Client C Rules Doc Reason
@@ -60,7 +61,7 @@ module _ {Rules Doc Reason C : Type 0} (m : Meaning Rules Doc Reason C) (rules :
     editor_acts a (Take n) c = local a (takes m rules c n)
     editor_acts a (Push lost) c = exchanges_at a c Submission lost
     editor_acts a (Pull lost) c = exchanges_at a c Asking lost
-    editor_acts a (Forge version steps) c = (NoPlace, a, c)
+    editor_acts a (Forge version steps) c = (NoneMade NotThere, a, c)
 
     -- that is what a member does that is an editor
     pub acted-editor : (a : Authority C Rules Doc Reason) (act : Act Op C) (c : Client C Rules Doc Reason)

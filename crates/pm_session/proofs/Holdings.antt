@@ -5,6 +5,7 @@ use Rattle.std.proofs.Common.{sym, ap, ◌∙◌, subst, arith, add-one, length-
 use Rattle.std.proofs.Math.Seq.{take-append_seam}
 use Rattle.pm_change.specs.Changes.{Meaning, Laws}
 use Rattle.pm_change.proofs.Folds.{fold-good}
+use Rattle.pm_change.specs.declared.no_step.NoStep.{NoStep}
 use Rattle.pm_authority.specs.Presents.{presented}
 use Rattle.pm_authority.specs.Runs.{AllApply, changes_of}
 use Rattle.pm_authority.specs.declared.authority.Authority.{Authority}
@@ -24,7 +25,6 @@ use Rattle.pm_session.specs.declared.line.Act.TheVariants.{Edit, Undo, Redo, Cur
 use Rattle.pm_session.specs.declared.line.Line.{Line}
 use Rattle.pm_session.specs.declared.member.Member.{Member}
 use Rattle.pm_session.specs.declared.member.Member.TheVariants.{Editor, Raw}
-use Rattle.pm_session.specs.declared.maker.NoSteps.{NoSteps}
 use Rattle.pm_session.specs.declared.outcome.Outcome.{Outcome}
 use Rattle.pm_session.specs.Answers.{Gets, AnsweredBy, AnsweredByRaw, MemberAnswered, LineHolds, IsExchanged, ExchangeHolds, BringingHolds, AllTurns, SettlingHolds}
 use Rattle.pm_session.specs.Events.{State, placed, member_exchanges, acted, played}
@@ -112,7 +112,7 @@ module _ {Rules Doc Reason C : Type 0} (m : Meaning Rules Doc Reason C) (rules :
         let p = presented m rules a at.0 in
         rw at.1 (at.0, p.0, refl, gets a at.0, refl)
 
-    acted-answered : {Op : Type 0} (makes : Doc → Op → Result (List C) NoSteps) (act : Act Op C) → NamesOneOf (length c.messages) (length c.answers) act
+    acted-answered : {Op : Type 0} (makes : Doc → Op → Result (List C) NoStep) (act : Act Op C) → NamesOneOf (length c.messages) (length c.answers) act
         → AnsweredBy m rules act a c (editor_acts m rules makes a act c).0 (editor_acts m rules makes a act c).1
     acted-answered makes (Present j) named = presents-message j named
     acted-answered makes (Push lost) named = pushed lost
@@ -126,7 +126,7 @@ module _ {Rules Doc Reason C : Type 0} (m : Meaning Rules Doc Reason C) (rules :
     acted-answered makes (Take n) named = refl
     acted-answered makes (Forge version steps) named = refl
 
-  raw-answered : {Op : Type 0} (makes : Doc → Op → Result (List C) NoSteps) (a : Authority C Rules Doc Reason) (name serial : ℕ) (act : Act Op C)
+  raw-answered : {Op : Type 0} (makes : Doc → Op → Result (List C) NoStep) (a : Authority C Rules Doc Reason) (name serial : ℕ) (act : Act Op C)
       → AnsweredByRaw m rules act a name serial (acted m rules makes a act (Raw name serial)).0 (acted m rules makes a act (Raw name serial)).1
   raw-answered makes a name serial (Forge version steps) =
       let message = SubmitMessage version (named name (serial + 1) steps) in
@@ -142,7 +142,7 @@ module _ {Rules Doc Reason C : Type 0} (m : Meaning Rules Doc Reason C) (rules :
   raw-answered makes a name serial (Push lost) = refl
   raw-answered makes a name serial (Pull lost) = refl
 
-  member-answered : {Op : Type 0} (makes : Doc → Op → Result (List C) NoSteps) (a : Authority C Rules Doc Reason) (x : Member C Rules Doc Reason) (act : Act Op C) → ActSuits x act
+  member-answered : {Op : Type 0} (makes : Doc → Op → Result (List C) NoStep) (a : Authority C Rules Doc Reason) (x : Member C Rules Doc Reason) (act : Act Op C) → ActSuits x act
       → MemberAnswered m rules act a x (acted m rules makes a act x).0 (acted m rules makes a act x).1
   member-answered makes a (Raw name serial) act suits = raw-answered makes a name serial act
   member-answered makes a (Editor c) act suits =
@@ -189,7 +189,7 @@ module _ {Rules Doc Reason C : Type 0} (m : Meaning Rules Doc Reason C) (rules :
     room = room-holds (exchanged m rules kind i s) (exchanged-sound m rules laws kind i s sound);
   }
 
-  module _ {Op : Type 0} (makes : Doc → Op → Result (List C) NoSteps) where
+  module _ {Op : Type 0} (makes : Doc → Op → Result (List C) NoStep) where
     line-holds : (s : State C Rules Doc Reason) → Sound m rules s → (line : Line Op C) → SuitsRoom s line
         → LineHolds m rules s line (played m rules makes s line).0 (played m rules makes s line).1
     line-holds s sound line suits = record {

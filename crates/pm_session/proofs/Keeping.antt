@@ -8,6 +8,7 @@ use Rattle.pm_authority.specs.declared.message.Answer.{Answer}
 use Rattle.pm_authority.specs.declared.message.Answer.TheVariants.{Accepted, WrongVersion, StepRefused, Entries}
 use Rattle.pm_authority.specs.Runs.{run}
 use Rattle.pm_history.specs.declared.branch.Event.{Event}
+use Rattle.pm_history.specs.declared.direction.Direction.{Direction}
 use Rattle.pm_history.specs.declared.branches.Branches.{Branches}
 use Rattle.pm_history.specs.declared.branches.Side.TheVariants.{Edit}
 use Rattle.pm_history.specs.Histories.{noted_all}
@@ -48,8 +49,8 @@ module _ {Rules Doc Reason C : Type 0} (m : Meaning Rules Doc Reason C) (rules :
       }
 
   -- an event that was undone or redone
-  pub turned-keeps : (redo : Bool) (e : Event) → KeepsBox c (event_turned m rules c redo e).1
-  turned-keeps redo e = record { name = refl; messages = refl; answers = refl }
+  pub turned-keeps : (way : Direction) (e : Event) → KeepsBox c (event_turned m rules c way e).1
+  turned-keeps way e = record { name = refl; messages = refl; answers = refl }
 
   -- What holds of the client, of the client with some pending steps confirmed, and of it with the later ones carried over
   -- others' steps holds of it once it took an answer.

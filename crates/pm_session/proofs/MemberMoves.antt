@@ -4,6 +4,7 @@ use Rattle.std.specs.Prelude.{◌≡◌, ◌⊎◌, ℕ, ◌==◌, Bool, true, f
 use Rattle.std.proofs.Common.{sym, ap, ◌∙◌, subst, inl, inr, arith, append-nil}
 use Rattle.std.proofs.lemmas.Bool.{eq-eqb, eqb-true}
 use Rattle.pm_change.specs.Changes.{Meaning, Laws}
+use Rattle.pm_change.specs.declared.no_step.NoStep.{NoStep}
 use Rattle.pm_authority.specs.declared.named.Named.{Named}
 use Rattle.pm_authority.specs.declared.authority.Authority.{Authority}
 use Rattle.pm_authority.specs.Kept.{IsKept}
@@ -19,7 +20,6 @@ use Rattle.pm_session.specs.declared.line.Act.{Act}
 use Rattle.pm_session.specs.declared.line.Act.TheVariants.{Edit, Undo, Redo, Cursor, Submit, Ask, Present, Take, Push, Pull, Forge}
 use Rattle.pm_session.specs.declared.member.Member.{Member}
 use Rattle.pm_session.specs.declared.member.Member.TheVariants.{Editor, Raw}
-use Rattle.pm_session.specs.declared.maker.NoSteps.{NoSteps}
 use Rattle.pm_session.specs.Events.{State, placed, member_exchanges, acted}
 use Rattle.pm_session.specs.Left.{AuthorityTells, LeftBy, LeftByMember}
 use Rattle.pm_session.specs.Members.{name_of, is_raw}
@@ -75,7 +75,7 @@ module _ {Rules Doc Reason C : Type 0} (m : Meaning Rules Doc Reason C) (rules :
       names = λ was. was;
     }
 
-    module _ {Op : Type 0} (makes : Doc → Op → Result (List C) NoSteps) where
+    module _ {Op : Type 0} (makes : Doc → Op → Result (List C) NoStep) where
       raw-moved : (name serial : ℕ) → Each (IsDrawn name serial) a.log → (act : Act Op C) → ActSuits {Rules = Rules} {Doc = Doc} {Reason = Reason} (Raw name serial) act
           → MemberMoved m rules a (Raw name serial) (acted m rules makes a act (Raw name serial)).1 (acted m rules makes a act (Raw name serial)).2
       raw-moved name serial drawn (Forge version steps) h =

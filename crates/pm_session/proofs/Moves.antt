@@ -4,10 +4,14 @@ use Rattle.std.specs.Prelude.{if◌then◌else◌, nat_lt, ◌≡◌, ℕ, ℤ, 
 use Rattle.std.proofs.Common.{cond, sym, ap, ◌∙◌, subst, arith, append-nil, length-append}
 use Rattle.std.proofs.lemmas.Bool.{ltb-false}
 use Rattle.std.proofs.lemmas.List.Elements.{All-from_recursion}
+use Rattle.pm_change.specs.declared.no_step.NoStep.{NoStep}
+use Rattle.pm_change.specs.declared.no_step.NoStep.TheVariants.{Range}
 use Rattle.pm_client.proofs.Lists.{Each-append}
 use Rattle.pm_map.specs.Moves.{IsSide}
 use Rattle.pm_change.specs.Changes.{Meaning, Laws}
 use Rattle.pm_history.specs.declared.branch.Event.{Event}
+use Rattle.pm_history.specs.declared.direction.Direction.{Direction}
+use Rattle.pm_history.specs.declared.direction.Direction.TheVariants as direction
 use Rattle.pm_history.specs.Histories.{last_of}
 use Rattle.pm_authority.specs.declared.authority.Authority.{Authority}
 use Rattle.pm_authority.specs.declared.named.Named.{Named}
@@ -27,11 +31,9 @@ use Rattle.pm_client.proofs.Turns.{kin-turned}
 use Rattle.pm_client.proofs.Answering.{After, presented-kept, presented-only}
 use Rattle.pm_session.specs.declared.line.Act.{Act}
 use Rattle.pm_session.specs.declared.line.Act.TheVariants.{Edit, Undo, Redo, Cursor, Submit, Ask, Present, Take, Push, Pull, Forge}
-use Rattle.pm_session.specs.declared.maker.NoSteps.{NoSteps}
-use Rattle.pm_session.specs.declared.maker.NoSteps.TheVariants.{Range, NotThere, NoFit as FitsNowhere, NoMemory}
 use Rattle.pm_session.specs.Events.{edits, turns, sets, made}
 use Rattle.pm_session.specs.declared.outcome.Outcome.{Outcome}
-use Rattle.pm_session.specs.declared.outcome.Outcome.TheVariants.{NoRange, CursorAt}
+use Rattle.pm_session.specs.declared.outcome.Outcome.TheVariants.{NoStep as NoneMade, CursorAt}
 use Rattle.pm_session.specs.Suits.{composes_one, gets_one, NamesOneOf}
 use Rattle.pm_session.proofs.SoundLaws.{message-stands, new-stands, presented-own}
 use Rattle.pm_session.proofs.Editors.{presents, exchanges_at, editor_acts}
@@ -82,30 +84,27 @@ module _ {Rules Doc Reason C : Type 0} (m : Meaning Rules Doc Reason C) (rules :
   pub unmoved : Moved m rules a c false false a c
   unmoved = moved-box c (record { name = refl; messages = refl; answers = refl }) kin
 
-  pub edits-moved : (event : Option ℕ) (r : Result (List C) NoSteps) → Moved m rules a c false false a (edits m rules c event r).1
-  edits-moved event (Err Range) = unmoved
-  edits-moved event (Err NotThere) = unmoved
-  edits-moved event (Err FitsNowhere) = unmoved
-  edits-moved event (Err NoMemory) = unmoved
+  pub edits-moved : (event : Option ℕ) (r : Result (List C) NoStep) → Moved m rules a c false false a (edits m rules c event r).1
+  edits-moved event (Err reason) = unmoved
   edits-moved event (Ok steps) = from (edited m rules c steps event) refl
     where
       from : (r : Result (Client C Rules Doc Reason) (Refusal Reason)) → edited m rules c steps event ≡ r → Moved m rules a c false false a (made c steps r).1
       from (Ok next) e = moved-box next (edited-keeps m rules c steps event next e) (kin-edited m rules a.first a.log c kin laws steps event next e)
       from (Err r) e = unmoved
 
-  pub turns-moved : (redo : Bool) → Moved m rules a c false false a (turns c (last_turned m rules c redo (last_of redo c.history))).1
-  turns-moved redo = from (last_of redo c.history) refl
+  pub turns-moved : (way : Direction) → Moved m rules a c false false a (turns c (last_turned m rules c way (last_of way c.history))).1
+  turns-moved way = from (last_of way c.history) refl
     where
-      from : (o : Option Event) → last_of redo c.history ≡ o → Moved m rules a c false false a (turns c (last_turned m rules c redo o)).1
+      from : (o : Option Event) → last_of way c.history ≡ o → Moved m rules a c false false a (turns c (last_turned m rules c way o)).1
       from None e = unmoved
       from (Some event) e =
-          moved-box (event_turned m rules c redo event).1 (turned-keeps m rules c redo event) (kin-turned m rules laws a.first a.log c kin redo event e)
+          moved-box (event_turned m rules c way event).1 (turned-keeps m rules c way event) (kin-turned m rules laws a.first a.log c kin way event e)
 
   pub sets-moved : (p : ℕ) (side : ℤ) → IsSide side → Moved m rules a c false false a (sets m c p side).1
   sets-moved p side is_side = from (nat_lt (m.size c.doc) p) refl
     where
       chosen : Bool → Outcome C Rules Doc Reason × Client C Rules Doc Reason
-      chosen b = if b then (NoRange, c) else (CursorAt p, cursor_set c p side)
+      chosen b = if b then (NoneMade Range, c) else (CursorAt p, cursor_set c p side)
 
       from : (b : Bool) → nat_lt (m.size c.doc) p ≡ b → Moved m rules a c false false a (chosen b).1
       from true e = unmoved
@@ -210,13 +209,13 @@ module _ {Rules Doc Reason C : Type 0} (m : Meaning Rules Doc Reason C) (rules :
         named = λ h. rw (box.name, box.messages) (one.named h);
       }
 
-  module _ {Op : Type 0} (makes : Doc → Op → Result (List C) NoSteps) where
+  module _ {Op : Type 0} (makes : Doc → Op → Result (List C) NoStep) where
     -- an act that suits the client
     pub acted-moved : (act : Act Op C) → NamesOneOf (length c.messages) (length c.answers) act
         → Moved m rules a c (composes_one act) (gets_one act) (editor_acts m rules makes a act c).1 (editor_acts m rules makes a act c).2
     acted-moved (Edit op event) h = edits-moved m rules laws a stood c kin event (makes c.doc op)
-    acted-moved Undo h = turns-moved m rules laws a stood c kin false
-    acted-moved Redo h = turns-moved m rules laws a stood c kin true
+    acted-moved Undo h = turns-moved m rules laws a stood c kin direction.Undo
+    acted-moved Redo h = turns-moved m rules laws a stood c kin direction.Redo
     acted-moved (Cursor p side) h = sets-moved m rules laws a stood c kin p side h
     acted-moved Submit h = composes-moved m rules laws a stood c kin Submission
     acted-moved Ask h = composes-moved m rules laws a stood c kin Asking

@@ -4,6 +4,7 @@ use Rattle.std.proofs.Common.{cond, sym, ap, ◌∙◌, arith, add-one, append-n
 use Rattle.std.proofs.lemmas.Bool.{eq-eqb, eqb-true}
 use Rattle.std.proofs.lemmas.Grind.{common_steps}
 use Rattle.pm_change.specs.Changes.{Meaning, Laws}
+use Rattle.pm_change.specs.declared.no_step.NoStep.{NoStep}
 use Rattle.pm_authority.specs.declared.authority.Authority.{Authority}
 use Rattle.pm_authority.specs.Kept.{IsKept}
 use Rattle.pm_client.specs.declared.client.Client.{Client}
@@ -11,7 +12,6 @@ use Rattle.pm_session.specs.declared.line.Line.{Line}
 use Rattle.pm_session.specs.declared.line.Act.{Act}
 use Rattle.pm_session.specs.declared.member.Member.{Member}
 use Rattle.pm_session.specs.declared.member.Member.TheVariants.{Editor, Raw}
-use Rattle.pm_session.specs.declared.maker.NoSteps.{NoSteps}
 use Rattle.pm_session.specs.declared.outcome.Outcome.{Outcome}
 use Rattle.pm_session.specs.Events.{State, played, acted}
 use Rattle.pm_session.specs.Members.{is_raw, kinds_of}
@@ -46,7 +46,7 @@ BoxMoved {Rules} {Doc} {Reason} {C} x act next =
     (d : Client C Rules Doc Reason) → next ≡ Editor d → (c : Client C Rules Doc Reason) × (x ≡ Editor c)
     × ((length d.messages ≡ length c.messages + cond (composes_one act) 1 0) × (length d.answers ≡ length c.answers + cond (gets_one act) 1 0))
 
-module _ {Rules Doc Reason C Op : Type 0} (m : Meaning Rules Doc Reason C) (rules : Rules) (laws : Laws m) (makes : Doc → Op → Result (List C) NoSteps)
+module _ {Rules Doc Reason C Op : Type 0} (m : Meaning Rules Doc Reason C) (rules : Rules) (laws : Laws m) (makes : Doc → Op → Result (List C) NoStep)
     (a : Authority C Rules Doc Reason) (stood : IsKept m rules a) where
   same-editor : (c d : Client C Rules Doc Reason) → Editor c ≡ Editor d → c ≡ d
   same-editor c d e = cc
@@ -62,7 +62,7 @@ module _ {Rules Doc Reason C Op : Type 0} (m : Meaning Rules Doc Reason C) (rule
       let same : next ≡ d = same-editor next d (sym (ap (λ p. p.2) (acted-editor m rules makes a act c)) ∙ e) in
       (c, refl, (ap (λ (y : Client C Rules Doc Reason). length y.messages) (sym same) ∙ moved.messages, ap (λ (y : Client C Rules Doc Reason). length y.answers) (sym same) ∙ moved.answers))
 
-module _ {Rules Doc Reason C Op : Type 0} (m : Meaning Rules Doc Reason C) (rules : Rules) (laws : Laws m) (makes : Doc → Op → Result (List C) NoSteps)
+module _ {Rules Doc Reason C Op : Type 0} (m : Meaning Rules Doc Reason C) (rules : Rules) (laws : Laws m) (makes : Doc → Op → Result (List C) NoStep)
     (s : State C Rules Doc Reason) (sound : Sound m rules s) (line : Line Op C) (lines : List (Line Op C)) (h : LinesSuit s (line ∷ lines)) where
   -- the member at a place of which the kind is known
   kind-at : (xs : List (Member C Rules Doc Reason)) (k : ℕ) (b : Bool) → slice_get (kinds_of xs) k ≡ Some b
@@ -118,7 +118,7 @@ module _ {Rules Doc Reason C Op : Type 0} (m : Meaning Rules Doc Reason C) (rule
           (was.0 ∙ sym (done-other composes_one i h.earlier line e.0), was.1 ∙ sym (done-other gets_one i h.earlier line e.0))
 
 -- a line that suits keeps a room sound
-pub played-sound : {Rules Doc Reason C Op : Type 0} (m : Meaning Rules Doc Reason C) (rules : Rules) (laws : Laws m) (makes : Doc → Op → Result (List C) NoSteps)
+pub played-sound : {Rules Doc Reason C Op : Type 0} (m : Meaning Rules Doc Reason C) (rules : Rules) (laws : Laws m) (makes : Doc → Op → Result (List C) NoStep)
     (s : State C Rules Doc Reason) → Sound m rules s → (line : Line Op C) → SuitsRoom s line → Sound m rules (played m rules makes s line).1
 played-sound m rules laws makes s sound line suits =
     let x = suits.member in
@@ -127,7 +127,7 @@ played-sound m rules laws makes s sound line suits =
     (member-acted m rules laws s.authority sound.authority makes x (sound.stand line.client x suits.at).1 line.act suits.suits))
 
 -- what the first line comes to, and then the later ones
-pub session-more : {Rules Doc Reason C Op : Type 0} (m : Meaning Rules Doc Reason C) (rules : Rules) (makes : Doc → Op → Result (List C) NoSteps)
+pub session-more : {Rules Doc Reason C Op : Type 0} (m : Meaning Rules Doc Reason C) (rules : Rules) (makes : Doc → Op → Result (List C) NoStep)
     (s t : State C Rules Doc Reason) (line : Line Op C) (lines : List (Line Op C)) (o : Outcome C Rules Doc Reason) → (o, t) ≡ played m rules makes s line
     → session m rules makes s (line ∷ lines) ≡ (o ∷ (session m rules makes t lines).0, (session m rules makes t lines).1)
 session-more m rules makes s t line lines o e =
@@ -136,7 +136,7 @@ session-more m rules makes s t line lines o e =
     rw (one, two) refl
 
 -- a session of lines that suit keeps a room sound
-pub session-sound : {Rules Doc Reason C Op : Type 0} (m : Meaning Rules Doc Reason C) (rules : Rules) (laws : Laws m) (makes : Doc → Op → Result (List C) NoSteps)
+pub session-sound : {Rules Doc Reason C Op : Type 0} (m : Meaning Rules Doc Reason C) (rules : Rules) (laws : Laws m) (makes : Doc → Op → Result (List C) NoStep)
     (s : State C Rules Doc Reason) (lines : List (Line Op C)) → Sound m rules s → LinesSuit s lines → Sound m rules (session m rules makes s lines).1
 session-sound m rules laws makes s [] sound suit = sound
 session-sound m rules laws makes s (line ∷ lines) sound suit =
@@ -158,7 +158,7 @@ at-rest (y ∷ xs) rest zero x e = cc
 at-rest (y ∷ xs) rest (suc k) x e = at-rest xs rest k x e
 
 -- the room after one line more
-pub session-last : {Rules Doc Reason C Op : Type 0} (m : Meaning Rules Doc Reason C) (rules : Rules) (makes : Doc → Op → Result (List C) NoSteps)
+pub session-last : {Rules Doc Reason C Op : Type 0} (m : Meaning Rules Doc Reason C) (rules : Rules) (makes : Doc → Op → Result (List C) NoStep)
     (s : State C Rules Doc Reason) (lines : List (Line Op C)) (k : ℕ) (line : Line Op C) → slice_get lines k ≡ Some line
     → (session m rules makes s (take (k + 1) lines)).1 ≡ (played m rules makes (session m rules makes s (take k lines)).1 line).1
 session-last {Rules = Rules} {Doc = Doc} {Reason = Reason} {C = C} {Op = Op} m rules makes s lines k line at = rw add-one (last s lines k at)
@@ -178,7 +178,7 @@ session-last {Rules = Rules} {Doc = Doc} {Reason = Reason} {C = C} {Op = Op} m r
     last s (first ∷ lines) (suc k) at = last (played m rules makes s first).1 lines k at
 
 -- once all lines were played, the outcomes are those of the session
-pub outcomes-all : {Rules Doc Reason C Op : Type 0} (m : Meaning Rules Doc Reason C) (rules : Rules) (makes : Doc → Op → Result (List C) NoSteps)
+pub outcomes-all : {Rules Doc Reason C Op : Type 0} (m : Meaning Rules Doc Reason C) (rules : Rules) (makes : Doc → Op → Result (List C) NoStep)
     (t : State C Rules Doc Reason) (lines : List (Line Op C)) (k : ℕ) (xs ys : List (Outcome C Rules Doc Reason)) → length lines ≤ k
     → xs ++ (session m rules makes t (drop k lines)).0 ≡ ys → xs ≡ ys
 outcomes-all m rules makes t lines k xs ys all h = let none = drop-past lines k all in sym (append-nil xs) ∙ (rw none at h)

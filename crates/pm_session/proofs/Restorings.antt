@@ -1,7 +1,10 @@
 -- An undo or a redo with nothing changed since gives the earlier document back.
-use Rattle.std.specs.Prelude.{◌≡◌, ℕ, zero, suc, ◌+◌, Bool, true, false, List, [], ◌∷◌, take, slice_get, slice_set, Some, Result, refl}
+use Rattle.std.specs.Prelude.{◌≡◌, ℕ, zero, suc, ◌+◌, List, [], ◌∷◌, take, slice_get, slice_set, Some, Result, refl}
 use Rattle.std.proofs.Common.{sym, ap, ◌∙◌, subst, add-one}
 use Rattle.pm_change.specs.Changes.{Meaning, Laws}
+use Rattle.pm_change.specs.declared.no_step.NoStep.{NoStep}
+use Rattle.pm_history.specs.declared.direction.Direction.{Direction}
+use Rattle.pm_history.specs.declared.direction.Direction.TheVariants as direction
 use Rattle.pm_history.specs.Histories.{last_of}
 use Rattle.pm_authority.specs.declared.authority.Authority.{Authority}
 use Rattle.pm_client.specs.declared.client.Client.{Client}
@@ -11,7 +14,6 @@ use Rattle.pm_session.specs.declared.line.Act.{Act}
 use Rattle.pm_session.specs.declared.line.Act.TheVariants.{Edit, Undo, Redo, Cursor, Submit, Ask, Present, Take, Push, Pull, Forge}
 use Rattle.pm_session.specs.declared.line.Line.{Line}
 use Rattle.pm_session.specs.declared.member.Member.TheVariants.{Editor}
-use Rattle.pm_session.specs.declared.maker.NoSteps.{NoSteps}
 use Rattle.pm_session.specs.Events.{State, turns, acted, played}
 use Rattle.pm_session.specs.Restoring.{Restored, RestoredBy, Restores}
 use Rattle.pm_session.specs.Sessions.{session}
@@ -31,13 +33,13 @@ set-there (y ∷ ys) (suc i) v x h = set-there ys i v x h
 
 module _ {Rules Doc Reason C : Type 0} (m : Meaning Rules Doc Reason C) (rules : Rules) (laws : Laws m) where
   module _ (a : Authority C Rules Doc Reason) (c : Client C Rules Doc Reason) where
-    turns-restored : (redo : Bool) → Restored m rules redo a c (turns c (last_turned m rules c redo (last_of redo c.history))).1
-    turns-restored redo kin e before last since =
-        rw last (turned-restores m rules laws a.first a.log c kin redo e last before since)
+    turns-restored : (way : Direction) → Restored m rules way a c (turns c (last_turned m rules c way (last_of way c.history))).1
+    turns-restored way kin e before last since =
+        rw last (turned-restores m rules laws a.first a.log c kin way e last before since)
 
-    pub acted-restored : {Op : Type 0} (makes : Doc → Op → Result (List C) NoSteps) (act : Act Op C) → RestoredBy m rules act a c (editor_acts m rules makes a act c).2
-    acted-restored makes Undo = turns-restored false
-    acted-restored makes Redo = turns-restored true
+    pub acted-restored : {Op : Type 0} (makes : Doc → Op → Result (List C) NoStep) (act : Act Op C) → RestoredBy m rules act a c (editor_acts m rules makes a act c).2
+    acted-restored makes Undo = turns-restored direction.Undo
+    acted-restored makes Redo = turns-restored direction.Redo
     acted-restored makes (Edit op event) = tt
     acted-restored makes (Cursor p side) = tt
     acted-restored makes Submit = tt
@@ -48,7 +50,7 @@ module _ {Rules Doc Reason C : Type 0} (m : Meaning Rules Doc Reason C) (rules :
     acted-restored makes (Pull lost) = tt
     acted-restored makes (Forge version steps) = tt
 
-  module _ {Op : Type 0} (makes : Doc → Op → Result (List C) NoSteps) where
+  module _ {Op : Type 0} (makes : Doc → Op → Result (List C) NoStep) where
     -- a line was played
     pub played-restores : (s : State C Rules Doc Reason) (line : Line Op C) → Restores m rules s line (played m rules makes s line).1
     played-restores s line c d at_c at_d =

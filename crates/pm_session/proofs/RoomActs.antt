@@ -2,11 +2,11 @@
 use Rattle.std.specs.Prelude.{◌≡◌, ℕ, List, slice_get, Some, Result, Ok, Err, IfOk, OnOk, OnErr, refl}
 use Rattle.std.proofs.Common.{sym, ap, ◌∙◌, subst}
 use Rattle.pm_change.specs.Changes.{Meaning, Laws}
+use Rattle.pm_change.specs.declared.no_step.NoStep.{NoStep}
 use Rattle.pm_authority.specs.declared.authority.Authority.{Authority}
 use Rattle.pm_client.specs.declared.taken.Kind.{Kind}
 use Rattle.pm_session.specs.declared.line.Line.{Line}
 use Rattle.pm_session.specs.declared.member.Member.{Member}
-use Rattle.pm_session.specs.declared.maker.NoSteps.{NoSteps}
 use Rattle.pm_session.specs.declared.outcome.Outcome.{Outcome}
 use Rattle.pm_session.specs.Answers.{ExchangeHolds}
 use Rattle.pm_session.specs.Events.{State, placed, by_member, member_exchanges, acted, played}
@@ -35,7 +35,7 @@ module _ {Rules Doc Reason C : Type 0} (m : Meaning Rules Doc Reason C) (rules :
         subst (λ (y : Member C Rules Doc Reason). SuitsMember y line) (sym is)
         (record { client = (sound.stand line.client suits.member suits.at).0; suits = suits.suits })
 
-  module _ {Op : Type 0} (makes : Doc → Op → Result (List C) NoSteps) (s : State C Rules Doc Reason) (line : Line Op C) (x : Member C Rules Doc Reason)
+  module _ {Op : Type 0} (makes : Doc → Op → Result (List C) NoStep) (s : State C Rules Doc Reason) (line : Line Op C) (x : Member C Rules Doc Reason)
       (at : slice_get s.members line.client ≡ Some x) (read : Member C Rules Doc Reason) (is : read ≡ x) where
     pub one-played : (o : Outcome C Rules Doc Reason) (new : Authority C Rules Doc Reason) (next : Member C Rules Doc Reason)
         → (o, new, next) ≡ acted m rules makes s.authority line.act read → (o, placed s line.client new next) ≡ played m rules makes s line
@@ -72,7 +72,7 @@ module _ {Rules Doc Reason C : Type 0} (m : Meaning Rules Doc Reason C) (rules :
     line-left (Ok o) new next h = tt
     line-left (Err e) new next h = one-left new next h
 
-  module _ (laws : Laws m) {Op : Type 0} (makes : Doc → Op → Result (List C) NoSteps) (s : State C Rules Doc Reason) where
+  module _ (laws : Laws m) {Op : Type 0} (makes : Doc → Op → Result (List C) NoStep) (s : State C Rules Doc Reason) where
     module _ (sound : Sound m rules s) (line : Line Op C) (suits : SuitsRoom s line) (read : Member C Rules Doc Reason) (is : read ≡ suits.member) where
       -- whether a line ran out of memory or not, the room is sound after it
       pub line-sound : {E : Type 0} (r : Result (Outcome C Rules Doc Reason) E) (new : Authority C Rules Doc Reason) (next : Member C Rules Doc Reason)

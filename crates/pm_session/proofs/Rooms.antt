@@ -2,6 +2,7 @@
 use Rattle.std.specs.Prelude.{◌≡◌, ◌⊎◌, ℕ, zero, suc, ◌+◌, ◌≤◌, pos, false, List, [], ◌∷◌, ◌++◌, take, slice_get, Option, Some, None, Result, refl}
 use Rattle.std.proofs.Common.{sym, ap, ◌∙◌, subst, inl, inr, arith, add-one, append-nil}
 use Rattle.pm_change.specs.Changes.{Meaning, Laws}
+use Rattle.pm_change.specs.declared.no_step.NoStep.{NoStep}
 use Rattle.pm_authority.specs.declared.authority.Authority.{Authority}
 use Rattle.pm_authority.specs.declared.message.Message.{Message}
 use Rattle.pm_authority.specs.declared.message.Answer.{Answer}
@@ -10,11 +11,11 @@ use Rattle.pm_authority.specs.Kept.{IsKept}
 use Rattle.pm_client.specs.declared.client.Client.{Client}
 use Rattle.pm_client.specs.declared.taken.Kind.{Kind}
 use Rattle.pm_client.specs.TokenNames.{Token, Has, AllDiffer, KeepsTokens}
+use Rattle.pm_client.specs.Cursors.{cursor}
 use Rattle.pm_session.specs.declared.line.Line.{Line}
 use Rattle.pm_session.specs.declared.line.Act.{Act}
 use Rattle.pm_session.specs.declared.member.Member.{Member}
 use Rattle.pm_session.specs.declared.member.Member.TheVariants.{Editor, Raw}
-use Rattle.pm_session.specs.declared.maker.NoSteps.{NoSteps}
 use Rattle.pm_session.specs.declared.outcome.Outcome.{Outcome}
 use Rattle.pm_session.specs.Events.{State, placed, asked, finished, by_answer, member_exchanges, acted, played}
 use Rattle.pm_session.specs.Left.{AuthorityTells, LeftBy}
@@ -61,7 +62,7 @@ module _ {Rules Doc Reason C : Type 0} (m : Meaning Rules Doc Reason C) (rules :
   answered-first None finish = refl
   answered-first (Some message) finish = presented-first m rules a message
 
-  pub acted-rested : {Op : Type 0} (makes : Doc → Op → Result (List C) NoSteps) (x : Member C Rules Doc Reason) → MemberStands m rules a.first a.log x → (act : Act Op C)
+  pub acted-rested : {Op : Type 0} (makes : Doc → Op → Result (List C) NoStep) (x : Member C Rules Doc Reason) → MemberStands m rules a.first a.log x → (act : Act Op C)
       → Rested m rules a x (acted m rules makes a act x).1 (acted m rules makes a act x).2
   acted-rested makes (Raw name serial) stands act =
       let p = acted m rules makes a act (Raw name serial) in
@@ -96,8 +97,8 @@ module _ {Rules Doc Reason C : Type 0} (m : Meaning Rules Doc Reason C) (rules :
       (log_is : new.log ≡ s.authority.log ++ more) where
     abbrev Stays : Client C Rules Doc Reason → Client C Rules Doc Reason → Type 0
     Stays d e =
-        NonePinched m new d e → (j p : ℕ) (t : Token) → slice_get d.cursors j ≡ Some (p, pos 1) → slice_get (tokens_of m s.authority d) p ≡ Some t → Has (tokens_of m new e) t
-        → (q : ℕ) × (slice_get e.cursors j ≡ Some (q, pos 1)) × (slice_get (tokens_of m new e) q ≡ Some t)
+        NonePinched m new d e → (j p : ℕ) (t : Token) → slice_get d.cursors j ≡ Some (cursor p (pos 1)) → slice_get (tokens_of m s.authority d) p ≡ Some t → Has (tokens_of m new e) t
+        → (q : ℕ) × (slice_get e.cursors j ≡ Some (cursor q (pos 1))) × (slice_get (tokens_of m new e) q ≡ Some t)
 
     -- member i became the next one
     pub placed-stays : Rested m rules s.authority x new next → CursorsStay m s (placed s i new next)
@@ -125,7 +126,7 @@ module _ {Rules Doc Reason C : Type 0} (m : Meaning Rules Doc Reason C) (rules :
       rw same (stays-before m rules laws s.authority s.authority refl [] (sym (append-nil s.authority.log)) (differs s sound) d d k k (omega arith)
       (same-keeps m s.authority.log d d (record { version = refl; pending = refl; cursors = λ i p h. h }) (m.size d.base)))
 
-  module _ {Op : Type 0} (makes : Doc → Op → Result (List C) NoSteps) where
+  module _ {Op : Type 0} (makes : Doc → Op → Result (List C) NoStep) where
     -- a line was played
     pub played-stays : (s : State C Rules Doc Reason) → Sound m rules s → (line : Line Op C) → SuitsRoom s line → CursorsStay m s (played m rules makes s line).1
     played-stays s sound line suits =

@@ -4,7 +4,11 @@ use Rattle.std.proofs.Common.{sym, ap, ◌∙◌, subst, inl, inr, arith, append
 use Rattle.std.proofs.Math.Seq.{take-append-add, take-append_seam}
 use Rattle.std.proofs.lemmas.List.{take-append-drop}
 use Rattle.pm_change.specs.Changes.{Meaning, Laws}
+use Rattle.pm_change.specs.declared.no_step.NoStep.{NoStep}
+use Rattle.pm_change.specs.declared.no_step.NoStep.TheVariants.{Range}
 use Rattle.pm_history.specs.declared.branch.Event.{Event}
+use Rattle.pm_history.specs.declared.direction.Direction.{Direction}
+use Rattle.pm_history.specs.declared.direction.Direction.TheVariants as direction
 use Rattle.pm_history.specs.Histories.{last_of}
 use Rattle.pm_change.proofs.Folds.{fold-good}
 use Rattle.pm_authority.specs.declared.named.Named.{Named}
@@ -27,12 +31,11 @@ use Rattle.pm_client.specs.TokenNames.{Token, Has, first_names, names_after, All
 use Rattle.pm_client.proofs.TokenLeads.{names-append}
 use Rattle.pm_client.proofs.TokenKeeps.{edited-keeps, taken-keeps}
 use Rattle.pm_client.proofs.Turns.{turned-keeps}
+use Rattle.pm_client.specs.Cursors.{cursor}
 use Rattle.pm_session.specs.declared.line.Act.{Act}
 use Rattle.pm_session.specs.declared.line.Act.TheVariants.{Edit, Undo, Redo, Cursor, Submit, Ask, Present, Take, Push, Pull, Forge}
-use Rattle.pm_session.specs.declared.maker.NoSteps.{NoSteps}
-use Rattle.pm_session.specs.declared.maker.NoSteps.TheVariants.{Range, NotThere, NoFit as FitsNowhere, NoMemory}
 use Rattle.pm_session.specs.declared.outcome.Outcome.{Outcome}
-use Rattle.pm_session.specs.declared.outcome.Outcome.TheVariants.{NoRange, CursorAt}
+use Rattle.pm_session.specs.declared.outcome.Outcome.TheVariants.{NoStep as NoneMade, CursorAt}
 use Rattle.pm_session.specs.Events.{edits, turns, sets, made}
 use Rattle.pm_session.proofs.Editors.{presents, exchanges_at, editor_acts, AsWas, WasPresenting, WasExchanging, EditorLeft}
 use Rattle.pm_session.specs.Standing.{tokens_of, AreNamed, NonePinched}
@@ -99,8 +102,8 @@ module _ {Rules Doc Reason C : Type 0} (m : Meaning Rules Doc Reason C) (rules :
         ∙ ap (λ l. take d.version l) whole ∙ ap (λ k. take k (kin.before ++ drop c.version new.log)) n
         ∙ take-append-add kin.before (drop c.version new.log) (d.version - c.version)
 
-    pub stays-before : KeepsTokens m new.log c d (m.size c.base) → NonePinched m new c d → (j p : ℕ) (x : Token) → slice_get c.cursors j ≡ Some (p, pos 1)
-        → slice_get (tokens_of m a c) p ≡ Some x → Has (tokens_of m new d) x → (q : ℕ) × (slice_get d.cursors j ≡ Some (q, pos 1)) × (slice_get (tokens_of m new d) q ≡ Some x)
+    pub stays-before : KeepsTokens m new.log c d (m.size c.base) → NonePinched m new c d → (j p : ℕ) (x : Token) → slice_get c.cursors j ≡ Some (cursor p (pos 1))
+        → slice_get (tokens_of m a c) p ≡ Some x → Has (tokens_of m new d) x → (q : ℕ) × (slice_get d.cursors j ≡ Some (cursor q (pos 1))) × (slice_get (tokens_of m new d) q ≡ Some x)
     stays-before keeps unpinched j p x at was has =
         let start : List Token = first_names (m.size a.first) in
         let base : List Token = names_after m start kin.before in
@@ -134,7 +137,7 @@ module _ {Rules Doc Reason C : Type 0} (m : Meaning Rules Doc Reason C) (log : L
   pub record Same : Type 0 where
     pub version : d.version ≡ c.version
     pub pending : d.pending ≡ c.pending
-    pub cursors : (i p : ℕ) → slice_get c.cursors i ≡ Some (p, pos 1) → slice_get d.cursors i ≡ Some (p, pos 1)
+    pub cursors : (i p : ℕ) → slice_get c.cursors i ≡ Some (cursor p (pos 1)) → slice_get d.cursors i ≡ Some (cursor p (pos 1))
 
   pub same-keeps : Same → (n : ℕ) → KeepsTokens m log c d n
   same-keeps same n names may i p t at before after = (p, same.cursors i p at, rw (none, same.pending) before)
@@ -179,11 +182,8 @@ module _ {Rules Doc Reason C : Type 0} (m : Meaning Rules Doc Reason C) (rules :
     unmoved : Stayed a c
     unmoved = same-stayed a c (record { version = refl; pending = refl; cursors = λ i p h. h }) refl
 
-    edits-stayed : (event : Option ℕ) (r : Result (List C) NoSteps) → Stayed a (edits m rules c event r).1
-    edits-stayed event (Err Range) = unmoved
-    edits-stayed event (Err NotThere) = unmoved
-    edits-stayed event (Err FitsNowhere) = unmoved
-    edits-stayed event (Err NoMemory) = unmoved
+    edits-stayed : (event : Option ℕ) (r : Result (List C) NoStep) → Stayed a (edits m rules c event r).1
+    edits-stayed event (Err reason) = unmoved
     edits-stayed event (Ok steps) = from (edited m rules c steps event) refl
       where
         version : (next : Client C Rules Doc Reason) → edited m rules c steps event ≡ Ok next → c.version ≤ next.version
@@ -195,22 +195,22 @@ module _ {Rules Doc Reason C : Type 0} (m : Meaning Rules Doc Reason C) (rules :
         from (Ok next) e = record { keeps = edited-keeps m rules laws a.first a.log c kin steps event next e; rises = version next e; first = refl }
         from (Err r) e = unmoved
 
-    turns-stayed : (redo : Bool) → Stayed a (turns c (last_turned m rules c redo (last_of redo c.history))).1
-    turns-stayed redo = from (last_of redo c.history) refl
+    turns-stayed : (way : Direction) → Stayed a (turns c (last_turned m rules c way (last_of way c.history))).1
+    turns-stayed way = from (last_of way c.history) refl
       where
-        from : (o : Option Event) → last_of redo c.history ≡ o → Stayed a (turns c (last_turned m rules c redo o)).1
+        from : (o : Option Event) → last_of way c.history ≡ o → Stayed a (turns c (last_turned m rules c way o)).1
         from None e = unmoved
-        from (Some event) e = record { keeps = turned-keeps m rules laws a.first a.log c kin redo event e; rises = omega arith; first = refl }
+        from (Some event) e = record { keeps = turned-keeps m rules laws a.first a.log c kin way event e; rises = omega arith; first = refl }
 
     sets-stayed : (p : ℕ) (side : ℤ) → Stayed a (sets m c p side).1
     sets-stayed p side = from (nat_lt (m.size c.doc) p)
       where
         chosen : Bool → Outcome C Rules Doc Reason × Client C Rules Doc Reason
-        chosen b = if b then (NoRange, c) else (CursorAt p, cursor_set c p side)
+        chosen b = if b then (NoneMade Range, c) else (CursorAt p, cursor_set c p side)
 
         from : (b : Bool) → Stayed a (chosen b).1
         from true = unmoved
-        from false = same-stayed a (cursor_set c p side) (record { version = refl; pending = refl; cursors = λ i q h. get-front c.cursors ((p, side) ∷ []) i (q, pos 1) h }) refl
+        from false = same-stayed a (cursor_set c p side) (record { version = refl; pending = refl; cursors = λ i q h. get-front c.cursors (cursor p side ∷ []) i (cursor q (pos 1)) h }) refl
 
     composed-stayed : (kind : Kind) → Stayed a (composed c kind)
     composed-stayed kind = same-stayed a (composed c kind) (record { version = refl; pending = refl; cursors = λ i p h. h }) refl
@@ -288,10 +288,10 @@ module _ {Rules Doc Reason C : Type 0} (m : Meaning Rules Doc Reason C) (rules :
     presenting x p (inr e) = subst (λ (q : Authority C Rules Doc Reason × Client C Rules Doc Reason). Stayed q.0 q.1) (sym e) (presented-stayed x)
 
     module _ {Op : Type 0} where
-      pub acted-stayed : (makes : Doc → Op → Result (List C) NoSteps) (act : Act Op C) → Stayed (editor_acts m rules makes a act c).1 (editor_acts m rules makes a act c).2
+      pub acted-stayed : (makes : Doc → Op → Result (List C) NoStep) (act : Act Op C) → Stayed (editor_acts m rules makes a act c).1 (editor_acts m rules makes a act c).2
       acted-stayed makes (Edit op event) = edits-stayed event (makes c.doc op)
-      acted-stayed makes Undo = turns-stayed false
-      acted-stayed makes Redo = turns-stayed true
+      acted-stayed makes Undo = turns-stayed direction.Undo
+      acted-stayed makes Redo = turns-stayed direction.Redo
       acted-stayed makes (Cursor p side) = sets-stayed p side
       acted-stayed makes Submit = composed-stayed Submission
       acted-stayed makes Ask = composed-stayed Asking

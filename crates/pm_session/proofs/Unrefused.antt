@@ -2,6 +2,8 @@
 use Rattle.std.specs.Prelude.{◌≡◌, ℕ, zero, suc, ℤ, nat_lt, if◌then◌else◌, Bool, true, false, List, [], ◌∷◌, Option, Some, None, Result, Ok, Err, refl}
 use Rattle.std.proofs.Common.{sym, ap, ◌∙◌, subst}
 use Rattle.pm_change.specs.Changes.{Meaning, Laws}
+use Rattle.pm_change.specs.declared.no_step.NoStep.{NoStep}
+use Rattle.pm_change.specs.declared.no_step.NoStep.TheVariants.{Range}
 use Rattle.pm_authority.specs.declared.authority.Authority.{Authority}
 use Rattle.pm_authority.specs.declared.running.Refusal.{Refusal}
 use Rattle.pm_authority.specs.declared.message.Message.{Message}
@@ -19,10 +21,8 @@ use Rattle.pm_session.specs.declared.line.Act.{Act}
 use Rattle.pm_session.specs.declared.line.Act.TheVariants.{Edit, Undo, Redo, Cursor, Submit, Ask, Present, Take, Push, Pull, Forge}
 use Rattle.pm_session.specs.declared.member.Member.{Member}
 use Rattle.pm_session.specs.declared.member.Member.TheVariants.{Editor, Raw}
-use Rattle.pm_session.specs.declared.maker.NoSteps.{NoSteps}
-use Rattle.pm_session.specs.declared.maker.NoSteps.TheVariants.{Range, NotThere, NoFit as FitsNowhere, NoMemory}
 use Rattle.pm_session.specs.declared.outcome.Outcome.{Outcome}
-use Rattle.pm_session.specs.declared.outcome.Outcome.TheVariants.{NoRange, CursorAt}
+use Rattle.pm_session.specs.declared.outcome.Outcome.TheVariants.{NoStep as NoneMade, CursorAt}
 use Rattle.pm_session.specs.Events.{State, told, made, edits, turns, sets, ends, acted, played}
 use Rattle.pm_session.specs.Sessions.{session}
 use Rattle.pm_session.specs.Sounds.{MemberStands, Sound}
@@ -49,18 +49,15 @@ module _ {Rules Doc Reason C : Type 0} where
 
 module _ {Rules Doc Reason C : Type 0} (m : Meaning Rules Doc Reason C) (rules : Rules) (laws : Laws m) (a : Authority C Rules Doc Reason) (stood : IsKept m rules a)
     (c : Client C Rules Doc Reason) (kin : Kin m rules a.first a.log c) where
-  edits-none : (event : Option ℕ) (r : Result (List C) NoSteps) → GetsNoRefusal (edits m rules c event r).0
+  edits-none : (event : Option ℕ) (r : Result (List C) NoStep) → GetsNoRefusal (edits m rules c event r).0
   edits-none event (Ok steps) = made-none c steps (edited m rules c steps event)
-  edits-none event (Err Range) = tt
-  edits-none event (Err NotThere) = tt
-  edits-none event (Err FitsNowhere) = tt
-  edits-none event (Err NoMemory) = tt
+  edits-none event (Err reason) = tt
 
   sets-none : (p : ℕ) (side : ℤ) → GetsNoRefusal (sets m c p side).0
   sets-none p side = from (nat_lt (m.size c.doc) p)
     where
       chosen : Bool → Outcome C Rules Doc Reason × Client C Rules Doc Reason
-      chosen b = if b then (NoRange, c) else (CursorAt p, cursor_set c p side)
+      chosen b = if b then (NoneMade Range, c) else (CursorAt p, cursor_set c p side)
 
       from : (b : Bool) → GetsNoRefusal (chosen b).0
       from true = tt
@@ -87,7 +84,7 @@ module _ {Rules Doc Reason C : Type 0} (m : Meaning Rules Doc Reason C) (rules :
       from None e = tt
       from (Some message) e = tells (presented m rules a message).0 (composed-none j message e)
 
-  pub acted-none : {Op : Type 0} (makes : Doc → Op → Result (List C) NoSteps) (act : Act Op C) → GetsNoRefusal (editor_acts m rules makes a act c).0
+  pub acted-none : {Op : Type 0} (makes : Doc → Op → Result (List C) NoStep) (act : Act Op C) → GetsNoRefusal (editor_acts m rules makes a act c).0
   acted-none makes (Edit op event) = edits-none event (makes c.doc op)
   acted-none makes Undo = turns-none c (undone_last m rules c)
   acted-none makes Redo = turns-none c (redone_last m rules c)
@@ -105,7 +102,7 @@ module _ {Rules Doc Reason C : Type 0} (m : Meaning Rules Doc Reason C) (rules :
   pub messages-none : (s : State C Rules Doc Reason) → Sound m rules s → NoMessageRefused m rules s
   messages-none s sound i j c message at is = composed-none m rules laws s.authority sound.authority c (sound.stand i (Editor c) at).1.kin j message is
 
-  module _ {Op : Type 0} (makes : Doc → Op → Result (List C) NoSteps) where
+  module _ {Op : Type 0} (makes : Doc → Op → Result (List C) NoStep) where
     member-none : (a : Authority C Rules Doc Reason) → IsKept m rules a → (x : Member C Rules Doc Reason) → MemberStands m rules a.first a.log x → (act : Act Op C) → ActSuits x act
         → EditorGetsNoRefusal act (acted m rules makes a act x).0
     member-none a stood (Raw name serial) stands act suits none = absurd (let e : true ≡ false = sym suits ∙ none in cc)

@@ -1,6 +1,8 @@
 -- What a line makes of a room.
 use Rattle.std.specs.Prelude.{ℕ, ℤ, ◌+◌, nat_lt, if◌then◌else◌, Bool, true, false, List, length, slice_get, slice_set, Option, Some, None, Result, Ok, Err}
 use Rattle.pm_change.specs.Changes.{Meaning}
+use Rattle.pm_change.specs.declared.no_step.NoStep.{NoStep}
+use Rattle.pm_change.specs.declared.no_step.NoStep.TheVariants.{Range, NotThere}
 use Rattle.pm_authority.specs.declared.message.Message.{Message}
 use Rattle.pm_authority.specs.declared.message.Message.TheVariants.{Submit as SubmitMessage}
 use Rattle.pm_authority.specs.declared.message.Answer.{Answer}
@@ -17,12 +19,10 @@ use Rattle.pm_session.specs.declared.line.Act.{Act}
 use Rattle.pm_session.specs.declared.line.Act.TheVariants.{Edit, Undo, Redo, Cursor, Submit, Ask, Present, Take, Push, Pull, Forge}
 use Rattle.pm_session.specs.declared.member.Member.{Member}
 use Rattle.pm_session.specs.declared.member.Member.TheVariants.{Editor, Raw}
-use Rattle.pm_session.specs.declared.maker.NoSteps.{NoSteps}
-use Rattle.pm_session.specs.declared.maker.NoSteps.TheVariants.{Range, NotThere, NoFit as FitsNowhere, NoMemory}
 use Rattle.pm_session.specs.declared.outcome.Told.{Told}
 use Rattle.pm_session.specs.declared.outcome.Told.TheVariants.{Accepted as ToldAccepted, Version, Refused as ToldRefused, Entries as ToldEntries}
 use Rattle.pm_session.specs.declared.outcome.Outcome.{Outcome}
-use Rattle.pm_session.specs.declared.outcome.Outcome.TheVariants.{Made, Nothing, NoRange, NoPlace, NoFit, Refused, CursorAt, Composed, Answered, Took, Exchanged}
+use Rattle.pm_session.specs.declared.outcome.Outcome.TheVariants.{Made, Nothing, NoStep as NoneMade, Refused, CursorAt, Composed, Answered, Took, Exchanged}
 use Rattle.pm_session.specs.declared.room.Room.{Room}
 
 module _ {C : Type 0} where
@@ -57,7 +57,7 @@ module _ {Rules Doc Reason C : Type 0} where
   abbrev pub by_some : State C Rules Doc Reason → ℕ → Option (Member C Rules Doc Reason)
       → (Member C Rules Doc Reason → Outcome C Rules Doc Reason × Authority C Rules Doc Reason × Member C Rules Doc Reason)
       → Outcome C Rules Doc Reason × State C Rules Doc Reason
-  by_some s i None does = (NoPlace, s)
+  by_some s i None does = (NoneMade NotThere, s)
   by_some s i (Some x) does = ((does x).0, placed s i (does x).1 (does x).2)
 
   -- What member i makes of a room: an outcome, and the authority and itself after it. Where it isn't there, nothing is done.
@@ -114,26 +114,26 @@ module _ {Rules Doc Reason C : Type 0} where
   -- the answer to a message that was presented is kept
   abbrev pub keeps : Client C Rules Doc Reason → Option (Answer C Rules Doc Reason) → Outcome C Rules Doc Reason × Client C Rules Doc Reason
   keeps c (Some answer) = (Answered (told answer), kept c answer)
-  keeps c None = (NoPlace, c)
+  keeps c None = (NoneMade NotThere, c)
 
   -- a raw client learns what its submission got, and the serials of so many steps are drawn
   abbrev pub draws : ℕ → ℕ → ℕ → Option (Answer C Rules Doc Reason) → Outcome C Rules Doc Reason × Member C Rules Doc Reason
   draws name serial count (Some answer) = (Answered (told answer), Raw name (serial + count))
-  draws name serial count None = (NoPlace, Raw name serial)
+  draws name serial count None = (NoneMade NotThere, Raw name serial)
 
   -- what a raw client makes of an act and of the answer that came; it does nothing but forge
   abbrev pub finished_by_raw : {Op : Type 0} → Act Op C → ℕ → ℕ → Option (Answer C Rules Doc Reason) → Outcome C Rules Doc Reason × Member C Rules Doc Reason
   finished_by_raw (Forge version steps) name serial answer = draws name serial (length steps) answer
-  finished_by_raw (Edit op event) name serial answer = (NoPlace, Raw name serial)
-  finished_by_raw Undo name serial answer = (NoPlace, Raw name serial)
-  finished_by_raw Redo name serial answer = (NoPlace, Raw name serial)
-  finished_by_raw (Cursor p side) name serial answer = (NoPlace, Raw name serial)
-  finished_by_raw Submit name serial answer = (NoPlace, Raw name serial)
-  finished_by_raw Ask name serial answer = (NoPlace, Raw name serial)
-  finished_by_raw (Present j) name serial answer = (NoPlace, Raw name serial)
-  finished_by_raw (Take n) name serial answer = (NoPlace, Raw name serial)
-  finished_by_raw (Push lost) name serial answer = (NoPlace, Raw name serial)
-  finished_by_raw (Pull lost) name serial answer = (NoPlace, Raw name serial)
+  finished_by_raw (Edit op event) name serial answer = (NoneMade NotThere, Raw name serial)
+  finished_by_raw Undo name serial answer = (NoneMade NotThere, Raw name serial)
+  finished_by_raw Redo name serial answer = (NoneMade NotThere, Raw name serial)
+  finished_by_raw (Cursor p side) name serial answer = (NoneMade NotThere, Raw name serial)
+  finished_by_raw Submit name serial answer = (NoneMade NotThere, Raw name serial)
+  finished_by_raw Ask name serial answer = (NoneMade NotThere, Raw name serial)
+  finished_by_raw (Present j) name serial answer = (NoneMade NotThere, Raw name serial)
+  finished_by_raw (Take n) name serial answer = (NoneMade NotThere, Raw name serial)
+  finished_by_raw (Push lost) name serial answer = (NoneMade NotThere, Raw name serial)
+  finished_by_raw (Pull lost) name serial answer = (NoneMade NotThere, Raw name serial)
 
   -- an editor is a member
   abbrev pub as_member : Outcome C Rules Doc Reason × Client C Rules Doc Reason → Outcome C Rules Doc Reason × Member C Rules Doc Reason
@@ -142,17 +142,13 @@ module _ {Rules Doc Reason C : Type 0} where
 module _ {Rules Doc Reason C : Type 0} (m : Meaning Rules Doc Reason C) where
   -- a cursor is set, unless its position passes the document's size
   abbrev pub sets : Client C Rules Doc Reason → ℕ → ℤ → Outcome C Rules Doc Reason × Client C Rules Doc Reason
-  sets c p side = if nat_lt (m.size c.doc) p then (NoRange, c) else (CursorAt p, cursor_set c p side)
+  sets c p side = if nat_lt (m.size c.doc) p then (NoneMade Range, c) else (CursorAt p, cursor_set c p side)
 
 module _ {Rules Doc Reason C : Type 0} (m : Meaning Rules Doc Reason C) (rules : Rules) where
-  -- An op's steps are made, with this event number, or the outcome says why there are none. Want of memory is no meaning of
-  -- an op.
-  abbrev pub edits : Client C Rules Doc Reason → Option ℕ → Result (List C) NoSteps → Outcome C Rules Doc Reason × Client C Rules Doc Reason
+  -- An op's steps are made, with this event number, or the outcome says why there are none.
+  abbrev pub edits : Client C Rules Doc Reason → Option ℕ → Result (List C) NoStep → Outcome C Rules Doc Reason × Client C Rules Doc Reason
   edits c event (Ok steps) = made c steps (edited m rules c steps event)
-  edits c event (Err Range) = (NoRange, c)
-  edits c event (Err NotThere) = (NoPlace, c)
-  edits c event (Err FitsNowhere) = (NoFit, c)
-  edits c event (Err NoMemory) = (NoFit, c)
+  edits c event (Err reason) = (NoneMade reason, c)
 
   -- the answer of a number is taken
   abbrev pub takes : Client C Rules Doc Reason → ℕ → Outcome C Rules Doc Reason × Client C Rules Doc Reason
@@ -166,7 +162,7 @@ module _ {Rules Doc Reason C : Type 0} (m : Meaning Rules Doc Reason C) (rules :
   -- an editor composed a message of this kind and presented it: it keeps the answer, and takes it unless it is lost
   abbrev pub exchanges : Client C Rules Doc Reason → Kind → Bool → Option (Answer C Rules Doc Reason) → Outcome C Rules Doc Reason × Client C Rules Doc Reason
   exchanges c kind lost (Some answer) = ends lost (kept (composed c kind) answer) answer
-  exchanges c kind lost None = (NoPlace, c)
+  exchanges c kind lost None = (NoneMade NotThere, c)
 
   -- A member's message is presented, if there is one, and the member makes an outcome and itself of the answer.
   abbrev pub by_answer : Authority C Rules Doc Reason → Option (Message C)
@@ -182,9 +178,9 @@ module _ {Rules Doc Reason C : Type 0} (m : Meaning Rules Doc Reason C) (rules :
   abbrev pub member_exchanges : Authority C Rules Doc Reason → Kind → Member C Rules Doc Reason
       → Outcome C Rules Doc Reason × Authority C Rules Doc Reason × Member C Rules Doc Reason
   member_exchanges a kind (Editor c) = by_answer a (Some (message_of c kind)) (λ answer. as_member (exchanges c kind false answer))
-  member_exchanges a kind (Raw name serial) = (NoPlace, a, Raw name serial)
+  member_exchanges a kind (Raw name serial) = (NoneMade NotThere, a, Raw name serial)
 
-  module _ {Op : Type 0} (makes : Doc → Op → Result (List C) NoSteps) where
+  module _ {Op : Type 0} (makes : Doc → Op → Result (List C) NoStep) where
     -- what an editor makes of an act, and of the answer where the act presents a message; it does not forge
     abbrev pub finished_by_editor : Act Op C → Client C Rules Doc Reason → Option (Answer C Rules Doc Reason) → Outcome C Rules Doc Reason × Client C Rules Doc Reason
     finished_by_editor (Edit op event) c answer = edits c event (makes c.doc op)
@@ -197,7 +193,7 @@ module _ {Rules Doc Reason C : Type 0} (m : Meaning Rules Doc Reason C) (rules :
     finished_by_editor (Take n) c answer = takes c n
     finished_by_editor (Push lost) c answer = exchanges c Submission lost answer
     finished_by_editor (Pull lost) c answer = exchanges c Asking lost answer
-    finished_by_editor (Forge version steps) c answer = (NoPlace, c)
+    finished_by_editor (Forge version steps) c answer = (NoneMade NotThere, c)
 
     -- The outcome of an act by a member, and the member after it, from the answer that came. None came where the act presents
     -- no message.

@@ -2,6 +2,7 @@
 use Rattle.std.specs.Prelude.{◌≡◌, ℕ, ◌<◌, ◌^◌, ◌++◌, List, length, Option, Some, None, Result}
 use Rattle.std.specs.List.{AllByRecursion as Each}
 use Rattle.pm_change.specs.Changes.{Meaning}
+use Rattle.pm_change.specs.declared.no_step.NoStep.{NoStep}
 use Rattle.pm_authority.specs.declared.named.Named.{Named}
 use Rattle.pm_authority.specs.declared.authority.Authority.{Authority}
 use Rattle.pm_authority.specs.declared.message.Message.{Message}
@@ -12,7 +13,6 @@ use Rattle.pm_authority.specs.Runs.{AllApply}
 use Rattle.pm_client.specs.Kins.{IsForeign}
 use Rattle.pm_session.specs.declared.line.Act.{Act}
 use Rattle.pm_session.specs.declared.member.Member.{Member}
-use Rattle.pm_session.specs.declared.maker.NoSteps.{NoSteps}
 use Rattle.pm_session.specs.declared.outcome.Outcome.{Outcome}
 use Rattle.pm_session.specs.Events.{asked, finished}
 
@@ -35,7 +35,7 @@ module _ {Rules Doc Reason C : Type 0} (m : Meaning Rules Doc Reason C) (rules :
     pub answer_is : answer ≡ (presented m rules authority message).0
     pub new_is : new ≡ (presented m rules authority message).1.log
 
-  module _ {Op : Type 0} (makes : Doc → Op → Result (List C) NoSteps) (same : Type 0) (tells : Message C → Answer C Rules Doc Reason → Type 0) where
+  module _ {Op : Type 0} (makes : Doc → Op → Result (List C) NoStep) (same : Type 0) (tells : Message C → Answer C Rules Doc Reason → Type 0) where
     abbrev pub ActsBy : Option (Message C) → Act Op C → Member C Rules Doc Reason → Outcome C Rules Doc Reason → Member C Rules Doc Reason → Type 0
     ActsBy None act x o next = same × ((o, next) ≡ finished m rules makes act x None)
     ActsBy (Some message) act x o next = (answer : Answer C Rules Doc Reason) × tells message answer × ((o, next) ≡ finished m rules makes act x (Some answer))

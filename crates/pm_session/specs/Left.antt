@@ -1,6 +1,7 @@
 -- What a line that ran out of memory left: the parts that were done, one after another, and no other change.
 use Rattle.std.specs.Prelude.{◌≡◌, ◌⊎◌, ℕ, List, Result, Some, length, slice_get, take}
 use Rattle.pm_change.specs.Changes.{Meaning}
+use Rattle.pm_change.specs.declared.no_step.NoStep.{NoStep}
 use Rattle.pm_authority.specs.declared.authority.Authority.{Authority}
 use Rattle.pm_authority.specs.declared.message.Message.{Message}
 use Rattle.pm_authority.specs.declared.message.Answer.{Answer}
@@ -14,7 +15,6 @@ use Rattle.pm_session.specs.declared.line.Act.TheVariants.{Edit, Undo, Redo, Cur
 use Rattle.pm_session.specs.declared.member.Member.{Member}
 use Rattle.pm_session.specs.declared.member.Member.TheVariants.{Editor, Raw}
 use Rattle.pm_session.specs.declared.line.Line.{Line}
-use Rattle.pm_session.specs.declared.maker.NoSteps.{NoSteps}
 use Rattle.pm_session.specs.Events.{State, placed}
 use Rattle.pm_session.specs.Sessions.{session, exchanged, brought_up, in_turn}
 
@@ -76,7 +76,7 @@ pub record LeftByLine {Rules Doc Reason C Op : Type 0} (m : Meaning Rules Doc Re
   pub left_is : t ≡ placed s line.client authority next
 
 -- A room that lines played one after another left so: the first k were played, and the next left it, or nothing of it was done.
-pub record LeftByLines {Rules Doc Reason C Op : Type 0} (m : Meaning Rules Doc Reason C) (rules : Rules) (makes : Doc → Op → Result (List C) NoSteps)
+pub record LeftByLines {Rules Doc Reason C Op : Type 0} (m : Meaning Rules Doc Reason C) (rules : Rules) (makes : Doc → Op → Result (List C) NoStep)
     (s : State C Rules Doc Reason) (lines : List (Line Op C)) (t : State C Rules Doc Reason) : Type 0 where
   pub played : ℕ
   pub left : (t ≡ (session m rules makes s (take played lines)).1)

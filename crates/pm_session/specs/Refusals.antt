@@ -12,7 +12,7 @@ use Rattle.pm_session.specs.declared.line.Line.{Line}
 use Rattle.pm_session.specs.declared.outcome.Told.{Told}
 use Rattle.pm_session.specs.declared.outcome.Told.TheVariants.{Accepted as ToldAccepted, Version, Refused as ToldRefused, Entries as ToldEntries}
 use Rattle.pm_session.specs.declared.outcome.Outcome.{Outcome}
-use Rattle.pm_session.specs.declared.outcome.Outcome.TheVariants.{Made, Nothing, NoRange, NoPlace, NoFit, Refused, CursorAt, Composed, Answered, Took, Exchanged}
+use Rattle.pm_session.specs.declared.outcome.Outcome.TheVariants.{Made, Nothing, NoStep, Refused, CursorAt, Composed, Answered, Took, Exchanged}
 use Rattle.pm_session.specs.declared.member.Member.TheVariants.{Editor}
 use Rattle.pm_session.specs.Events.{State}
 use Rattle.pm_session.specs.Suits.{is_forge}
@@ -39,9 +39,7 @@ module _ {Rules Doc Reason C : Type 0} where
   GetsNoRefusal (Exchanged told taken) = TellsNoRefusal told
   GetsNoRefusal (Made count) = Unit {0}
   GetsNoRefusal Nothing = Unit {0}
-  GetsNoRefusal NoRange = Unit {0}
-  GetsNoRefusal NoPlace = Unit {0}
-  GetsNoRefusal NoFit = Unit {0}
+  GetsNoRefusal (NoStep reason) = Unit {0}
   GetsNoRefusal (Refused index reason) = Unit {0}
   GetsNoRefusal (CursorAt p) = Unit {0}
   GetsNoRefusal (Composed n) = Unit {0}

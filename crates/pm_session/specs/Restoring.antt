@@ -1,6 +1,8 @@
 -- An undo or a redo with nothing changed since gives the earlier document back.
-use Rattle.std.specs.Prelude.{◌≡◌, Bool, true, false, slice_get, Some}
+use Rattle.std.specs.Prelude.{◌≡◌, slice_get, Some}
 use Rattle.pm_change.specs.Changes.{Meaning}
+use Rattle.pm_history.specs.declared.direction.Direction.{Direction}
+use Rattle.pm_history.specs.declared.direction.Direction.TheVariants as direction
 use Rattle.pm_authority.specs.declared.authority.Authority.{Authority}
 use Rattle.pm_client.specs.declared.client.Client.{Client}
 use Rattle.pm_client.specs.Kins.{Kin}
@@ -12,17 +14,17 @@ use Rattle.pm_session.specs.declared.member.Member.TheVariants.{Editor}
 use Rattle.pm_session.specs.Events.{State}
 
 module _ {Rules Doc Reason C : Type 0} (m : Meaning Rules Doc Reason C) (rules : Rules) where
-  -- Client c, which stood to the authority's log, became d by undoing its last event, or by redoing it where `redo` holds.
-  -- Where nothing has changed in its timeline since that event, its document is the one before the event. Nothing has changed
-  -- where, from the event's first step on, the timeline reads the event's steps, each followed by an idle stretch, and the
-  -- rules are loose or the steps of the stored inverses apply at their turn.
-  abbrev pub Restored : Bool → Authority C Rules Doc Reason → Client C Rules Doc Reason → Client C Rules Doc Reason → Type 0
-  Restored redo a c d = (kin : Kin m rules a.first a.log c) → GivesBack m rules redo c a.first kin.timeline d.doc
+  -- Client c, which stood to the authority's log, became d by undoing its last event, or by redoing it. Where nothing has
+  -- changed in its timeline since that event, its document is the one before the event. Nothing has changed where, from the
+  -- event's first step on, the timeline reads the event's steps, each followed by an idle stretch, and the rules are loose or
+  -- the steps of the stored inverses apply at their turn.
+  abbrev pub Restored : Direction → Authority C Rules Doc Reason → Client C Rules Doc Reason → Client C Rules Doc Reason → Type 0
+  Restored way a c d = (kin : Kin m rules a.first a.log c) → GivesBack m rules way c a.first kin.timeline d.doc
 
   -- so it is with what an act makes of a client, where the act is an undo or a redo
   abbrev pub RestoredBy : {Op : Type 0} → Act Op C → Authority C Rules Doc Reason → Client C Rules Doc Reason → Client C Rules Doc Reason → Type 0
-  RestoredBy Undo a c d = Restored false a c d
-  RestoredBy Redo a c d = Restored true a c d
+  RestoredBy Undo a c d = Restored direction.Undo a c d
+  RestoredBy Redo a c d = Restored direction.Redo a c d
   RestoredBy (Edit op event) a c d = Unit {0}
   RestoredBy (Cursor p side) a c d = Unit {0}
   RestoredBy Submit a c d = Unit {0}

@@ -1,13 +1,13 @@
 -- A session: lines played one after another, and what follows the last.
 use Rattle.std.specs.Prelude.{ℕ, zero, suc, ◌+◌, Bool, true, false, Result, List, [], ◌∷◌, length}
 use Rattle.pm_change.specs.Changes.{Meaning}
+use Rattle.pm_change.specs.declared.no_step.NoStep.{NoStep}
 use Rattle.pm_client.specs.declared.taken.Kind.{Kind}
 use Rattle.pm_client.specs.declared.taken.Kind.TheVariants.{Submit, Ask}
 use Rattle.pm_client.specs.Clients.{new_client}
 use Rattle.pm_session.specs.declared.line.Line.{Line}
 use Rattle.pm_session.specs.declared.member.Member.{Member}
 use Rattle.pm_session.specs.declared.member.Member.TheVariants.{Editor, Raw}
-use Rattle.pm_session.specs.declared.maker.NoSteps.{NoSteps}
 use Rattle.pm_session.specs.declared.outcome.Outcome.{Outcome}
 use Rattle.pm_session.specs.Events.{State, by_member, played, member_exchanges}
 
@@ -32,7 +32,7 @@ module _ {Rules Doc Reason C : Type 0} where
   in_turn does i (suc n) s = in_turn does (i + 1) n (does i s)
 
 module _ {Rules Doc Reason C : Type 0} (m : Meaning Rules Doc Reason C) (rules : Rules) where
-  module _ {Op : Type 0} (makes : Doc → Op → Result (List C) NoSteps) where
+  module _ {Op : Type 0} (makes : Doc → Op → Result (List C) NoStep) where
     -- the outcomes of the lines in order, and the room after the last
     abbrev pub session : State C Rules Doc Reason → List (Line Op C) → List (Outcome C Rules Doc Reason) × State C Rules Doc Reason
     session s [] = ([], s)

@@ -4,6 +4,7 @@ use Rattle.pm_change.specs.Changes.{Meaning}
 use Rattle.pm_authority.specs.declared.authority.Authority.{Authority}
 use Rattle.pm_client.specs.declared.client.Client.{Client}
 use Rattle.pm_client.specs.TokenNames.{Token, Has, Once, first_names, names_after, passed, AllUnpinched, gone_over}
+use Rattle.pm_client.specs.Cursors.{cursor}
 use Rattle.pm_session.specs.declared.member.Member.TheVariants.{Editor}
 use Rattle.pm_session.specs.Events.{State}
 
@@ -35,6 +36,6 @@ module _ {Rules Doc Reason C : Type 0} (m : Meaning Rules Doc Reason C) where
   abbrev pub CursorsStay : State C Rules Doc Reason → State C Rules Doc Reason → Type 0
   CursorsStay s t =
       (i : ℕ) (c d : Client C Rules Doc Reason) → slice_get s.members i ≡ Some (Editor c) → slice_get t.members i ≡ Some (Editor d) → NonePinched t.authority c d
-      → (j p : ℕ) (x : Token) → slice_get c.cursors j ≡ Some (p, pos 1)
+      → (j p : ℕ) (x : Token) → slice_get c.cursors j ≡ Some (cursor p (pos 1))
       → slice_get (tokens_of s.authority c) p ≡ Some x → Has (tokens_of t.authority d) x
-      → (q : ℕ) × (slice_get d.cursors j ≡ Some (q, pos 1)) × (slice_get (tokens_of t.authority d) q ≡ Some x)
+      → (q : ℕ) × (slice_get d.cursors j ≡ Some (cursor q (pos 1))) × (slice_get (tokens_of t.authority d) q ≡ Some x)

@@ -1,6 +1,6 @@
 -- Which lines may be played: those that name what was composed or kept by then.
 use Rattle.pm_map.specs.Moves.{IsSide}
-use Rattle.std.specs.Prelude.{◌≡◌, ℕ, ◌≤◌, ◌<◌, ◌==◌, ◌&&◌, Bool, true, false, List, [], ◌∷◌, ◌++◌, length, count_by, slice_get, Some}
+use Rattle.std.specs.Prelude.{◌≡◌, ℕ, ◌≤◌, ◌<◌, ◌==◌, ◌&&◌, nat_lt, nat_le, Bool, true, false, List, [], ◌∷◌, ◌++◌, length, count_by, slice_get, Some}
 use Rattle.pm_client.specs.declared.client.Client.{Client}
 use Rattle.pm_session.specs.declared.member.Member.{Member}
 use Rattle.pm_session.specs.declared.member.Member.TheVariants.{Editor, Raw}
@@ -52,6 +52,34 @@ module _ {Op C : Type 0} where
   is_forge (Take n) = false
   is_forge (Push lost) = false
   is_forge (Pull lost) = false
+
+  -- an act that sets a cursor
+  abbrev pub sets_one : Act Op C → Bool
+  sets_one (Cursor p side) = true
+  sets_one (Edit op event) = false
+  sets_one Undo = false
+  sets_one Redo = false
+  sets_one Submit = false
+  sets_one Ask = false
+  sets_one (Present j) = false
+  sets_one (Take n) = false
+  sets_one (Push lost) = false
+  sets_one (Pull lost) = false
+  sets_one (Forge version steps) = false
+
+  -- an act that names a message or an answer names one of so many
+  abbrev pub names_one : ℕ → ℕ → Act Op C → Bool
+  names_one messages answers (Present j) = nat_lt 0 j && nat_le j messages
+  names_one messages answers (Take n) = nat_lt 0 n && nat_le n answers
+  names_one messages answers (Edit op event) = true
+  names_one messages answers Undo = true
+  names_one messages answers Redo = true
+  names_one messages answers (Cursor p side) = true
+  names_one messages answers Submit = true
+  names_one messages answers Ask = true
+  names_one messages answers (Push lost) = true
+  names_one messages answers (Pull lost) = true
+  names_one messages answers (Forge version steps) = true
 
   -- how many of these lines are the client's and do this
   abbrev pub done_by : (Act Op C → Bool) → ℕ → List (Line Op C) → ℕ

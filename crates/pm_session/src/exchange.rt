@@ -14,7 +14,7 @@ use crate::host::Host;
 use crate::member::Member;
 use crate::outcome::{Outcome, Told};
 use pm_authority::{Answer, Authority};
-use pm_change::Change;
+use pm_change::{Change, NoStep};
 use pm_client::{Client, Kind};
 use std::alloc::{AllocError, Global};
 
@@ -123,6 +123,6 @@ pub fn exchange_at<C: Change>(
     let _length = authority.log().len();
     match member {
         Member::Editor(client) => exchange(alloc, rules, authority, client, kind, false),
-        Member::Raw { name: _, serial: _ } => Ok(Outcome::NoPlace),
+        Member::Raw { name: _, serial: _ } => Ok(Outcome::NoStep(NoStep::NotThere)),
     }
 }

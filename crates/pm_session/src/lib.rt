@@ -15,7 +15,7 @@ mod room;
 pub use acting::act;
 pub use host::Host;
 pub use line::{Act, Line};
-pub use maker::{Maker, NoSteps};
+pub use maker::Maker;
 pub use member::Member;
 pub use outcome::{Outcome, Told};
 pub use room::Room;

@@ -1,4 +1,7 @@
 //! One line of a session.
+ghost use Rattle.std.specs.Prelude.{◌≡◌};
+ghost use Rattle.pm_session.specs.Suits.{composes_one, gets_one, names_one, sets_one};
+
 use pm_list::Listed;
 
 /// What a line does. All acts but `Forge` are an editor's, and `Forge` is a raw client's.
@@ -28,6 +31,91 @@ pub enum Act<O, C> {
     /// Presents a submission of these steps at this version. Each step gets the raw client's name and its next serial, also
     /// where the submission is refused.
     Forge { version: u64, steps: Listed<C> },
+}
+
+impl<O, C> Act<O, C> {
+    /// Whether it composes a message.
+    pub fn composes(&self) -> bool
+        ensures { result ≡ composes_one self.now }
+    {
+        match self {
+            Act::Submit | Act::Ask | Act::Push { lost: _ } | Act::Pull { lost: _ } => true,
+            Act::Edit { op: _, event: _ }
+            | Act::Undo
+            | Act::Redo
+            | Act::Cursor { pos: _, side: _ }
+            | Act::Present { message: _ }
+            | Act::Take { answer: _ }
+            | Act::Forge {
+                version: _,
+                steps: _,
+            } => false,
+        }
+    }
+
+    /// Whether it gets an answer, which is kept.
+    pub fn answers(&self) -> bool
+        ensures { result ≡ gets_one self.now }
+    {
+        match self {
+            Act::Present { message: _ } | Act::Push { lost: _ } | Act::Pull { lost: _ } => true,
+            Act::Edit { op: _, event: _ }
+            | Act::Undo
+            | Act::Redo
+            | Act::Cursor { pos: _, side: _ }
+            | Act::Submit
+            | Act::Ask
+            | Act::Take { answer: _ }
+            | Act::Forge {
+                version: _,
+                steps: _,
+            } => false,
+        }
+    }
+
+    /// Whether the message or the answer that it names is one of so many, counted from 1; true where it names none.
+    pub fn names(&self, messages: u64, answers: u64) -> bool
+        ensures { result ≡ names_one messages answers self.now }
+    {
+        match self {
+            Act::Present { message } => 0 < *message && *message <= messages,
+            Act::Take { answer } => 0 < *answer && *answer <= answers,
+            Act::Edit { op: _, event: _ }
+            | Act::Undo
+            | Act::Redo
+            | Act::Cursor { pos: _, side: _ }
+            | Act::Submit
+            | Act::Ask
+            | Act::Push { lost: _ }
+            | Act::Pull { lost: _ }
+            | Act::Forge {
+                version: _,
+                steps: _,
+            } => true,
+        }
+    }
+
+    /// Whether it sets a cursor.
+    pub fn sets_cursor(&self) -> bool
+        ensures { result ≡ sets_one self.now }
+    {
+        match self {
+            Act::Cursor { pos: _, side: _ } => true,
+            Act::Edit { op: _, event: _ }
+            | Act::Undo
+            | Act::Redo
+            | Act::Submit
+            | Act::Ask
+            | Act::Present { message: _ }
+            | Act::Take { answer: _ }
+            | Act::Push { lost: _ }
+            | Act::Pull { lost: _ }
+            | Act::Forge {
+                version: _,
+                steps: _,
+            } => false,
+        }
+    }
 }
 
 /// One event of a session.

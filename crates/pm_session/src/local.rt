@@ -6,9 +6,9 @@ ghost use Rattle.pm_client.specs.Cursors.{AreWithin};
 ghost use Rattle.pm_client.specs.Kins.{Stands};
 ghost use Rattle.pm_session.specs.Events.{edits, turns, sets, composes, takes};
 
-use crate::maker::{Maker, NoSteps};
+use crate::maker::Maker;
 use crate::outcome::Outcome;
-use pm_change::Change;
+use pm_change::{Change, MakeError, NoStep};
 use pm_client::{Client, CursorError, EditError, Kind, UndoError};
 use std::alloc::{AllocError, Global};
 
@@ -28,10 +28,8 @@ pub fn edit<C: Change, K: Maker<C>>(
 {
     let steps = match maker.steps(alloc, rules, client.doc(), op) {
         Ok(steps) => steps,
-        Err(NoSteps::Range) => return Ok(Outcome::NoRange),
-        Err(NoSteps::NotThere) => return Ok(Outcome::NoPlace),
-        Err(NoSteps::NoFit) => return Ok(Outcome::NoFit),
-        Err(NoSteps::NoMemory) => return Err(AllocError),
+        Err(MakeError::NoStep(reason)) => return Ok(Outcome::NoStep(reason)),
+        Err(MakeError::NoMemory) => return Err(AllocError),
     };
     match client.edit(alloc, rules, steps, event) {
         Ok(count) => Ok(Outcome::Made { count }),
@@ -87,7 +85,7 @@ pub fn set_cursor<C: Change>(
 {
     match client.set_cursor(pos, side) {
         Ok(()) => Ok(Outcome::CursorAt { pos }),
-        Err(CursorError::Range) => Ok(Outcome::NoRange),
+        Err(CursorError::Range) => Ok(Outcome::NoStep(NoStep::Range)),
         Err(CursorError::NoMemory) => Err(AllocError),
     }
 }

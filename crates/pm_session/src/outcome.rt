@@ -1,5 +1,5 @@
 //! What became of a line.
-use pm_change::Change;
+use pm_change::{Change, NoStep};
 use pm_client::Taken;
 
 /// The authority's answer, as an outcome tells it.
@@ -23,12 +23,9 @@ pub enum Outcome<C: Change> {
     Made { count: u64 },
     /// There was no event to undo or to redo. Nothing changed.
     Nothing,
-    /// The op's positions are not in order within the document, or the cursor's passes its size. Nothing changed.
-    NoRange,
-    /// What the op names is not there. Nothing changed.
-    NoPlace,
-    /// The op's content fits nowhere there. Nothing changed.
-    NoFit,
+    /// The op made no step, for this reason; `Range` is also a cursor past the document's size, and `NotThere` what the member
+    /// can't do. Nothing changed.
+    NoStep(NoStep),
     /// Step `index`, counted from 0, does not apply, for this reason. Nothing changed.
     Refused { index: u64, reason: C::Reason },
     /// A cursor was set at this position.

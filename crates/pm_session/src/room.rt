@@ -186,7 +186,7 @@ impl<C: Change> Room<C> {
     }
 
     /// The editor at this place composes a message of this kind, presents it, and keeps and takes the answer. A raw client
-    /// does nothing, and the outcome is `NoPlace`. Want of memory leaves the first of these parts done and the others not.
+    /// does nothing, and the outcome is `NotThere`. Want of memory leaves the first of these parts done and the others not.
     pub fn exchange(
         &mut self,
         alloc: Global,

@@ -5,7 +5,7 @@ ghost use Rattle.pm_sheet.specs.Edits.{meaning, is_good};
 
 use crate::{Edit, Rules};
 use pm_change::{Change, Failed, Name};
-use pm_history::{Branches, Event, Item, Side, undo_event};
+use pm_history::{Branches, Direction, Event, Item, Side, undo_event};
 use pm_list::Listed;
 use pm_map::{Span, StepMap};
 use std::alloc::{AllocError, Global};
@@ -248,7 +248,7 @@ fn edits_join_by_number(rt: HostRuntime) -> Result<(), AllocError> {
 fn an_empty_history_has_no_event_and_no_step(rt: HostRuntime) -> Result<(), AllocError> {
     let alloc = rt.alloc();
     let mut history: Branches<u8> = Branches::new(alloc);
-    assert!(rt; history.pop(false).is_none() && history.pop(true).is_none());
+    assert!(rt; history.pop(Direction::Undo).is_none() && history.pop(Direction::Redo).is_none());
     assert!(rt; history.later(alloc, named(1))?.is_none() && history.inverse(named(1)).is_none());
     Ok(())
 }
@@ -257,7 +257,7 @@ fn an_empty_history_has_no_event_and_no_step(rt: HostRuntime) -> Result<(), Allo
 fn an_undo_closes_the_event_and_an_edit_empties_redo(rt: HostRuntime) -> Result<(), AllocError> {
     let alloc = rt.alloc();
     let mut history = five(alloc)?;
-    assert!(rt; history.pop(false).is_some());
+    assert!(rt; history.pop(Direction::Undo).is_some());
     let undo = Side::Undo {
         event: None,
         first: true,
@@ -306,7 +306,7 @@ fn what_was_undone_can_be_redone(rt: HostRuntime) -> Result<(), AllocError> {
         number: Some(3),
         names: names_of(alloc, &[6])?,
     };
-    history.undone(false, made, items)?;
+    history.undone(Direction::Undo, made, items)?;
     assert!(rt; history.undo_events().len() == 2 && history.items().len() == 6);
     assert!(rt; is_of(alloc, history.redo_events(), 0, &[6])?);
     Ok(())

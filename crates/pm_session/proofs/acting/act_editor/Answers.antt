@@ -1,4 +1,5 @@
-use Rattle.std.proofs.Common.{rules, true, false}
+use Rattle.std.proofs.Common.{rules}
+use Rattle.pm_history.specs.declared.direction.Direction.TheVariants.{Undo, Redo}
 use Rattle.pm_client.specs.declared.taken.Kind.TheVariants.{Submit, Ask}
 use Rattle.pm_client.specs.Clients.{undone_last, redone_last}
 use Rattle.pm_session.specs.Events.{edits, turns, composes, takes}
@@ -48,7 +49,7 @@ returns-in-Undo-clause-stands g c =
     let a = holder m rules_now laws first log old stands log_is in
     let stood = holder-kept m rules_now laws first log old stands log_is in
     let p = turns old (undone_last m rules_now old) in
-    let moved = turns-moved m rules_now laws a stood old stands.kin false in
+    let moved = turns-moved m rules_now laws a stood old stands.kin Undo in
     either-stands m rules_now first log old stands log_is c.undo.result p c.undo.new.client (alone-stands m rules_now first log old stands log_is laws p.1 moved) c.undo.ensures.undoes c.undo.ensures.err
 
 pub returns-in-Redo-clause-stands : goal.returns-in-Redo-clause-stands
@@ -65,7 +66,7 @@ returns-in-Redo-clause-stands g c =
     let a = holder m rules_now laws first log old stands log_is in
     let stood = holder-kept m rules_now laws first log old stands log_is in
     let p = turns old (redone_last m rules_now old) in
-    let moved = turns-moved m rules_now laws a stood old stands.kin true in
+    let moved = turns-moved m rules_now laws a stood old stands.kin Redo in
     either-stands m rules_now first log old stands log_is c.redo.result p c.redo.new.client (alone-stands m rules_now first log old stands log_is laws p.1 moved) c.redo.ensures.redoes c.redo.ensures.err
 
 pub returns-in-Cursor-clause-stands : goal.returns-in-Cursor-clause-stands

@@ -1,4 +1,4 @@
-use Rattle.std.proofs.Common.{true}
+use Rattle.pm_history.specs.declared.direction.Direction.TheVariants.{Redo}
 use Rattle.pm_client.proofs.Turns.{last-none, turn-kin, turn-whole, turn-restores, turn-tokens}
 use Rattle.pm_client.proofs.client.Client.redo.Goals as goal
 
@@ -8,13 +8,13 @@ returns-clause-nothing g c =
     (λ e. none.0 (c.turn.ensures.nothing.0 e), λ e. c.turn.ensures.nothing.1 (none.1 e))
 
 pub returns-clause-kin : goal.returns-clause-kin
-returns-clause-kin g c = turn-kin g.C.Change.means c.args.rules.now g.met.C.Change.laws c.args.self.now c.turn.new.self true c.turn.result c.turn.ensures.turned c.turn.ensures.err
+returns-clause-kin g c = turn-kin g.C.Change.means c.args.rules.now g.met.C.Change.laws c.args.self.now c.turn.new.self Redo c.turn.result c.turn.ensures.turned c.turn.ensures.err
 
 pub returns-clause-whole : goal.returns-clause-whole
-returns-clause-whole g c = turn-whole g.C.Change.means c.args.rules.now g.met.C.Change.laws c.args.self.now c.turn.new.self true c.turn.result c.turn.ensures.turned
+returns-clause-whole g c = turn-whole g.C.Change.means c.args.rules.now g.met.C.Change.laws c.args.self.now c.turn.new.self Redo c.turn.result c.turn.ensures.turned
 
 pub returns-clause-restores : goal.returns-clause-restores
-returns-clause-restores g c = turn-restores g.C.Change.means c.args.rules.now g.met.C.Change.laws c.args.self.now c.turn.new.self true c.turn.result c.turn.ensures.turned
+returns-clause-restores g c = turn-restores g.C.Change.means c.args.rules.now g.met.C.Change.laws c.args.self.now c.turn.new.self Redo c.turn.result c.turn.ensures.turned
 
 pub returns-clause-tokens : goal.returns-clause-tokens
-returns-clause-tokens g c = turn-tokens g.C.Change.means c.args.rules.now g.met.C.Change.laws c.args.self.now c.turn.new.self true c.turn.result c.turn.ensures.turned
+returns-clause-tokens g c = turn-tokens g.C.Change.means c.args.rules.now g.met.C.Change.laws c.args.self.now c.turn.new.self Redo c.turn.result c.turn.ensures.turned
