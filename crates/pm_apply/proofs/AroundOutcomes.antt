@@ -9,7 +9,7 @@ use Rattle.pm_tokens.specs.Slices.{Slice, is_slice, slice_size, slice_tokens, sp
 use Rattle.pm_meaning.specs.declared.reason.Reason.{Reason}
 use Rattle.pm_meaning.specs.declared.reason.Reason.TheVariants.{Range, Structure, Gap, Depth, Pair}
 use Rattle.pm_meaning.specs.Steps.{ReplaceAround}
-use Rattle.pm_meaning.specs.Outcomes.{in_order, keeps_structure, parts_no_pair, outcome}
+use Rattle.pm_meaning.specs.Outcomes.{in_order, keeps_structure, parts_no_pair, made}
 use Rattle.pm_replace.specs.Splices.{spliced_outcome}
 use Rattle.pm_apply.specs.declared.around.Ends.{Ends}
 use Rattle.pm_replace.proofs.OutcomeAnswers.{passes, fails}
@@ -40,8 +40,8 @@ is-ordered ends sl n h =
     }
 
 module _ (s : Schema) (d : Doc) (ends : Ends) (sl : Slice) (structure : Bool) (slice : is_slice sl ≡ true) where
-  abbrev pub made : Result Doc Reason
-  made = outcome s (ReplaceAround ends.from ends.to ends.gap_from ends.gap_to sl ends.insert structure) d
+  abbrev pub tried : Result Doc Reason
+  tried = made s (ReplaceAround ends.from ends.to ends.gap_from ends.gap_to sl ends.insert structure) d
 
   abbrev first : List Token
   first = part ends.from ends.gap_from d.tokens
@@ -49,24 +49,24 @@ module _ (s : Schema) (d : Doc) (ends : Ends) (sl : Slice) (structure : Bool) (s
   abbrev last : List Token
   last = part ends.gap_to ends.to d.tokens
 
-  pub around-range : are_ordered ends sl (length d.tokens) ≡ false → made ≡ Err Range
+  pub around-range : are_ordered ends sl (length d.tokens) ≡ false → tried ≡ Err Range
   around-range h = passes (is_slice sl) Range _ slice ∙ fails (are_ordered ends sl (length d.tokens)) Range _ h
 
   module _ (o : are_ordered ends sl (length d.tokens) ≡ true) where
-    pub around-structure : (keeps_structure structure first && keeps_structure structure last) ≡ false → made ≡ Err Structure
+    pub around-structure : (keeps_structure structure first && keeps_structure structure last) ≡ false → tried ≡ Err Structure
     around-structure h =
         passes (is_slice sl) Range _ slice ∙ (passes (are_ordered ends sl (length d.tokens)) Range _ o
         ∙ fails (keeps_structure structure first && keeps_structure structure last) Structure _ h)
 
     module _ (k : (keeps_structure structure first && keeps_structure structure last) ≡ true) where
-      pub around-gap : is_whole (part ends.gap_from ends.gap_to d.tokens) ≡ false → made ≡ Err Gap
+      pub around-gap : is_whole (part ends.gap_from ends.gap_to d.tokens) ≡ false → tried ≡ Err Gap
       around-gap h =
           passes (is_slice sl) Range _ slice ∙ (passes (are_ordered ends sl (length d.tokens)) Range _ o
           ∙ (passes (keeps_structure structure first && keeps_structure structure last) Structure _ k
           ∙ fails (is_whole (part ends.gap_from ends.gap_to d.tokens)) Gap _ h))
 
       module _ (w : is_whole (part ends.gap_from ends.gap_to d.tokens) ≡ true) where
-        pub around-depth : depths_fit d.tokens ends.from ends.to sl ≡ false → made ≡ Err Depth
+        pub around-depth : depths_fit d.tokens ends.from ends.to sl ≡ false → tried ≡ Err Depth
         around-depth h =
             passes (is_slice sl) Range _ slice ∙ (passes (are_ordered ends sl (length d.tokens)) Range _ o
             ∙ (passes (keeps_structure structure first && keeps_structure structure last) Structure _ k
@@ -77,13 +77,13 @@ module _ (s : Schema) (d : Doc) (ends : Ends) (sl : Slice) (structure : Bool) (s
           whole_pairs =
               parts_no_pair d.tokens (ends.from ∷ ends.gap_from ∷ ends.gap_to ∷ ends.to ∷ []) && parts_no_pair (slice_tokens sl) (ends.insert ∷ [])
 
-          pub around-pair : whole_pairs ≡ false → made ≡ Err Pair
+          pub around-pair : whole_pairs ≡ false → tried ≡ Err Pair
           around-pair h =
               passes (is_slice sl) Range _ slice ∙ (passes (are_ordered ends sl (length d.tokens)) Range _ o
               ∙ (passes (keeps_structure structure first && keeps_structure structure last) Structure _ k
               ∙ (passes (is_whole (part ends.gap_from ends.gap_to d.tokens)) Gap _ w ∙ (passes (depths_fit d.tokens ends.from ends.to sl) Depth _ f ∙ fails whole_pairs Pair _ h))))
 
-          pub around-spliced : whole_pairs ≡ true → made ≡ spliced_outcome s d (spliced_around d.tokens ends.from ends.to ends.gap_from ends.gap_to sl ends.insert)
+          pub around-spliced : whole_pairs ≡ true → tried ≡ spliced_outcome s d (spliced_around d.tokens ends.from ends.to ends.gap_from ends.gap_to sl ends.insert)
           around-spliced h =
               passes (is_slice sl) Range _ slice ∙ (passes (are_ordered ends sl (length d.tokens)) Range _ o
               ∙ (passes (keeps_structure structure first && keeps_structure structure last) Structure _ k

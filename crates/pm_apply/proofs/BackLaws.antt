@@ -6,7 +6,9 @@ use Rattle.pm_tokens.specs.Schemas.{Schema}
 use Rattle.pm_tokens.specs.Faults.{Valid}
 use Rattle.pm_tokens.specs.Scan.{parts_pair}
 use Rattle.pm_meaning.specs.Inverses.{same_tokens, gives, one_or_runs, inverse}
+use Rattle.pm_meaning.specs.Known.{knows_step}
 use Rattle.pm_meaning.specs.Outcomes.{outcome}
+use Rattle.pm_meaning.proofs.OutcomeLaws.{known-made}
 use Rattle.pm_meaning.specs.Runs.{run_steps, close_run}
 use Rattle.pm_step.specs.declared.marking.Marking.{Marking}
 use Rattle.pm_step.specs.declared.marking.Marking.TheVariants.{Add, Remove}
@@ -23,10 +25,14 @@ use Rattle.pm_apply.proofs.SameTokens.{checked-gives}
 use Rattle.pm_apply.proofs.TwiceLaws.{pairs-kept}
 use Rattle.pm_apply.proofs.DueLaws.{steps-split}
 
-module _ (s : Schema) (m : Marking) (from to : ℕ) (d : Doc) (v : Valid s d) (h : from ≤ to) (i : to ≤ length d.tokens) where
+module _ (s : Schema) (m : Marking) (from to : ℕ) (d : Doc) (v : Valid s d) (h : from ≤ to) (i : to ≤ length d.tokens) (k : knows_step s (range_step m from to) ≡ true) where
   -- the tokens after the marking
   abbrev pub after : List Token
   after = marked_in (new_marks s m Inline) (d.kind ∷ []) from to d.tokens
+
+  opposite-known : (x : Marking) → knows_step s (range_step x from to) ≡ true → knows_step s (range_step (opposite x) from to) ≡ true
+  opposite-known (Add y) h = h
+  opposite-known (Remove y) h = h
 
   inverse-is : (x : Marking) → inverse s (range_step x from to) d ≡ one_or_runs s (range_step (opposite x) from to) d (with_tokens d (marked_in (new_marks s x Inline) (d.kind ∷ []) from to d.tokens))
   inverse-is (Add k) = refl
@@ -40,19 +46,19 @@ module _ (s : Schema) (m : Marking) (from to : ℕ) (d : Doc) (v : Valid s d) (h
 
   module _ (p : parts_pair d.tokens from ≡ false) (q : parts_pair d.tokens to ≡ false) where
     -- a marking behind it gives the document exactly where it gives the tokens
-    pub back-gives : (b : Marking) → gives (outcome s (range_step b from to) (with_tokens d after)) d.tokens ≡ same_tokens (marked_twice s m b (d.kind ∷ []) from to d.tokens) d.tokens
-    back-gives b =
+    pub back-gives : (b : Marking) → knows_step s (range_step b from to) ≡ true → gives (outcome s (range_step b from to) (with_tokens d after)) d.tokens ≡ same_tokens (marked_twice s m b (d.kind ∷ []) from to d.tokens) d.tokens
+    back-gives b kb =
         let twice = marked_twice s m b (d.kind ∷ []) from to d.tokens in
         let within : to ≤ length after = omega (arith, i, after-length) in
         ap (λ z. gives z d.tokens)
-        (range-checked s b from to (with_tokens d after) h within (after-pairs from ∙ p) (after-pairs to ∙ q) twice refl)
+        (known-made s (range_step b from to) (with_tokens d after) kb ∙ range-checked s b from to (with_tokens d after) h within (after-pairs from ∙ p) (after-pairs to ∙ q) twice refl)
         ∙ checked-gives s d twice v
 
     decided : (b : Bool) → same_tokens (marked_twice s m (opposite m) (d.kind ∷ []) from to d.tokens) d.tokens ≡ b
         → inverse s (range_step m from to) d ≡ cond b (range_step (opposite m) from to ∷ []) (run_steps s 0 None d.tokens after)
     decided b e =
         inverse-is m
-        ∙ ap (λ z. cond z (range_step (opposite m) from to ∷ []) (run_steps s 0 None d.tokens after)) (back-gives (opposite m) ∙ e)
+        ∙ ap (λ z. cond z (range_step (opposite m) from to ∷ []) (run_steps s 0 None d.tokens after)) (back-gives (opposite m) (opposite-known m k) ∙ e)
 
     pub back-by-one : same_tokens (marked_twice s m (opposite m) (d.kind ∷ []) from to d.tokens) d.tokens ≡ true → range_step (opposite m) from to ∷ [] ≡ inverse s (range_step m from to) d
     back-by-one e = sym (decided true e)

@@ -6,11 +6,11 @@ use Rattle.pm_tokens.specs.Schemas.{Schema}
 use Rattle.pm_tokens.specs.Scan.{parts_pair}
 use Rattle.pm_tokens.specs.Slices.{Slice}
 use Rattle.pm_tokens.proofs.PartLaws.{is-slice}
-use Rattle.pm_meaning.specs.Steps.{Replace, ReplaceAround}
+use Rattle.pm_meaning.specs.Steps.{Replace, ReplaceAround, AddMark, RemoveMark, AddNodeMark, RemoveNodeMark}
 use Rattle.pm_meaning.specs.declared.reason.Reason.TheVariants.{Range, Pair, NoNode}
 use Rattle.pm_meaning.specs.Marked.{add, remove, mark_added, mark_removed, marked, node_marked, starts_node}
 use Rattle.pm_meaning.specs.Outcomes.{in_order, parts_no_pair, and_unless, checked, range_outcome, node_outcome, outcome}
-use Rattle.pm_meaning.proofs.OutcomeLaws.{unless-ok}
+use Rattle.pm_meaning.proofs.OutcomeLaws.{unless-ok, made-ok}
 use Rattle.pm_meaning.proofs.ReplaceLaws.{not-true, of-depths, replaced}
 use Rattle.pm_meaning.proofs.AroundLaws.{moved}
 use Rattle.pm_meaning.proofs.MarkStepLaws.{range-order, node-order, node-stands}
@@ -57,8 +57,8 @@ range-facts s f from to d next h =
     record { order = o.0; within = o.1; start = not-true _ p.0; end = not-true _ q.0 }
 
 pub range-is : (s : Schema) (m : Marking) (from to : ℕ) (d next : Doc) → outcome s (range_step m from to) d ≡ Ok next → IsRange d.tokens from to
-range-is s (Add k) from to d next h = range-facts s (mark_added s k) from to d next h
-range-is s (Remove k) from to d next h = range-facts s (mark_removed s k) from to d next h
+range-is s (Add k) from to d next h = range-facts s (mark_added s k) from to d next (made-ok s (AddMark from to k) d next h).1
+range-is s (Remove k) from to d next h = range-facts s (mark_removed s k) from to d next (made-ok s (RemoveMark from to k) d next h).1
 
 -- the place of a step that changes the marks of a node
 pub record IsNode (ts : List Token) (pos : ℕ) : Type 0 where
@@ -81,5 +81,5 @@ node-facts s f pos d next h =
     record { within = node-order s f pos d next h; whole = not-true _ p.0; there = some-first (drop pos d.tokens) (node-stands s f pos d next h) }
 
 pub node-is : (s : Schema) (m : Marking) (pos : ℕ) (d next : Doc) → outcome s (node_step m pos) d ≡ Ok next → IsNode d.tokens pos
-node-is s (Add k) pos d next h = node-facts s (add s k) pos d next h
-node-is s (Remove k) pos d next h = node-facts s (remove k) pos d next h
+node-is s (Add k) pos d next h = node-facts s (add s k) pos d next (made-ok s (AddNodeMark pos k) d next h).1
+node-is s (Remove k) pos d next h = node-facts s (remove k) pos d next (made-ok s (RemoveNodeMark pos k) d next h).1

@@ -11,7 +11,7 @@ use Rattle.pm_tokens.proofs.ListLaws.{drop-nil}
 use Rattle.pm_meaning.specs.declared.reason.Reason.{Reason}
 use Rattle.pm_meaning.specs.declared.reason.Reason.TheVariants.{Range, Pair, NoNode}
 use Rattle.pm_meaning.specs.Marked.{with_marks, marked, starts_node, with_node_marks, node_marked}
-use Rattle.pm_meaning.specs.Outcomes.{unless, and_unless, in_order, parts_no_pair, checked, outcome, range_outcome, node_outcome}
+use Rattle.pm_meaning.specs.Outcomes.{unless, and_unless, in_order, parts_no_pair, checked, made, range_outcome, node_outcome}
 use Rattle.pm_meaning.proofs.OutcomeLaws.{valid-checks}
 use Rattle.pm_step.specs.declared.marking.Marking.{Marking}
 use Rattle.pm_step.specs.declared.marking.Marking.TheVariants.{Add, Remove}
@@ -42,29 +42,29 @@ a-pair ts from to false p q = let e : parts_pair ts to ≡ true = q refl in rw (
 
 -- ---- a range
 
-range-outcome : (s : Schema) (m : Marking) (from to : ℕ) (d : Doc) → outcome s (range_step m from to) d ≡ range_outcome s (new_marks s m Inline) from to d
+range-outcome : (s : Schema) (m : Marking) (from to : ℕ) (d : Doc) → made s (range_step m from to) d ≡ range_outcome s (new_marks s m Inline) from to d
 range-outcome s (Add m) from to d = refl
 range-outcome s (Remove m) from to d = refl
 
 module _ (s : Schema) (m : Marking) (from to : ℕ) (d : Doc) where
-  pub range-refused : (from ≤ to → to ≤ length d.tokens → ⊥) → outcome s (range_step m from to) d ≡ Err Range
+  pub range-refused : (from ≤ to → to ≤ length d.tokens → ⊥) → made s (range_step m from to) d ≡ Err Range
   range-refused h = range-outcome s m from to d ∙ fails (in_order (from ∷ to ∷ []) (length d.tokens)) Range _ (not-ordered from to (length d.tokens) h)
 
   module _ (h : from ≤ to) (i : to ≤ length d.tokens) where
-    to-pairs : outcome s (range_step m from to) d ≡ unless (parts_no_pair d.tokens (from ∷ to ∷ [])) Pair (checked s (marked (new_marks s m Inline) from to d))
+    to-pairs : made s (range_step m from to) d ≡ unless (parts_no_pair d.tokens (from ∷ to ∷ [])) Pair (checked s (marked (new_marks s m Inline) from to d))
     to-pairs = range-outcome s m from to d ∙ passes (in_order (from ∷ to ∷ []) (length d.tokens)) Range _ (ordered from to (length d.tokens) h i)
 
-    pub range-paired : (b : Bool) → parts_pair d.tokens from ≡ b → (b ≡ false → parts_pair d.tokens to ≡ true) → outcome s (range_step m from to) d ≡ Err Pair
+    pub range-paired : (b : Bool) → parts_pair d.tokens from ≡ b → (b ≡ false → parts_pair d.tokens to ≡ true) → made s (range_step m from to) d ≡ Err Pair
     range-paired b p q = to-pairs ∙ fails (parts_no_pair d.tokens (from ∷ to ∷ [])) Pair _ (a-pair d.tokens from to b p q)
 
     pub range-checked : parts_pair d.tokens from ≡ false → parts_pair d.tokens to ≡ false → (ts : List Token) → ts ≡ marked_in (new_marks s m Inline) (d.kind ∷ []) from to d.tokens
-        → outcome s (range_step m from to) d ≡ checked s (with_tokens d ts)
+        → made s (range_step m from to) d ≡ checked s (with_tokens d ts)
     range-checked p q ts e =
         to-pairs ∙ (passes (parts_no_pair d.tokens (from ∷ to ∷ [])) Pair _ (no-pairs d.tokens from to p q) ∙ ap (λ z. checked s (with_tokens d z)) (sym e))
 
 -- ---- a node
 
-node-outcome : (s : Schema) (m : Marking) (pos : ℕ) (d : Doc) → outcome s (node_step m pos) d ≡ node_outcome s (changed s m) pos d
+node-outcome : (s : Schema) (m : Marking) (pos : ℕ) (d : Doc) → made s (node_step m pos) d ≡ node_outcome s (changed s m) pos d
 node-outcome s (Add m) pos d = refl
 node-outcome s (Remove m) pos d = refl
 
@@ -119,21 +119,21 @@ node-marked s m pos ps ts =
     ∙ ap (λ z. with_marks (new_marks s m Nodes) (unclosed ps (take pos ts)) (take 1 (drop pos ts)) ++ z) (sym (drop-one pos ts))))
 
 module _ (s : Schema) (m : Marking) (pos : ℕ) (d : Doc) where
-  pub node-refused : length d.tokens < pos → outcome s (node_step m pos) d ≡ Err Range
+  pub node-refused : length d.tokens < pos → made s (node_step m pos) d ≡ Err Range
   node-refused h = node-outcome s m pos d ∙ fails (in_order (pos ∷ []) (length d.tokens)) Range _ (lt-leb pos (length d.tokens) h)
 
   module _ (i : pos ≤ length d.tokens) where
-    to-pair : outcome s (node_step m pos) d ≡ unless (parts_no_pair d.tokens (pos ∷ [])) Pair (and_unless (starts_node (drop pos d.tokens)) NoNode (checked s (node_marked (changed s m) pos d)))
+    to-pair : made s (node_step m pos) d ≡ unless (parts_no_pair d.tokens (pos ∷ [])) Pair (and_unless (starts_node (drop pos d.tokens)) NoNode (checked s (node_marked (changed s m) pos d)))
     to-pair = node-outcome s m pos d ∙ passes (in_order (pos ∷ []) (length d.tokens)) Range _ (le-leb pos (length d.tokens) i)
 
-    pub node-paired : parts_pair d.tokens pos ≡ true → outcome s (node_step m pos) d ≡ Err Pair
+    pub node-paired : parts_pair d.tokens pos ≡ true → made s (node_step m pos) d ≡ Err Pair
     node-paired p = let e : parts_no_pair d.tokens (pos ∷ []) ≡ false = rw p refl in to-pair ∙ fails (parts_no_pair d.tokens (pos ∷ [])) Pair _ e
 
     module _ (p : parts_pair d.tokens pos ≡ false) where
-      to-node : outcome s (node_step m pos) d ≡ and_unless (starts_node (drop pos d.tokens)) NoNode (checked s (node_marked (changed s m) pos d))
+      to-node : made s (node_step m pos) d ≡ and_unless (starts_node (drop pos d.tokens)) NoNode (checked s (node_marked (changed s m) pos d))
       to-node = let e : parts_no_pair d.tokens (pos ∷ []) ≡ true = rw p refl in to-pair ∙ passes (parts_no_pair d.tokens (pos ∷ [])) Pair _ e
 
-      pub node-missing : Valid s d → marks_first (drop pos d.tokens) ≡ None → outcome s (node_step m pos) d ≡ Err NoNode
+      pub node-missing : Valid s d → marks_first (drop pos d.tokens) ≡ None → made s (node_step m pos) d ≡ Err NoNode
       node-missing v n =
           let none = none-first (drop pos d.tokens) n in
           let same : node_marked (changed s m) pos d ≡ d =
@@ -143,7 +143,7 @@ module _ (s : Schema) (m : Marking) (pos : ℕ) (d : Doc) where
           ∙ (ap (and_unless (starts_node (drop pos d.tokens)) NoNode) (valid-checks s d v) ∙ fails (starts_node (drop pos d.tokens)) NoNode (Ok d) none))
 
       pub node-checked : IsSome (marks_first (drop pos d.tokens)) → (ts : List Token) → ts ≡ marked_in (new_marks s m Nodes) (d.kind ∷ []) pos (pos + 1) d.tokens
-          → outcome s (node_step m pos) d ≡ checked s (with_tokens d ts)
+          → made s (node_step m pos) d ≡ checked s (with_tokens d ts)
       node-checked n ts e =
           to-node ∙ (unless-also (starts_node (drop pos d.tokens)) NoNode _ (stands-first (drop pos d.tokens) n)
           ∙ ap (λ z. checked s (with_tokens d z)) (node-marked s m pos (d.kind ∷ []) d.tokens ∙ sym e))

@@ -1,19 +1,24 @@
 -- The inverse of a step that changes the marks of one node: the one step, or the steps that give the marks back.
-use Rattle.std.specs.Prelude.{◌≡◌, ℕ, ◌≤◌, Bool, true, false, cond, ◌&&◌, not, nat_le, List, [], ◌∷◌, ◌++◌, length, take, drop, Some, Result, Ok, Err}
-use Rattle.std.proofs.Common.{refl, ap, sym, ◌∙◌, arith, length-append, length-take}
-use Rattle.std.proofs.lemmas.Bool.{le-leb, and_from}
+use Rattle.std.specs.Prelude.{◌≡◌, ℕ, ◌≤◌, Bool, true, false, cond, ◌&&◌, not, ◌==◌, nat_le, List, [], ◌∷◌, ◌++◌, length, take, drop, Option, Some, None, Result, Ok, Err}
+use Rattle.std.proofs.Common.{refl, ap, sym, ◌∙◌, subst, arith, length-append, length-take}
+use Rattle.std.proofs.lemmas.Bool.{le-leb, and_parts, and_from}
 use Rattle.std.proofs.lemmas.List.{take_at, drop_at, take-append-drop}
 use Rattle.pm_attrs.specs.Attrs.{same_attrs}
-use Rattle.pm_marks.specs.Sets.{same_marks}
-use Rattle.pm_tokens.specs.Tokens.{Marks, Token, Open, Close, Leaf, CodeUnit, Doc, with_tokens}
+use Rattle.pm_marks.specs.Sets.{same_marks, has}
+use Rattle.pm_marks.specs.declared.mark.Mark.{Mark}
+use Rattle.pm_tokens.specs.Tokens.{Attrs, Marks, Token, Open, Close, Leaf, CodeUnit, Doc, with_tokens}
 use Rattle.pm_tokens.specs.Schemas.{Schema}
 use Rattle.pm_tokens.specs.Faults.{Valid}
+use Rattle.pm_tokens.specs.Marks.{have_attrs}
 use Rattle.pm_tokens.specs.Scan.{ends_high, starts_low, parts_pair}
 use Rattle.pm_meaning.specs.declared.reason.Reason.{Reason}
 use Rattle.pm_meaning.specs.declared.reason.Reason.TheVariants.{Range, Pair, NoNode}
 use Rattle.pm_meaning.specs.Marked.{starts_node, with_node_marks, node_marked}
-use Rattle.pm_meaning.specs.Inverses.{same_token, same_tokens, gives, node_marks, one_or, inverse}
-use Rattle.pm_meaning.specs.Outcomes.{and_unless, parts_no_pair, checked, outcome, node_outcome}
+use Rattle.pm_meaning.specs.Inverses.{same_token, same_tokens, gives, node_marks, first_lost, added_back, one_or, inverse}
+use Rattle.pm_meaning.specs.Outcomes.{and_unless, parts_no_pair, checked, made, outcome, node_outcome}
+use Rattle.pm_meaning.specs.Known.{knows_mark, knows_step}
+use Rattle.pm_meaning.proofs.OutcomeLaws.{known-made}
+use Rattle.pm_meaning.specs.Steps.{AddNodeMark, RemoveNodeMark}
 use Rattle.pm_meaning.specs.Runs.{node_steps}
 use Rattle.pm_step.specs.declared.marking.Marking.{Marking}
 use Rattle.pm_step.specs.declared.marking.Marking.TheVariants.{Add, Remove}
@@ -72,9 +77,47 @@ also-passes : (b : Bool) (r : Reason) (x : Result Doc Reason) → b ≡ true →
 also-passes b r (Ok d) h = passes b r (Ok d) h
 also-passes b r (Err e) h = refl
 
+-- ---- what the schema knows
+
+module _ (s : Schema) where
+  -- an old mark that was lost
+  lost-known : (old new : Marks) (x : Mark Attrs) → first_lost old new ≡ Some x → have_attrs s old ≡ true → knows_mark s x ≡ true
+  lost-known [] new x e h = absurd (cc)
+  lost-known (y ∷ ys) new x e h =
+      let b = and_parts (s.mark_attrs y.kind y.attrs) (have_attrs s ys) h in
+      at (has same_attrs new y) e b.0 (λ f. lost-known ys new x f b.1)
+    where
+      at : (c : Bool) → cond c (first_lost ys new) (Some y) ≡ Some x → knows_mark s y ≡ true → (first_lost ys new ≡ Some x → knows_mark s x ≡ true) → knows_mark s x ≡ true
+      at true f k later = later f
+      at false f k later = let i : y ≡ x = cc in subst (λ z. knows_mark s z ≡ true) i k
+
+  -- the one step that may take a marking of a node back
+  back-known : (x : Marking) (pos : ℕ) (old new : Marks) → knows_step s (node_step x pos) ≡ true → have_attrs s old ≡ true → knows_step s (back_step x pos old new) ≡ true
+  back-known (Add y) pos old new h w = at (length new == length old) (first_lost old new) refl
+    where
+      at : (c : Bool) (l : Option (Mark Attrs)) → first_lost old new ≡ l → knows_step s (cond c (added_back pos y l) (RemoveNodeMark pos y)) ≡ true
+      at true None e = h
+      at true (Some x) e = lost-known old new x e w
+      at false l e = h
+  back-known (Remove y) pos old new h w = at (has same_attrs old y)
+    where
+      at : (c : Bool) → knows_step s (cond c (AddNodeMark pos y) (RemoveNodeMark pos y)) ≡ true
+      at true = h
+      at false = h
+
+  -- the marks of the node that stands first
+  first-known : (d : Doc) (a r : List Token) (old : Marks) → Valid s d → d.tokens ≡ a ++ r → marks_first r ≡ Some old → have_attrs s old ≡ true
+  first-known d a [] old v e h = absurd (cc)
+  first-known d a (Open k x m ∷ r) old v e h =
+      let i : m ≡ old = cc in subst (λ z. have_attrs s z ≡ true) i (and_parts (s.node_attrs k x) (have_attrs s m) (v.attrs a (Open k x m) r e)).1
+  first-known d a (Close ∷ r) old v e h = absurd (cc)
+  first-known d a (Leaf k x m ∷ r) old v e h =
+      let i : m ≡ old = cc in subst (λ z. have_attrs s z ≡ true) i (and_parts (s.node_attrs k x) (have_attrs s m) (v.attrs a (Leaf k x m) r e)).1
+  first-known d a (CodeUnit u m ∷ r) old v e h = absurd (cc)
+
 -- ---- the document
 
-module _ (s : Schema) (m b : Marking) (pos : ℕ) (d : Doc) (old : Marks) (v : Valid s d) (i : pos ≤ length d.tokens) (p : parts_pair d.tokens pos ≡ false) (n : marks_first (drop pos d.tokens) ≡ Some old) where
+module _ (s : Schema) (m b : Marking) (pos : ℕ) (d : Doc) (old : Marks) (v : Valid s d) (i : pos ≤ length d.tokens) (p : parts_pair d.tokens pos ≡ false) (n : marks_first (drop pos d.tokens) ≡ Some old) (k : knows_step s (node_step m pos) ≡ true) where
   abbrev f : Marks → Marks
   f = changed s m
 
@@ -90,10 +133,10 @@ module _ (s : Schema) (m b : Marking) (pos : ℕ) (d : Doc) (old : Marks) (v : V
   abbrev after : List Token
   after = a ++ with_node_marks f r
 
-  outcome-is : outcome s (node_step b pos) (with_tokens d after) ≡ node_outcome s g pos (with_tokens d after)
+  outcome-is : made s (node_step b pos) (with_tokens d after) ≡ node_outcome s g pos (with_tokens d after)
   outcome-is = by b
     where
-      by : (x : Marking) → outcome s (node_step x pos) (with_tokens d after) ≡ node_outcome s (changed s x) pos (with_tokens d after)
+      by : (x : Marking) → made s (node_step x pos) (with_tokens d after) ≡ node_outcome s (changed s x) pos (with_tokens d after)
       by (Add k) = refl
       by (Remove k) = refl
 
@@ -127,13 +170,13 @@ module _ (s : Schema) (m b : Marking) (pos : ℕ) (d : Doc) (old : Marks) (v : V
       ∙ ap (λ z. with_tokens d (a ++ with_node_marks g z)) drop-after
 
   -- a marking behind it gives the document exactly where it gives the marks
-  node-gives : gives (outcome s (node_step b pos) (with_tokens d after)) d.tokens ≡ same_marks same_attrs (g (f old)) old
-  node-gives =
+  node-gives : knows_step s (node_step b pos) ≡ true → gives (outcome s (node_step b pos) (with_tokens d after)) d.tokens ≡ same_marks same_attrs (g (f old)) old
+  node-gives kb =
       ap (λ z. gives z d.tokens)
-      (outcome-is
+      (known-made s (node_step b pos) (with_tokens d after) kb ∙ (outcome-is
       ∙ (passes (nat_le pos (length after)) Range _ within
       ∙ (passes (parts_no_pair after (pos ∷ [])) Pair _ unparted
-      ∙ (also-passes (starts_node (drop pos after)) NoNode _ stands ∙ ap (checked s) twice-is))))
+      ∙ (also-passes (starts_node (drop pos after)) NoNode _ stands ∙ ap (checked s) twice-is)))))
       ∙ (checked-gives s d twice v
       ∙ (ap (same_tokens twice) (sym (take-append-drop pos d.tokens))
       ∙ (same-append a a (with_node_marks g (with_node_marks f r)) r refl
@@ -145,12 +188,15 @@ module _ (s : Schema) (m b : Marking) (pos : ℕ) (d : Doc) (old : Marks) (v : V
   inverse-is (Remove k) = refl
 
   module _ (e : node_step b pos ≡ back_step m pos old (f old)) where
+    b-known : knows_step s (node_step b pos) ≡ true
+    b-known = ap (knows_step s) e ∙ back-known s m pos old (f old) k (first-known s d a r old v (sym (take-append-drop pos d.tokens)) n)
+
     decided : (x : Bool) → same_marks same_attrs (g (f old)) old ≡ x → inverse s (node_step m pos) d ≡ cond x (node_step b pos ∷ []) (node_steps pos old (f old))
-    decided x k =
+    decided x q =
         inverse-is m
         ∙ (ap (λ z. one_or s (back_step m pos z (f z)) (node_steps pos z (f z)) d (with_tokens d after)) (first-marks old r n)
         ∙ (ap (λ z. one_or s z (node_steps pos old (f old)) d (with_tokens d after)) (sym e)
-        ∙ ap (λ z. cond z (node_step b pos ∷ []) (node_steps pos old (f old))) (node-gives ∙ k)))
+        ∙ ap (λ z. cond z (node_step b pos ∷ []) (node_steps pos old (f old))) (node-gives b-known ∙ q)))
 
     pub node-by-one : same_marks same_attrs (g (f old)) old ≡ true → node_step b pos ∷ [] ≡ inverse s (node_step m pos) d
     node-by-one k = sym (decided true k)

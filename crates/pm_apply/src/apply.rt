@@ -1,10 +1,12 @@
 //! What a step makes of a document.
+ghost use Rattle.std.specs.Prelude.{◌≡◌, IfOk};
 ghost use Rattle.pm_change.specs.Failing.{Answers};
 ghost use Rattle.pm_tokens.specs.Faults.{Valid};
-ghost use Rattle.pm_meaning.specs.Outcomes.{outcome};
+ghost use Rattle.pm_meaning.specs.Outcomes.{made, outcome};
 ghost use Rattle.pm_node.specs.Documents.{doc_with};
 ghost use Rattle.pm_schema.specs.Documents.{documents_of};
-ghost use Rattle.pm_step.specs.Steps.{step_of};
+ghost use Rattle.pm_meaning.specs.Known.{knows_mark, knows_step};
+ghost use Rattle.pm_step.specs.Steps.{mark_in, step_of};
 
 use crate::around::replace_around;
 use crate::mark::mark_range;
@@ -13,9 +15,10 @@ use crate::replace::replace;
 use pm_change::Failed;
 use pm_meaning::Reason;
 use pm_node::{Document, Fragment, Node};
+use pm_replace::{knows_mark, knows_slice};
 use pm_schema::Schema;
-use pm_step::Step;
-use std::alloc::Global;
+use pm_step::{Marking, Step};
+use std::alloc::{AllocError, Global};
 
 /// The document after a step, or the first reason why the step does not apply. Positions are in tokens. The reasons come in
 /// this order. Range: the positions are not in order or pass the size, or `insert` passes the slice. Structure: a range that a
@@ -23,6 +26,8 @@ use std::alloc::Global;
 /// sides do not fit the depths of the ends. Pair: a position parts a surrogate pair, in the document or in the slice. Join: an
 /// open node meets a close whose owner's type is not compatible with its own. Large, Deep and Content: the result has too many
 /// tokens, nests too deep, or has a fault, of which the least place is named. NoNode: no node begins at the position.
+/// NotInSchema: the step's mark, or a node that is open at the start of its slice, has a type, attributes or marks that are none
+/// of the schema. So each step that applies can be written and is read back (`applied_can_be_written` of pm_stepjson).
 pub fn apply(
     alloc: Global,
     schema: &Schema,
@@ -32,10 +37,16 @@ pub fn apply(
     requires { Valid (documents_of schema.now.spec) doc.now }
     ensures { Answers (outcome (documents_of schema.now.spec) (step_of step.now) doc.now) result }
 {
-    apply_in(alloc, schema, step, doc.top(), doc.content())
+    let next = apply_in(alloc, schema, step, doc.top(), doc.content())?;
+    let known = knows_step(alloc, schema, step)?;
+    if !known {
+        return Err(Failed::Reason(Reason::NotInSchema));
+    }
+    Ok(next)
 }
 
-/// The same for the document with the top node's type, attributes and marks and this content.
+/// What the step makes of the document with the top node's type, attributes and marks and this content, or the first reason of
+/// those that look at the document.
 fn apply_in(
     alloc: Global,
     schema: &Schema,
@@ -44,12 +55,34 @@ fn apply_in(
     content: &Fragment,
 ) -> Result<Document, Failed<Reason>>
     requires { Valid (documents_of schema.now.spec) (doc_with top.now content.now) }
-    ensures { Answers (outcome (documents_of schema.now.spec) (step_of step.now) (doc_with top.now content.now)) result }
+    ensures { Answers (made (documents_of schema.now.spec) (step_of step.now) (doc_with top.now content.now)) result }
 {
     match step {
         Step::Replace(step) => replace(alloc, schema, top, content, step),
         Step::ReplaceAround(step) => replace_around(alloc, schema, top, content, step),
         Step::Mark(step) => mark_range(alloc, schema, top, content, step),
         Step::NodeMark(step) => mark_node(alloc, schema, top, content, step),
+    }
+}
+
+/// Whether the step's mark is of the schema, or the nodes that are open at the start of its slice are.
+fn knows_step(alloc: Global, schema: &Schema, step: &Step) -> Result<bool, AllocError>
+    ensures { IfOk result (λ b. b ≡ knows_step (documents_of schema.now.spec) (step_of step.now)) }
+{
+    match step {
+        Step::Replace(step) => knows_slice(alloc, schema, &step.slice),
+        Step::ReplaceAround(step) => knows_slice(alloc, schema, &step.slice),
+        Step::Mark(step) => Ok(knows_marking(schema, &step.marking)),
+        Step::NodeMark(step) => Ok(knows_marking(schema, &step.marking)),
+    }
+}
+
+/// Whether the mark that is added or taken away is of the schema.
+fn knows_marking(schema: &Schema, marking: &Marking) -> bool
+    ensures { result ≡ knows_mark (documents_of schema.now.spec) (mark_in marking.now) }
+{
+    match marking {
+        Marking::Add(mark) => knows_mark(schema, mark),
+        Marking::Remove(mark) => knows_mark(schema, mark),
     }
 }

@@ -4,7 +4,7 @@ ghost use Rattle.pm_change.specs.Failing.{Answers};
 ghost use Rattle.pm_tokens.specs.Scan.{parts_pair, part};
 ghost use Rattle.pm_tokens.specs.Schemas.{compatible};
 ghost use Rattle.pm_tokens.specs.Slices.{is_slice, slice_size, slice_tokens, spliced_around};
-ghost use Rattle.pm_meaning.specs.Outcomes.{in_order, keeps_structure, outcome, parts_no_pair};
+ghost use Rattle.pm_meaning.specs.Outcomes.{in_order, keeps_structure, made, parts_no_pair};
 ghost use Rattle.pm_node.specs.Documents.{doc_with};
 ghost use Rattle.pm_schema.specs.Documents.{documents_of};
 ghost use Rattle.pm_replace.specs.Splices.{Joins, Splices, spliced_outcome};
@@ -41,7 +41,7 @@ pub fn replace_around(
     content: &Fragment,
     step: &ReplaceAroundStep,
 ) -> Result<Document, Failed<Reason>>
-    ensures { Answers (outcome (documents_of schema.now.spec) (step_of (Step.ReplaceAround step.now)) (doc_with top.now content.now)) result }
+    ensures { Answers (made (documents_of schema.now.spec) (step_of (Step.ReplaceAround step.now)) (doc_with top.now content.now)) result }
 {
     let ends = Ends {
         from: step.from as usize,

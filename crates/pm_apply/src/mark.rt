@@ -3,7 +3,7 @@ ghost use Rattle.std.specs.Prelude.{◌≡◌, IfOk, Ok};
 ghost use Rattle.pm_change.specs.Failing.{Answers};
 ghost use Rattle.pm_tokens.specs.Tokens.{Doc};
 ghost use Rattle.pm_tokens.specs.Faults.{Valid};
-ghost use Rattle.pm_meaning.specs.Outcomes.{outcome};
+ghost use Rattle.pm_meaning.specs.Outcomes.{made, outcome};
 ghost use Rattle.pm_meaning.specs.Inverses.{inverse};
 ghost use Rattle.pm_node.specs.Documents.{doc_with};
 ghost use Rattle.pm_schema.specs.Documents.{documents_of};
@@ -33,7 +33,7 @@ pub fn mark_range(
     step: &MarkStep,
 ) -> Result<Document, Failed<Reason>>
     requires { Valid (documents_of schema.now.spec) (doc_with top.now content.now) }
-    ensures { Answers (outcome (documents_of schema.now.spec) (step_of (Step.Mark step.now)) (doc_with top.now content.now)) result }
+    ensures { Answers (made (documents_of schema.now.spec) (step_of (Step.Mark step.now)) (doc_with top.now content.now)) result }
 {
     let from = step.from as usize;
     let to = step.to as usize;

@@ -4,7 +4,7 @@ ghost use Rattle.std.specs.Option.{option_copied};
 ghost use Rattle.pm_change.specs.Failing.{Answers};
 ghost use Rattle.pm_tokens.specs.Tokens.{Doc};
 ghost use Rattle.pm_tokens.specs.Faults.{Valid};
-ghost use Rattle.pm_meaning.specs.Outcomes.{outcome};
+ghost use Rattle.pm_meaning.specs.Outcomes.{made, outcome};
 ghost use Rattle.pm_meaning.specs.Inverses.{first_lost, inverse};
 ghost use Rattle.pm_node.specs.Documents.{doc_with};
 ghost use Rattle.pm_schema.specs.Documents.{documents_of};
@@ -37,7 +37,7 @@ pub fn mark_node(
     step: &NodeMarkStep,
 ) -> Result<Document, Failed<Reason>>
     requires { Valid (documents_of schema.now.spec) (doc_with top.now content.now) }
-    ensures { Answers (outcome (documents_of schema.now.spec) (step_of (Step.NodeMark step.now)) (doc_with top.now content.now)) result }
+    ensures { Answers (made (documents_of schema.now.spec) (step_of (Step.NodeMark step.now)) (doc_with top.now content.now)) result }
 {
     let pos = step.pos as usize;
     let size = content.size();

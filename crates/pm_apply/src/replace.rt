@@ -3,7 +3,7 @@ ghost use Rattle.std.specs.Prelude.{◌≡◌, ◌≤◌, length, IfOk};
 ghost use Rattle.pm_change.specs.Failing.{Answers};
 ghost use Rattle.pm_tokens.specs.Faults.{Valid};
 ghost use Rattle.pm_meaning.specs.Inverses.{replace_back};
-ghost use Rattle.pm_meaning.specs.Outcomes.{outcome};
+ghost use Rattle.pm_meaning.specs.Outcomes.{made};
 ghost use Rattle.pm_node.specs.Documents.{doc_with};
 ghost use Rattle.pm_schema.specs.Documents.{documents_of};
 ghost use Rattle.pm_step.specs.Steps.{step_of};
@@ -29,7 +29,7 @@ pub fn replace(
     step: &ReplaceStep,
 ) -> Result<Document, Failed<Reason>>
     requires { Valid (documents_of schema.now.spec) (doc_with top.now content.now) }
-    ensures { Answers (outcome (documents_of schema.now.spec) (step_of (Step.Replace step.now)) (doc_with top.now content.now)) result }
+    ensures { Answers (made (documents_of schema.now.spec) (step_of (Step.Replace step.now)) (doc_with top.now content.now)) result }
 {
     let from = step.from as usize;
     let to = step.to as usize;

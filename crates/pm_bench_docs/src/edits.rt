@@ -8,7 +8,7 @@ use crate::round::Round;
 use crate::time::nanos_since;
 use anyhow::{Result, bail, ensure};
 use pm_build::depth_at;
-use pm_node::{Body, Document, Fragment, MAX_SIZE};
+use pm_node::{Document, Fragment, MAX_SIZE};
 use pm_replace::{replace, splice};
 use pm_resolve::resolve;
 use pm_schema::Schema;
@@ -37,9 +37,7 @@ pub fn splice_in<R: Clock + AllocGlobal>(
 ) -> Result<Round> {
     let from = from as usize;
     let to = to as usize;
-    let Body::Children(content) = &document.top().body else {
-        bail!("a top node without content");
-    };
+    let content = document.content();
     ensure!(fits(content, from, to, slice), "the slice does not fit");
     let start = Instant::now(rt)?;
     let made = splice(rt.alloc(), schema, content, from, to, slice);

@@ -18,7 +18,8 @@ use Rattle.pm_meaning.specs.Inverses.{around_back}
 use Rattle.pm_meaning.specs.Outcomes.{checked, in_order, parts_no_pair, keeps_structure, outcome}
 use Rattle.pm_meaning.specs.declared.reason.Reason.TheVariants.{Range, Structure, Gap, Depth, Pair, Join}
 use Rattle.pm_meaning.specs.Steps.{ReplaceAround}
-use Rattle.pm_meaning.proofs.OutcomeLaws.{unless-ok, ok-unless, checked-ok, checks-valid, valid-checks}
+use Rattle.pm_meaning.proofs.OutcomeLaws.{unless-ok, ok-unless, made-ok, known-made, checked-ok, checks-valid, valid-checks}
+use Rattle.pm_meaning.proofs.KnownLaws.{cut-known}
 use Rattle.pm_meaning.proofs.ReplaceLaws.{not-true, no-pair-at, depths-of, of-depths}
 
 -- where a replaceAround applies
@@ -46,7 +47,7 @@ moved s from to gf gt sl insert structure d next h =
     let ts = d.tokens in
     let sp = spliced_around ts from to gf gt sl insert in
     let ps = from ∷ gf ∷ gt ∷ to ∷ [] in
-    let u₀ = unless-ok (is_slice sl) Range _ next h in
+    let u₀ = unless-ok (is_slice sl) Range _ next (made-ok s (ReplaceAround from to gf gt sl insert structure) d next h).1 in
     let u₁ = unless-ok (in_order ps (length ts) && nat_le insert (slice_size sl)) Range _ next u₀.1 in
     let u₂ = unless-ok (keeps_structure structure (part from gf ts) && keeps_structure structure (part gt to ts)) Structure _ next u₁.1 in
     let u₃ = unless-ok (is_whole (part gf gt ts)) Gap _ next u₂.1 in
@@ -295,6 +296,7 @@ module _ (s : Schema) (from to gf gt : ℕ) (sl : Slice) (insert : ℕ) (structu
   -- the inverse applies to the result, and gives the document back
   restored : outcome s (around_back d from to gf gt sl insert structure) after ≡ Ok d
   restored =
+      known-made s (around_back d from to gf gt sl insert structure) after (cut-known s d a (x ++ y) (x ++ (g ++ (y ++ b))) v old.is n-within) ∙
       ok-unless (is_slice c) Range _ d (cut-slice a (x ++ y) n-within)
       (ok-unless _ Range _ d in-order
       (ok-unless _ Structure _ d structured

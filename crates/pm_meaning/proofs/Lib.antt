@@ -1,4 +1,5 @@
 pub mod OutcomeLaws
+pub mod KnownLaws
 pub mod ReplaceLaws
 pub mod AroundLaws
 pub mod MapLaws

@@ -21,7 +21,7 @@ use Rattle.pm_meaning.specs.Marked.{with_marks, marked, mark_added, mark_removed
 use Rattle.pm_meaning.specs.Outcomes.{checked, outcome, in_order, parts_no_pair, range_outcome}
 use Rattle.pm_meaning.specs.declared.reason.Reason.TheVariants.{Range, Pair}
 use Rattle.pm_meaning.specs.Steps.{Step, Replace, ReplaceAround, AddMark, RemoveMark, AddNodeMark, RemoveNodeMark}
-use Rattle.pm_meaning.proofs.OutcomeLaws.{unless-ok, checked-ok}
+use Rattle.pm_meaning.proofs.OutcomeLaws.{unless-ok, made-ok, checked-ok}
 
 span-same : (a b c d e f : ℕ) → a ≡ d → b ≡ e → c ≡ f → span a b c ≡ span d e f
 span-same a b c d e f h k l = rw (h, k, l) refl
@@ -134,13 +134,13 @@ still (AddMark from to mark) n ms w h =
   where
     at : ((carry (AddMark from to mark) ms ≡ Some (AddMark from to mark)) ⊎ ((carry (AddMark from to mark) ms ≡ None) × (to ≤ from))) → Still (AddMark from to mark) ms
     at (inl e) = inl e
-    at (inr p) = inr (p.0, refl, λ s d next v k. marked-nothing s (mark_added s mark) from to d next p.1 k)
+    at (inr p) = inr (p.0, refl, λ s d next v k. marked-nothing s (mark_added s mark) from to d next p.1 (made-ok s (AddMark from to mark) d next k).1)
 still (RemoveMark from to mark) n ms w h =
     at (still-range (λ f t. RemoveMark f t mark) from to (ahead ms from) (back ms to) (ap (λ z. z.pos) (h.ahead from)) (ap (λ z. z.deleted) (h.ahead from)) (h.back to))
   where
     at : ((carry (RemoveMark from to mark) ms ≡ Some (RemoveMark from to mark)) ⊎ ((carry (RemoveMark from to mark) ms ≡ None) × (to ≤ from))) → Still (RemoveMark from to mark) ms
     at (inl e) = inl e
-    at (inr p) = inr (p.0, refl, λ s d next v k. marked-nothing s (mark_removed s mark) from to d next p.1 k)
+    at (inr p) = inr (p.0, refl, λ s d next v k. marked-nothing s (mark_removed s mark) from to d next p.1 (made-ok s (RemoveMark from to mark) d next k).1)
 still (AddNodeMark p mark) n ms w h = inl (rw (h.ahead p) refl)
 still (RemoveNodeMark p mark) n ms w h = inl (rw (h.ahead p) refl)
 

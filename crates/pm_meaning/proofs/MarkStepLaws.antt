@@ -28,7 +28,7 @@ use Rattle.pm_meaning.specs.Steps.{Step, Replace, ReplaceAround, AddMark, Remove
 use Rattle.pm_meaning.proofs.AroundLaws.{moved}
 use Rattle.pm_meaning.proofs.EffectLaws.{effect, effects, after, with-one, Alike, runs-back, noded}
 use Rattle.pm_meaning.proofs.MarkSuits.{are_suited, marks_suit, fit-suit}
-use Rattle.pm_meaning.proofs.OutcomeLaws.{unless-ok, checked-ok}
+use Rattle.pm_meaning.proofs.OutcomeLaws.{unless-ok, and-unless-ok, made-ok, checked-ok}
 use Rattle.pm_meaning.proofs.ReplaceLaws.{replaced}
 use Rattle.pm_meaning.proofs.TokenMarks.{set_marks, set-own}
 
@@ -95,11 +95,6 @@ module _ (s : Schema) (k : ℕ) where
       alike-append ps a a (x ++ b) (with_marks f (unclosed ps a) x ++ b) (alike-self ps a (fits-front s ps a (x ++ b) h))
       (alike-append (unclosed ps a) x (with_marks f (unclosed ps a) x) b b (alike-with f (unclosed ps a) x (fits-front s (unclosed ps a) x b r)) (alike-self (unclosed (unclosed ps a) x) b (fits-rest s (unclosed ps a) x b r)))
 
-and-unless-ok : (b : Bool) (r : Reason) (x : Result Doc Reason) (n : Doc) → and_unless b r x ≡ Ok n → x ≡ Ok n
-and-unless-ok true r (Ok d) n h = h
-and-unless-ok false r (Ok d) n h = absurd (cc)
-and-unless-ok b r (Err e) n h = absurd (cc)
-
 pub range-effect : (s : Schema) (f : ℕ → Token → Marks → Marks) (from to : ℕ) (d next : Doc) → range_outcome s f from to d ≡ Ok next → next ≡ marked f from to d
 range-effect s f from to d next h =
     let u₁ = unless-ok (in_order (from ∷ to ∷ []) (length d.tokens)) Range _ next h in
@@ -115,7 +110,7 @@ pub node-effect : (s : Schema) (f : Marks → Marks) (p : ℕ) (d next : Doc) �
 node-effect s f p d next h =
     let u₁ = unless-ok (in_order (p ∷ []) (length d.tokens)) Range _ next h in
     let u₂ = unless-ok (parts_no_pair d.tokens (p ∷ [])) Pair (and_unless (starts_node (drop p d.tokens)) NoNode (checked s (node_marked f p d))) next u₁.1 in
-    (checked-ok s (node_marked f p d) next (and-unless-ok (starts_node (drop p d.tokens)) NoNode (checked s (node_marked f p d)) next u₂.1)).0
+    (checked-ok s (node_marked f p d) next (and-unless-ok (starts_node (drop p d.tokens)) NoNode (checked s (node_marked f p d)) next u₂.1).1).0
 
 pub range-checks : (s : Schema) (f : ℕ → Token → Marks → Marks) (from to : ℕ) (d next : Doc) → range_outcome s f from to d ≡ Ok next → checked s next ≡ Ok next
 range-checks s f from to d next h =
@@ -127,7 +122,7 @@ pub node-checks : (s : Schema) (f : Marks → Marks) (p : ℕ) (d next : Doc) �
 node-checks s f p d next h =
     let u₁ = unless-ok (in_order (p ∷ []) (length d.tokens)) Range _ next h in
     let u₂ = unless-ok (parts_no_pair d.tokens (p ∷ [])) Pair (and_unless (starts_node (drop p d.tokens)) NoNode (checked s (node_marked f p d))) next u₁.1 in
-    let u₃ = and-unless-ok (starts_node (drop p d.tokens)) NoNode (checked s (node_marked f p d)) next u₂.1 in
+    let u₃ = (and-unless-ok (starts_node (drop p d.tokens)) NoNode (checked s (node_marked f p d)) next u₂.1).1 in
     subst (λ z. checked s z ≡ Ok next) (sym (checked-ok s (node_marked f p d) next u₃).0) u₃
 
 pub node-order : (s : Schema) (f : Marks → Marks) (p : ℕ) (d next : Doc) → node_outcome s f p d ≡ Ok next → p ≤ length d.tokens
@@ -137,10 +132,10 @@ node-order s f p d next h = leb-true p (length d.tokens) (unless-ok (in_order (p
 pub outcome-effect : (s : Schema) (c : Step) (d next : Doc) → outcome s c d ≡ Ok next → next ≡ with_tokens d (effect s d.kind c d.tokens)
 outcome-effect s (Replace from to sl structure) d next h = (replaced s from to sl structure d next h).is
 outcome-effect s (ReplaceAround from to gf gt sl insert structure) d next h = (moved s from to gf gt sl insert structure d next h).is
-outcome-effect s (AddMark from to m) d next h = range-effect s (mark_added s m) from to d next h
-outcome-effect s (RemoveMark from to m) d next h = range-effect s (mark_removed s m) from to d next h
-outcome-effect s (AddNodeMark p m) d next h = node-effect s (add s m) p d next h
-outcome-effect s (RemoveNodeMark p m) d next h = node-effect s (remove m) p d next h
+outcome-effect s (AddMark from to m) d next h = range-effect s (mark_added s m) from to d next (made-ok s (AddMark from to m) d next h).1
+outcome-effect s (RemoveMark from to m) d next h = range-effect s (mark_removed s m) from to d next (made-ok s (RemoveMark from to m) d next h).1
+outcome-effect s (AddNodeMark p m) d next h = node-effect s (add s m) p d next (made-ok s (AddNodeMark p m) d next h).1
+outcome-effect s (RemoveNodeMark p m) d next h = node-effect s (remove m) p d next (made-ok s (RemoveNodeMark p m) d next h).1
 
 some-inj : (x y : Doc) → Some x ≡ Some y → x ≡ y
 some-inj x y h = cc
@@ -205,16 +200,11 @@ one-or-restores s one others d next back e a h = at (gives (outcome s one next) 
         let k : next.kind ≡ d.kind = ap (λ w. w.kind) e in
         top (effects s next.kind others next.tokens) x (ap (λ w. effects s w others next.tokens) k ∙ a)
 
-and-unless-test : (b : Bool) (r : Reason) (x : Result Doc Reason) (n : Doc) → and_unless b r x ≡ Ok n → b ≡ true
-and-unless-test true r (Ok d) n h = refl
-and-unless-test false r (Ok d) n h = absurd (cc)
-and-unless-test b r (Err e) n h = absurd (cc)
-
 pub node-stands : (s : Schema) (f : Marks → Marks) (p : ℕ) (d next : Doc) → node_outcome s f p d ≡ Ok next → starts_node (drop p d.tokens) ≡ true
 node-stands s f p d next h =
     let u₁ = unless-ok (in_order (p ∷ []) (length d.tokens)) Range _ next h in
     let u₂ = unless-ok (parts_no_pair d.tokens (p ∷ [])) Pair (and_unless (starts_node (drop p d.tokens)) NoNode (checked s (node_marked f p d))) next u₁.1 in
-    and-unless-test (starts_node (drop p d.tokens)) NoNode (checked s (node_marked f p d)) next u₂.1
+    (and-unless-ok (starts_node (drop p d.tokens)) NoNode (checked s (node_marked f p d)) next u₂.1).0
 
 node-back : (s : Schema) (k : ℕ) (f : Marks → Marks) (a r : List Token) (p parent : ℕ) → length a ≡ p → starts_node r ≡ true → marks_suit s parent (node_marks r) ≡ true
     → effects s k (node_steps p (node_marks r) (f (node_marks r))) (a ++ with_node_marks f r) ≡ a ++ r

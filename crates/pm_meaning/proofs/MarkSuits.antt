@@ -35,6 +35,15 @@ suited-parts s parent (m ∷ ms) h =
     let i = suited-parts s parent ms a.1 in
     (and_from (s.allows parent m.kind) (are_allowed s parent ms) b.0 i.0, and_from (s.mark_attrs m.kind m.attrs) (have_attrs s ms) b.1 i.1)
 
+-- marks that suit are known
+pub suit-known : (s : Schema) (parent : ℕ) (ms : Marks) → marks_suit s parent ms ≡ true → have_attrs s ms ≡ true
+suit-known s parent ms h = (suited-parts s parent ms (and_parts (is_set s ms) (are_suited s parent ms) h).1).1
+
+-- the later marks are known where all are
+pub known-behind : (s : Schema) (xs ys : Marks) → have_attrs s (xs ++ ys) ≡ true → have_attrs s ys ≡ true
+known-behind s [] ys h = h
+known-behind s (x ∷ xs) ys h = known-behind s xs ys (and_parts (s.mark_attrs x.kind x.attrs) (have_attrs s (xs ++ ys)) h).1
+
 attrs-marks : (s : Schema) (t : Token) → attrs_fit s t ≡ true → have_attrs s (marks_of t) ≡ true
 attrs-marks s (Open k a m) h = (and_parts (s.node_attrs k a) (have_attrs s m) h).1
 attrs-marks s Close h = refl

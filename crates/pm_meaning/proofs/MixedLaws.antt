@@ -10,7 +10,7 @@ use Rattle.pm_marks.specs.declared.mark.Mark.{Mark}
 use Rattle.pm_tokens.specs.Faults.{low_next, pair_fits, high_of, Valid}
 use Rattle.pm_tokens.specs.Kids.{goes_on}
 use Rattle.pm_tokens.specs.Loose.{IsLoose}
-use Rattle.pm_tokens.specs.Marks.{is_set}
+use Rattle.pm_tokens.specs.Marks.{is_set, have_attrs}
 use Rattle.pm_tokens.specs.Scan.{head_of, unclosed, is_high, ends_high, parts_pair}
 use Rattle.pm_tokens.specs.Schemas.{Schema}
 use Rattle.pm_tokens.specs.Tokens.{Token, Open, Close, Leaf, CodeUnit, Doc, with_tokens, marks_of, Attrs, Marks}
@@ -29,8 +29,8 @@ use Rattle.pm_meaning.specs.Steps.{Step, AddMark, RemoveMark}
 use Rattle.pm_meaning.proofs.EffectLaws.{effect, after, dressed, are_run, all_allowed, allowed, after-set, unclosed-dressed, dress-removed, dress-added, remove-at, add-at}
 use Rattle.pm_meaning.proofs.LooseLaws.{Shaped, Paired, remarked-checks}
 use Rattle.pm_meaning.proofs.MarkStepLaws.{Fits, fits-front, doc-fits}
-use Rattle.pm_meaning.proofs.MarkSuits.{marks_suit, fit-removed, fit-front}
-use Rattle.pm_meaning.proofs.OutcomeLaws.{ok-unless}
+use Rattle.pm_meaning.proofs.MarkSuits.{marks_suit, suit-known, known-behind, fit-removed, fit-front}
+use Rattle.pm_meaning.proofs.OutcomeLaws.{ok-unless, known-made}
 use Rattle.pm_meaning.proofs.PairedLaws.{paired-of, paired-front}
 use Rattle.pm_meaning.proofs.ReplaceLaws.{no-pair-at}
 use Rattle.pm_meaning.proofs.RunLaws.{remove_each, removed-all, add-last}
@@ -189,25 +189,26 @@ module _ (s : Schema) (l : IsLoose s) (d : Doc) (v : Valid s d) (p : List Token)
   go cs x = fold meaning s x cs
 
   module _ (run : are_run s (t ∷ r) ≡ true) where
-    remove-applies : (m : Mark Attrs) (cur : Marks) → FitAt s (unclosed ps p) cur (t ∷ r) → outcome s (RemoveMark from to m) (mix cur) ≡ Ok (mix (remove m cur))
-    remove-applies m cur f =
+    remove-applies : (m : Mark Attrs) (cur : Marks) → s.mark_attrs m.kind m.attrs ≡ true → FitAt s (unclosed ps p) cur (t ∷ r) → outcome s (RemoveMark from to m) (mix cur) ≡ Ok (mix (remove m cur))
+    remove-applies m cur kn f =
         let e : effect s d.kind (RemoveMark from to m) (mix cur).tokens ≡ (mix (remove m cur)).tokens =
         remove-at s d.kind (here cur) m ∙ ap (λ z. p ++ (z ++ news)) (dress-removed s m (unclosed ps p) cur (t ∷ r) run) in
-        ok-unless _ Range _ (mix (remove m cur)) (ordered cur) (ok-unless _ Pair _ (mix (remove m cur)) (unparted cur)
+        known-made s (RemoveMark from to m) (mix cur) kn ∙ ok-unless _ Range _ (mix (remove m cur)) (ordered cur) (ok-unless _ Pair _ (mix (remove m cur)) (unparted cur)
         (subst (λ z. checked s (with_tokens d z) ≡ Ok (mix (remove m cur))) (sym e) (mixed (remove m cur) (fit-each s (unclosed ps p) cur (remove m cur) (t ∷ r) (λ q h. fit-removed s q m cur h) f))))
 
-    add-applies : (m : Mark Attrs) (cur : Marks) → FitAt s (unclosed ps p) (add s m cur) (t ∷ r) → allowed s (unclosed ps p) m (t ∷ r) ≡ true → outcome s (AddMark from to m) (mix cur) ≡ Ok (mix (add s m cur))
-    add-applies m cur f a =
+    add-applies : (m : Mark Attrs) (cur : Marks) → s.mark_attrs m.kind m.attrs ≡ true → FitAt s (unclosed ps p) (add s m cur) (t ∷ r) → allowed s (unclosed ps p) m (t ∷ r) ≡ true → outcome s (AddMark from to m) (mix cur) ≡ Ok (mix (add s m cur))
+    add-applies m cur kn f a =
         let e : effect s d.kind (AddMark from to m) (mix cur).tokens ≡ (mix (add s m cur)).tokens =
         add-at s d.kind (here cur) m ∙ ap (λ z. p ++ (z ++ news)) (dress-added s m (unclosed ps p) cur (t ∷ r) run a) in
-        ok-unless _ Range _ (mix (add s m cur)) (ordered cur) (ok-unless _ Pair _ (mix (add s m cur)) (unparted cur)
+        known-made s (AddMark from to m) (mix cur) kn ∙ ok-unless _ Range _ (mix (add s m cur)) (ordered cur) (ok-unless _ Pair _ (mix (add s m cur)) (unparted cur)
         (subst (λ z. checked s (with_tokens d z) ≡ Ok (mix (add s m cur))) (sym e) (mixed (add s m cur) f)))
 
-    removes-apply : (ms cur : Marks) (rest : List Step) → FitAt s (unclosed ps p) cur (t ∷ r) → go (map (λ m. RemoveMark from to m) ms ++ rest) (mix cur) ≡ go rest (mix (remove_each ms cur))
-    removes-apply [] cur rest f = refl
-    removes-apply (m ∷ ms) cur rest f =
-        ap (λ z. then_some meaning s z (λ x. go (map (λ m. RemoveMark from to m) ms ++ rest) x)) (remove-applies m cur f)
-        ∙ removes-apply ms (remove m cur) rest (fit-each s (unclosed ps p) cur (remove m cur) (t ∷ r) (λ q h. fit-removed s q m cur h) f)
+    removes-apply : (ms cur : Marks) (rest : List Step) → have_attrs s ms ≡ true → FitAt s (unclosed ps p) cur (t ∷ r) → go (map (λ m. RemoveMark from to m) ms ++ rest) (mix cur) ≡ go rest (mix (remove_each ms cur))
+    removes-apply [] cur rest kn f = refl
+    removes-apply (m ∷ ms) cur rest kn f =
+        let k = and_parts (s.mark_attrs m.kind m.attrs) (have_attrs s ms) kn in
+        ap (λ z. then_some meaning s z (λ x. go (map (λ m. RemoveMark from to m) ms ++ rest) x)) (remove-applies m cur k.0 f)
+        ∙ removes-apply ms (remove m cur) rest k.1 (fit-each s (unclosed ps p) cur (remove m cur) (t ∷ r) (λ q h. fit-removed s q m cur h) f)
 
     adds-apply : (ms cur : Marks) (rest : List Step) → is_set s (cur ++ ms) ≡ true → FitAt s (unclosed ps p) (cur ++ ms) (t ∷ r) → all_allowed s (unclosed ps p) ms (t ∷ r) ≡ true
         → go (map (λ m. AddMark from to m) ms ++ rest) (mix cur) ≡ go rest (mix (cur ++ ms))
@@ -222,7 +223,8 @@ module _ (s : Schema) (l : IsLoose s) (d : Doc) (v : Valid s d) (p : List Token)
         let k : cur ++ (m ∷ ms) ≡ (cur ++ (m ∷ [])) ++ ms = sym (append_assoc cur (m ∷ []) ms) in
         let g : FitAt s (unclosed ps p) ((cur ++ (m ∷ [])) ++ ms) (t ∷ r) = subst (λ z. FitAt s (unclosed ps p) z (t ∷ r)) k f in
         let h : FitAt s (unclosed ps p) (add s m cur) (t ∷ r) = subst (λ z. FitAt s (unclosed ps p) z (t ∷ r)) (sym e) (fit-each s (unclosed ps p) ((cur ++ (m ∷ [])) ++ ms) (cur ++ (m ∷ [])) (t ∷ r) (λ q h. fit-front s q (cur ++ (m ∷ [])) ms h) g) in
-        ap (λ z. then_some meaning s z (λ x. go (map (λ m. AddMark from to m) ms ++ rest) x)) (add-applies m cur h b.0)
+        let n = and_parts (s.mark_attrs m.kind m.attrs) (have_attrs s ms) (known-behind s cur (m ∷ ms) (suit-known s (head_of (unclosed ps p)) (cur ++ (m ∷ ms)) f.0)) in
+        ap (λ z. then_some meaning s z (λ x. go (map (λ m. AddMark from to m) ms ++ rest) x)) (add-applies m cur n.0 h b.0)
         ∙ (ap (λ z. go (map (λ m. AddMark from to m) ms ++ rest) (mix z)) e
         ∙ (adds-apply ms (cur ++ (m ∷ [])) rest (subst (λ z. is_set s z ≡ true) k w) g b.1 ∙ ap (λ z. go rest (mix z)) (sym k)))
 
@@ -231,5 +233,5 @@ module _ (s : Schema) (l : IsLoose s) (d : Doc) (v : Valid s d) (p : List Token)
         → go (range_steps from to o new ++ rest) (mix new) ≡ go rest (mix o)
     run-applies new rest w fn fo a =
         ap (λ z. go z (mix new)) (append_assoc (map (λ m. RemoveMark from to m) new) (map (λ m. AddMark from to m) o) rest)
-        ∙ (removes-apply new new (map (λ m. AddMark from to m) o ++ rest) fn
+        ∙ (removes-apply new new (map (λ m. AddMark from to m) o ++ rest) (suit-known s (head_of (unclosed ps p)) new fn.0) fn
         ∙ (ap (λ z. go (map (λ m. AddMark from to m) o ++ rest) (mix z)) (removed-all new) ∙ adds-apply o [] rest w fo a))

@@ -1,12 +1,12 @@
 -- The steps for one node apply, in a loose schema: p and t are tokens of a valid document, and news are the new tokens behind them.
 use Rattle.std.specs.Prelude.{◌≡◌, ℕ, ◌+◌, Bool, true, false, not, List, [], ◌∷◌, ◌++◌, map, length, drop, Option, None, Result, Ok}
-use Rattle.std.proofs.lemmas.Bool.{le-leb, and_from}
+use Rattle.std.proofs.lemmas.Bool.{le-leb, and_parts, and_from}
 use Rattle.std.proofs.Common.{refl, ap, sym, ◌∙◌, subst, arith, append_assoc}
 use Rattle.pm_change.specs.Changes.{fold, then_some}
 use Rattle.pm_tokens.specs.Tokens.{Marks, Token, Open, Close, Leaf, CodeUnit, Doc, with_tokens}
 use Rattle.pm_tokens.specs.Schemas.{Schema}
 use Rattle.pm_tokens.specs.Scan.{head_of, unclosed, ends_high, parts_pair}
-use Rattle.pm_tokens.specs.Marks.{is_set}
+use Rattle.pm_tokens.specs.Marks.{is_set, have_attrs}
 use Rattle.pm_tokens.specs.Faults.{Valid}
 use Rattle.pm_tokens.specs.Loose.{IsLoose}
 use Rattle.pm_tokens.proofs.PairLaws.{no-left}
@@ -18,9 +18,9 @@ use Rattle.pm_meaning.specs.Marked.{add, remove, starts_node, node_marked}
 use Rattle.pm_meaning.specs.Outcomes.{checked, and_unless, parts_no_pair, in_order, node_outcome}
 use Rattle.pm_meaning.specs.Runs.{node_steps}
 use Rattle.pm_meaning.specs.Meanings.{meaning}
-use Rattle.pm_meaning.proofs.OutcomeLaws.{ok-unless}
+use Rattle.pm_meaning.proofs.OutcomeLaws.{ok-unless, known-made}
 use Rattle.pm_meaning.proofs.TokenMarks.{set_marks}
-use Rattle.pm_meaning.proofs.MarkSuits.{marks_suit, fit-removed, fit-front}
+use Rattle.pm_meaning.proofs.MarkSuits.{marks_suit, suit-known, known-behind, fit-removed, fit-front}
 use Rattle.pm_meaning.proofs.RunLaws.{remove_each, removed-all, add-last}
 use Rattle.pm_meaning.proofs.EffectLaws.{is_node, node-one}
 use Rattle.pm_meaning.proofs.MarkStepLaws.{Fits}
@@ -28,8 +28,8 @@ use Rattle.pm_meaning.proofs.LooseLaws.{Shaped, Paired}
 use Rattle.pm_meaning.proofs.MixedLaws.{mixed}
 use Rattle.pm_meaning.proofs.ReplaceLaws.{no-pair-at}
 
-and-passes : (b : Bool) (r : Reason) (x : Result Doc Reason) (n : Doc) → b ≡ true → x ≡ Ok n → and_unless b r x ≡ Ok n
-and-passes b r x n h e = rw (e, h) refl
+passes-all : (b : Bool) (r : Reason) (x : Result Doc Reason) (n : Doc) → b ≡ true → x ≡ Ok n → and_unless b r x ≡ Ok n
+passes-all b r x n h e = rw (e, h) refl
 
 starts-set : (s : Schema) (k : ℕ) (t : Token) (ms : Marks) (q : List Token) → is_node s k t ≡ true → starts_node (set_marks ms t ∷ q) ≡ true
 starts-set s k (Open j a m) ms q h = refl
@@ -66,17 +66,18 @@ module _ (s : Schema) (l : IsLoose s) (d : Doc) (v : Valid s d) (p : List Token)
       ok-unless (in_order (pos ∷ []) (length x)) Range _ (mix (f cur)) (le-leb pos (length x) (omega (arith, split-length sp)))
       (ok-unless (parts_no_pair x (pos ∷ [])) Pair _ (mix (f cur))
       (and_from (not (parts_pair x pos)) true (no-pair-at x p (set_marks cur t ∷ news) pos (split-front sp) (split-rest sp) (no-left p (set_marks cur t ∷ news) hp)) refl)
-      (and-passes (starts_node (drop pos x)) NoNode (checked s (node_marked f pos (mix cur))) (mix (f cur)) stands passed))
+      (passes-all (starts_node (drop pos x)) NoNode (checked s (node_marked f pos (mix cur))) (mix (f cur)) stands passed))
 
   abbrev go : List Step → Doc → Option Doc
   go cs x = fold meaning s x cs
 
-  removes-apply : (ms cur : Marks) (rest : List Step) → Suits cur → go (map (λ m. RemoveNodeMark pos m) ms ++ rest) (mix cur) ≡ go rest (mix (remove_each ms cur))
-  removes-apply [] cur rest w = refl
-  removes-apply (m ∷ ms) cur rest w =
+  removes-apply : (ms cur : Marks) (rest : List Step) → have_attrs s ms ≡ true → Suits cur → go (map (λ m. RemoveNodeMark pos m) ms ++ rest) (mix cur) ≡ go rest (mix (remove_each ms cur))
+  removes-apply [] cur rest kn w = refl
+  removes-apply (m ∷ ms) cur rest kn w =
       let next : Suits (remove m cur) = fit-removed s (head_of ps) m cur w in
-      ap (λ z. then_some meaning s z (λ x. go (map (λ m. RemoveNodeMark pos m) ms ++ rest) x)) (outcome-is (remove m) cur next)
-      ∙ removes-apply ms (remove m cur) rest next
+      let k = and_parts (s.mark_attrs m.kind m.attrs) (have_attrs s ms) kn in
+      ap (λ z. then_some meaning s z (λ x. go (map (λ m. RemoveNodeMark pos m) ms ++ rest) x)) (known-made s (RemoveNodeMark pos m) (mix cur) k.0 ∙ outcome-is (remove m) cur next)
+      ∙ removes-apply ms (remove m cur) rest k.1 next
 
   nothing-more : (xs : Marks) → xs ≡ xs ++ []
   nothing-more [] = refl
@@ -89,7 +90,8 @@ module _ (s : Schema) (l : IsLoose s) (d : Doc) (v : Valid s d) (p : List Token)
       let k : cur ++ (m ∷ ms) ≡ (cur ++ (m ∷ [])) ++ ms = sym (append_assoc cur (m ∷ []) ms) in
       let g : Suits ((cur ++ (m ∷ [])) ++ ms) = subst Suits k w in
       let next : Suits (add s m cur) = subst Suits (sym e) (fit-front s (head_of ps) (cur ++ (m ∷ [])) ms g) in
-      ap (λ z. then_some meaning s z (λ x. go (map (λ m. AddNodeMark pos m) ms ++ rest) x)) (outcome-is (add s m) cur next)
+      let kn = and_parts (s.mark_attrs m.kind m.attrs) (have_attrs s ms) (known-behind s cur (m ∷ ms) (suit-known s (head_of ps) (cur ++ (m ∷ ms)) w)) in
+      ap (λ z. then_some meaning s z (λ x. go (map (λ m. AddNodeMark pos m) ms ++ rest) x)) (known-made s (AddNodeMark pos m) (mix cur) kn.0 ∙ outcome-is (add s m) cur next)
       ∙ (ap (λ z. go (map (λ m. AddNodeMark pos m) ms ++ rest) (mix z)) e
       ∙ (adds-apply ms (cur ++ (m ∷ [])) rest (subst (λ z. is_set s z ≡ true) k h) g ∙ ap (λ z. go rest (mix z)) (sym k)))
 
@@ -97,5 +99,5 @@ module _ (s : Schema) (l : IsLoose s) (d : Doc) (v : Valid s d) (p : List Token)
   pub node-applies : (new : Marks) (rest : List Step) → is_set s o ≡ true → Suits new → Suits o → go (node_steps pos o new ++ rest) (mix new) ≡ go rest (mix o)
   node-applies new rest h wn wo =
       ap (λ z. go z (mix new)) (append_assoc (map (λ m. RemoveNodeMark pos m) new) (map (λ m. AddNodeMark pos m) o) rest)
-      ∙ (removes-apply new new (map (λ m. AddNodeMark pos m) o ++ rest) wn
+      ∙ (removes-apply new new (map (λ m. AddNodeMark pos m) o ++ rest) (suit-known s (head_of ps) new wn) wn
       ∙ (ap (λ z. go (map (λ m. AddNodeMark pos m) o ++ rest) (mix z)) (removed-all new) ∙ adds-apply o [] rest h wo))

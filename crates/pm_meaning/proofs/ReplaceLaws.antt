@@ -18,7 +18,8 @@ use Rattle.pm_meaning.specs.Inverses.{replace_back}
 use Rattle.pm_meaning.specs.Outcomes.{checked, in_order, parts_no_pair, keeps_structure, outcome}
 use Rattle.pm_meaning.specs.declared.reason.Reason.TheVariants.{Range, Structure, Depth, Pair, Join}
 use Rattle.pm_meaning.specs.Steps.{Replace}
-use Rattle.pm_meaning.proofs.OutcomeLaws.{unless-ok, ok-unless, checked-ok, checks-valid, valid-checks}
+use Rattle.pm_meaning.proofs.OutcomeLaws.{unless-ok, ok-unless, made-ok, known-made, checked-ok, checks-valid, valid-checks}
+use Rattle.pm_meaning.proofs.KnownLaws.{cut-known}
 
 pub not-true : (b : Bool) → not b ≡ true → b ≡ false
 not-true true h = absurd (cc)
@@ -53,7 +54,7 @@ pub record Replaced (s : Schema) (from to : ℕ) (sl : Slice) (d next : Doc) : T
 pub replaced : (s : Schema) (from to : ℕ) (sl : Slice) (structure : Bool) (d next : Doc) → outcome s (Replace from to sl structure) d ≡ Ok next → Replaced s from to sl d next
 replaced s from to sl structure d next h =
     let ts = d.tokens in
-    let u₀ = unless-ok (is_slice sl) Range _ next h in
+    let u₀ = unless-ok (is_slice sl) Range _ next (made-ok s (Replace from to sl structure) d next h).1 in
     let u₁ = unless-ok (in_order (from ∷ to ∷ []) (length ts)) Range _ next u₀.1 in
     let u₂ = unless-ok (keeps_structure structure (part from to ts)) Structure _ next u₁.1 in
     let u₃ = unless-ok (depths_fit ts from to sl) Depth _ next u₂.1 in
@@ -187,6 +188,7 @@ module _ (s : Schema) (from to : ℕ) (sl : Slice) (d next : Doc) (v : Valid s d
   restored : outcome s (replace_back d from to sl) after ≡ Ok d
   restored =
       let n = length (a ++ (m ++ b)) in
+      known-made s (replace_back d from to sl) after (cut-known s d a x (x ++ b) v old.is n-within) ∙
       ok-unless (is_slice c) Range _ d (cut-slice a x n-within)
       (ok-unless (in_order (from ∷ far ∷ []) n) Range _ d
       (and_from (nat_le from far) (nat_le far n) (le-leb from far (omega arith)) (le-leb far n (omega (arith, split-length new))))

@@ -26,7 +26,7 @@ use Rattle.pm_meaning.specs.Steps.{Step, Replace, ReplaceAround, AddMark, Remove
 use Rattle.pm_meaning.proofs.AroundLaws.{moved, around-valid, around-restored}
 use Rattle.pm_meaning.proofs.EffectLaws.{after, Alike}
 use Rattle.pm_meaning.proofs.MarkStepLaws.{range-alike, node-alike, range-effect, range-order, range-checks, node-effect, node-order, node-checks, range-restores, node-restores}
-use Rattle.pm_meaning.proofs.OutcomeLaws.{checks-valid}
+use Rattle.pm_meaning.proofs.OutcomeLaws.{made-ok, checks-valid}
 use Rattle.pm_meaning.proofs.ReplaceLaws.{replaced, replace-valid, replace-restored}
 use Rattle.pm_meaning.proofs.TokenMarks.{set_marks}
 
@@ -187,27 +187,31 @@ module _ (s : Schema) (d next : Doc) (v : Valid s d) where
 
   add-marking : (from to : ℕ) (m : Mark Attrs) → outcome s (AddMark from to m) d ≡ Ok next → Marking s (AddMark from to m) d next
   add-marking from to m h =
-      let r = ranged (mark_added s m) from to h in
-      let o = range-order s (mark_added s m) from to d next h in
+      let k = (made-ok s (AddMark from to m) d next h).1 in
+      let r = ranged (mark_added s m) from to k in
+      let o = range-order s (mark_added s m) from to d next k in
       record { valid = r.0; same_size = r.1; within = o; back = one-or-runs-marks s (length next.tokens) (RemoveMark from to m) d (marked (mark_added s m) from to d) ((o.0, omega (arith, o.1, r.1)), refl) (omega (arith, r.1)) }
 
   remove-marking : (from to : ℕ) (m : Mark Attrs) → outcome s (RemoveMark from to m) d ≡ Ok next → Marking s (RemoveMark from to m) d next
   remove-marking from to m h =
-      let r = ranged (mark_removed s m) from to h in
-      let o = range-order s (mark_removed s m) from to d next h in
+      let k = (made-ok s (RemoveMark from to m) d next h).1 in
+      let r = ranged (mark_removed s m) from to k in
+      let o = range-order s (mark_removed s m) from to d next k in
       record { valid = r.0; same_size = r.1; within = o; back = one-or-runs-marks s (length next.tokens) (AddMark from to m) d (marked (mark_removed s m) from to d) ((o.0, omega (arith, o.1, r.1)), refl) (omega (arith, r.1)) }
 
   add-node-marking : (p : ℕ) (m : Mark Attrs) → outcome s (AddNodeMark p m) d ≡ Ok next → Marking s (AddNodeMark p m) d next
   add-node-marking p m h =
-      let r = noded (add s m) p h in
-      let o = node-order s (add s m) p d next h in
+      let k = (made-ok s (AddNodeMark p m) d next h).1 in
+      let r = noded (add s m) p k in
+      let o = node-order s (add s m) p d next k in
       let old = node_marks (drop p d.tokens) in
       record { valid = r.0; same_size = r.1; within = o; back = one-or-marks s (length next.tokens) (add_node_back p m old (add s m old)) (node_steps p old (add s m old)) d (node_marked (add s m) p d) (add-node-marks s (length next.tokens) p m old (add s m old) (omega (arith, o, r.1))) (nodes s (length next.tokens) p old (add s m old) (omega (arith, o, r.1))) }
 
   remove-node-marking : (p : ℕ) (m : Mark Attrs) → outcome s (RemoveNodeMark p m) d ≡ Ok next → Marking s (RemoveNodeMark p m) d next
   remove-node-marking p m h =
-      let r = noded (remove m) p h in
-      let o = node-order s (remove m) p d next h in
+      let k = (made-ok s (RemoveNodeMark p m) d next h).1 in
+      let r = noded (remove m) p k in
+      let o = node-order s (remove m) p d next k in
       let old = node_marks (drop p d.tokens) in
       record { valid = r.0; same_size = r.1; within = o; back = one-or-marks s (length next.tokens) (cond (has same_attrs old m) (AddNodeMark p m) (RemoveNodeMark p m)) (node_steps p old (remove m old)) d (node_marked (remove m) p d) (remove-node-marks s (length next.tokens) p m old (omega (arith, o, r.1))) (nodes s (length next.tokens) p old (remove m old) (omega (arith, o, r.1))) }
 
@@ -234,12 +238,12 @@ pub restores : (s : Schema) (c : Step) (d next back : Doc) → Valid s d → out
 restores s (Replace from to sl st) d next back v h f = one-back s (replace_back d from to sl) d next back (replace-restored s from to sl d next v (replaced s from to sl st d next h)) f
 restores s (ReplaceAround from to gf gt sl ins st) d next back v h f =
     one-back s (around_back d from to gf gt sl ins st) d next back (around-restored s from to gf gt sl ins st d next v (moved s from to gf gt sl ins st d next h)) f
-restores s (AddMark from to m) d next back v h f = range-restores s d v (mark_added s m) from to (RemoveMark from to m) next back h f
-restores s (RemoveMark from to m) d next back v h f = range-restores s d v (mark_removed s m) from to (AddMark from to m) next back h f
+restores s (AddMark from to m) d next back v h f = range-restores s d v (mark_added s m) from to (RemoveMark from to m) next back (made-ok s (AddMark from to m) d next h).1 f
+restores s (RemoveMark from to m) d next back v h f = range-restores s d v (mark_removed s m) from to (AddMark from to m) next back (made-ok s (RemoveMark from to m) d next h).1 f
 restores s (AddNodeMark p m) d next back v h f =
-    let old = node_marks (drop p d.tokens) in node-restores s d v (add s m) p (add_node_back p m old (add s m old)) next back h f
+    let old = node_marks (drop p d.tokens) in node-restores s d v (add s m) p (add_node_back p m old (add s m old)) next back (made-ok s (AddNodeMark p m) d next h).1 f
 restores s (RemoveNodeMark p m) d next back v h f =
-    node-restores s d v (remove m) p (cond (has same_attrs (node_marks (drop p d.tokens)) m) (AddNodeMark p m) (RemoveNodeMark p m)) next back h f
+    node-restores s d v (remove m) p (cond (has same_attrs (node_marks (drop p d.tokens)) m) (AddNodeMark p m) (RemoveNodeMark p m)) next back (made-ok s (RemoveNodeMark p m) d next h).1 f
 
 no-range : (n k : ℕ) → k ≡ n → FitsSizes [] n k
 no-range n k e = (omega arith, sym e)

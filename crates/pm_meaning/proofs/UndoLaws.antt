@@ -21,7 +21,7 @@ use Rattle.pm_meaning.specs.Outcomes.{checked, and_unless, in_order, parts_no_pa
 use Rattle.pm_meaning.specs.Runs.{node_steps, run_steps}
 use Rattle.pm_meaning.specs.Inverses.{gives, one_or, one_or_runs, node_marks, add_node_back, inverse, replace_back, around_back}
 use Rattle.pm_meaning.specs.Meanings.{meaning}
-use Rattle.pm_meaning.proofs.OutcomeLaws.{unless-ok}
+use Rattle.pm_meaning.proofs.OutcomeLaws.{unless-ok, made-ok}
 use Rattle.pm_meaning.proofs.MarkSuits.{are_suited}
 use Rattle.pm_meaning.proofs.ReplaceLaws.{replaced, replace-restored}
 use Rattle.pm_meaning.proofs.AroundLaws.{moved, around-restored}
@@ -119,11 +119,11 @@ pub undoes : (s : Schema) (c : Step) (d next : Doc) → IsLoose s → Valid s d 
 undoes s (Replace from to sl st) d next l v h = one-applies s (replace_back d from to sl) next d (replace-restored s from to sl d next v (replaced s from to sl st d next h))
 undoes s (ReplaceAround from to gf gt sl ins st) d next l v h =
     one-applies s (around_back d from to gf gt sl ins st) next d (around-restored s from to gf gt sl ins st d next v (moved s from to gf gt sl ins st d next h))
-undoes s (AddMark from to m) d next l v h = range-undoes s l d v (mark_added s m) from to (RemoveMark from to m) next (good s (AddMark from to m) d next v h) h
-undoes s (RemoveMark from to m) d next l v h = range-undoes s l d v (mark_removed s m) from to (AddMark from to m) next (good s (RemoveMark from to m) d next v h) h
+undoes s (AddMark from to m) d next l v h = range-undoes s l d v (mark_added s m) from to (RemoveMark from to m) next (good s (AddMark from to m) d next v h) (made-ok s (AddMark from to m) d next h).1
+undoes s (RemoveMark from to m) d next l v h = range-undoes s l d v (mark_removed s m) from to (AddMark from to m) next (good s (RemoveMark from to m) d next v h) (made-ok s (RemoveMark from to m) d next h).1
 undoes s (AddNodeMark p m) d next l v h =
     let old = node_marks (drop p d.tokens) in
-    node-undoes s l d v (add s m) p (add_node_back p m old (add s m old)) next (good s (AddNodeMark p m) d next v h) h
+    node-undoes s l d v (add s m) p (add_node_back p m old (add s m old)) next (good s (AddNodeMark p m) d next v h) (made-ok s (AddNodeMark p m) d next h).1
 undoes s (RemoveNodeMark p m) d next l v h =
     let old = node_marks (drop p d.tokens) in
-    node-undoes s l d v (remove m) p (cond (has same_attrs old m) (AddNodeMark p m) (RemoveNodeMark p m)) next (good s (RemoveNodeMark p m) d next v h) h
+    node-undoes s l d v (remove m) p (cond (has same_attrs old m) (AddNodeMark p m) (RemoveNodeMark p m)) next (good s (RemoveNodeMark p m) d next v h) (made-ok s (RemoveNodeMark p m) d next h).1

@@ -6,8 +6,9 @@ use Rattle.pm_tokens.specs.Schemas.{Schema, compatible, max_size, max_depth}
 use Rattle.pm_tokens.specs.Faults.{fault_place}
 use Rattle.pm_tokens.specs.Slices.{is_slice, slice_size, slice_tokens, spliced, spliced_around, depths_fit}
 use Rattle.pm_meaning.specs.declared.reason.Reason.{Reason}
-use Rattle.pm_meaning.specs.declared.reason.Reason.TheVariants.{Range, Structure, Gap, Depth, Pair, Join, Large, Deep, Content, NoNode}
+use Rattle.pm_meaning.specs.declared.reason.Reason.TheVariants.{Range, Structure, Gap, Depth, Pair, Join, Large, Deep, Content, NoNode, NotInSchema}
 use Rattle.pm_meaning.specs.Steps.{Step, Replace, ReplaceAround, AddMark, RemoveMark, AddNodeMark, RemoveNodeMark}
+use Rattle.pm_meaning.specs.Known.{knows_step}
 use Rattle.pm_meaning.specs.Marked.{add, remove, mark_added, mark_removed, marked, starts_node, node_marked}
 
 -- ---- tests
@@ -66,10 +67,10 @@ node_outcome s f pos d =
     (and_unless (starts_node (drop pos d.tokens)) NoNode
     (checked s (node_marked f pos d))))
 
--- The document, or the first reason in the order of the tests. Every slice that there is passes the first test, which is
--- there for values that are none.
-abbrev pub outcome : Schema → Step → Doc → Result Doc Reason
-outcome s (Replace from to sl structure) d =
+-- The document, or the first reason in the order of the tests that look at the document. Every slice that there is passes the
+-- first test, which is there for values that are none.
+abbrev pub made : Schema → Step → Doc → Result Doc Reason
+made s (Replace from to sl structure) d =
     unless (is_slice sl) Range
     (unless (in_order (from ∷ to ∷ []) (length d.tokens)) Range
     (unless (keeps_structure structure (part from to d.tokens)) Structure
@@ -77,7 +78,7 @@ outcome s (Replace from to sl structure) d =
     (unless (parts_no_pair d.tokens (from ∷ to ∷ [])) Pair
     (unless (joins (compatible s) [] (spliced d.tokens from to sl)) Join
     (checked s (with_tokens d (plain (spliced d.tokens from to sl)))))))))
-outcome s (ReplaceAround from to gap_from gap_to sl insert structure) d =
+made s (ReplaceAround from to gap_from gap_to sl insert structure) d =
     unless (is_slice sl) Range
     (unless (in_order (from ∷ gap_from ∷ gap_to ∷ to ∷ []) (length d.tokens) && nat_le insert (slice_size sl)) Range
     (unless (keeps_structure structure (part from gap_from d.tokens) && keeps_structure structure (part gap_to to d.tokens)) Structure
@@ -86,7 +87,11 @@ outcome s (ReplaceAround from to gap_from gap_to sl insert structure) d =
     (unless (parts_no_pair d.tokens (from ∷ gap_from ∷ gap_to ∷ to ∷ []) && parts_no_pair (slice_tokens sl) (insert ∷ [])) Pair
     (unless (joins (compatible s) [] (spliced_around d.tokens from to gap_from gap_to sl insert)) Join
     (checked s (with_tokens d (plain (spliced_around d.tokens from to gap_from gap_to sl insert))))))))))
-outcome s (AddMark from to mark) d = range_outcome s (mark_added s mark) from to d
-outcome s (RemoveMark from to mark) d = range_outcome s (mark_removed s mark) from to d
-outcome s (AddNodeMark pos mark) d = node_outcome s (add s mark) pos d
-outcome s (RemoveNodeMark pos mark) d = node_outcome s (remove mark) pos d
+made s (AddMark from to mark) d = range_outcome s (mark_added s mark) from to d
+made s (RemoveMark from to mark) d = range_outcome s (mark_removed s mark) from to d
+made s (AddNodeMark pos mark) d = node_outcome s (add s mark) pos d
+made s (RemoveNodeMark pos mark) d = node_outcome s (remove mark) pos d
+
+-- the document, or the first reason, where the last is that the schema does not know the step
+abbrev pub outcome : Schema → Step → Doc → Result Doc Reason
+outcome s step d = and_unless (knows_step s step) NotInSchema (made s step d)

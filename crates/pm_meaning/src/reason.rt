@@ -38,4 +38,8 @@ pub enum Reason {
     /// The node's type has no such attribute. No step of the six kinds answers it.
     #[error("no such attribute")]
     NoAttribute,
+    /// The document would do, but the schema does not know the step: its mark, or a node that is open at the start of its slice,
+    /// has a type, attributes or marks that are none of the schema, so that the step could not be written and read back.
+    #[error("the step's mark or an open node of its slice is not of the schema")]
+    NotInSchema,
 }

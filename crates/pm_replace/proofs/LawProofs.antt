@@ -14,8 +14,9 @@ use Rattle.pm_tokens.proofs.PartLaws.{Split, split-at, owned-front, owned-back, 
 use Rattle.pm_tokens.proofs.Restored.{cut-within, cut-first, cut-level, Stands, stands, nothing}
 use Rattle.pm_slice.specs.Sides.{no_slice}
 use Rattle.pm_meaning.specs.Steps.{Replace}
-use Rattle.pm_meaning.specs.Outcomes.{checked, outcome}
-use Rattle.pm_meaning.proofs.OutcomeLaws.{valid-checks}
+use Rattle.pm_meaning.specs.Outcomes.{checked, made, outcome}
+use Rattle.pm_meaning.proofs.OutcomeLaws.{valid-checks, known-made}
+use Rattle.pm_meaning.proofs.KnownLaws.{cut-known}
 use Rattle.pm_meaning.proofs.ReplaceLaws.{of-depths, replaced, next-is, replace-valid, replace-restored}
 use Rattle.pm_meaning.proofs.AroundLaws.{moved, around-restored}
 use Rattle.pm_replace.specs.Laws.{KeepsTheRest, StaysValid, CutGivesBack, NothingGivesBack, PutsBack, AroundPutsBack}
@@ -36,7 +37,7 @@ around-puts-back s = λ d next from to gf gt sl insert structure v h.
 
 -- where the spliced list is the document's own, the document comes back
 module _ (s : Schema) (d : Doc) (v : Valid s d) (from to : ℕ) (sl : Slice) (h : from ≤ to) (i : to ≤ length d.tokens) (p : parts_pair d.tokens from ≡ false) (q : parts_pair d.tokens to ≡ false) where
-  given-back : is_slice sl ≡ true → depths_fit d.tokens from to sl ≡ true → spliced d.tokens from to sl ≡ owned [] d.tokens → outcome s (Replace from to sl false) d ≡ Ok d
+  given-back : is_slice sl ≡ true → depths_fit d.tokens from to sl ≡ true → spliced d.tokens from to sl ≡ owned [] d.tokens → made s (Replace from to sl false) d ≡ Ok d
   given-back w f e =
       let joined : joins (compatible s) [] (spliced d.tokens from to sl) ≡ true =
       ap (joins (compatible s) []) e ∙ joins-balanced (compatible s) (compatible-itself s) [] [] (whole-balanced d.tokens (whole-of d.tokens v.whole)) in
@@ -91,7 +92,7 @@ module _ (s : Schema) (d : Doc) (from to : ℕ) (v : Valid s d) (h : from ≤ to
       ∙ (ap (λ z. owned [] a ++ (owned k x ++ z)) (owned-back split) ∙ whole-again))
 
   cut-back : parts_pair ts from ≡ false → parts_pair ts to ≡ false → outcome s (Replace from to c false) d ≡ Ok d
-  cut-back p q = given-back s d v from to c h i p q (cut-slice a x within) fits same
+  cut-back p q = known-made s (Replace from to c false) d (cut-known s d a x (x ++ b) v split.is within) ∙ given-back s d v from to c h i p q (cut-slice a x within) fits same
 
 pub cut-gives-back : (s : Schema) → CutGivesBack s
 cut-gives-back s = λ d from to v h i p q. cut-back s d from to v h i p q
@@ -101,4 +102,4 @@ nothing-gives-back s = λ d at v h p.
     let f : depths_fit d.tokens at at no_slice ≡ true = of-depths d.tokens at at no_slice (omega arith) refl in
     let e : spliced d.tokens at at no_slice ≡ owned [] d.tokens = take-append-drop at (owned [] d.tokens) in
     let r : at ≤ at = omega arith in
-    given-back s d v at at no_slice r h p p refl f e
+    known-made s (Replace at at no_slice false) d refl ∙ given-back s d v at at no_slice r h p p refl f e

@@ -1,3 +1,4 @@
 pub mod FedSplices
 pub mod OutcomeAnswers
 pub mod LawProofs
+pub mod KnownSides

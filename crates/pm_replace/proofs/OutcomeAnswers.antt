@@ -16,11 +16,13 @@ use Rattle.pm_tokens.proofs.BalanceLaws.{balanced-whole}
 use Rattle.pm_meaning.proofs.ReplaceLaws.{depths-of, of-depths}
 use Rattle.pm_tokens.proofs.SpliceLaws.{spliced-plain, spliced-size}
 use Rattle.pm_meaning.specs.declared.reason.Reason.{Reason}
-use Rattle.pm_meaning.specs.declared.reason.Reason.TheVariants.{Range, Depth, Pair, Join, Large, Deep}
-use Rattle.pm_meaning.specs.Steps.{Replace}
-use Rattle.pm_meaning.specs.Outcomes.{unless, unless_fault, checked, in_order, parts_no_pair, outcome}
+use Rattle.pm_meaning.specs.declared.reason.Reason.TheVariants.{Range, Depth, Pair, Join, Large, Deep, NotInSchema}
+use Rattle.pm_meaning.specs.Steps.{Step, Replace}
+use Rattle.pm_meaning.specs.Known.{knows_step}
+use Rattle.pm_meaning.specs.Outcomes.{unless, unless_fault, checked, in_order, parts_no_pair, and_unless, made, outcome}
 use Rattle.pm_change.specs.Failing.{Answers}
 use Rattle.pm_change.specs.declared.failed.Failed.{Failed}
+use Rattle.pm_change.specs.declared.failed.Failed.TheVariants as failed
 use Rattle.pm_build.specs.declared.refused.Refused.{Refused}
 use Rattle.pm_build.specs.declared.refused.Refused.TheVariants as refused
 use Rattle.pm_build.specs.Fed.{ForJoin}
@@ -63,7 +65,7 @@ stays-checked s n before after from to new_to v c keep l =
 -- ---- replace
 
 module _ (s : Schema) (d : Doc) (from to : ℕ) (sl : Slice) (slice : is_slice sl ≡ true) where
-  pub out-of-range : (from ≤ to → to ≤ length d.tokens → ⊥) → outcome s (Replace from to sl false) d ≡ Err Range
+  pub out-of-range : (from ≤ to → to ≤ length d.tokens → ⊥) → made s (Replace from to sl false) d ≡ Err Range
   out-of-range h =
       let e : in_order (from ∷ to ∷ []) (length d.tokens) ≡ false = by (nat_le from to) (nat_le to (length d.tokens)) refl refl in
       passes (is_slice sl) Range _ slice ∙ fails (in_order (from ∷ to ∷ []) (length d.tokens)) Range _ e
@@ -77,18 +79,18 @@ module _ (s : Schema) (d : Doc) (from to : ℕ) (sl : Slice) (slice : is_slice s
     in-range : in_order (from ∷ to ∷ []) (length d.tokens) ≡ true
     in-range = and_from (nat_le from to) (nat_le to (length d.tokens)) (le-leb from to h) (le-leb to (length d.tokens) i)
 
-    to-depths : outcome s (Replace from to sl false) d ≡ unless (depths_fit d.tokens from to sl) Depth
+    to-depths : made s (Replace from to sl false) d ≡ unless (depths_fit d.tokens from to sl) Depth
         (unless (parts_no_pair d.tokens (from ∷ to ∷ [])) Pair
         (unless (joins (compatible s) [] (spliced d.tokens from to sl)) Join
         (checked s (with_tokens d (plain (spliced d.tokens from to sl))))))
     to-depths = passes (is_slice sl) Range _ slice ∙ passes (in_order (from ∷ to ∷ []) (length d.tokens)) Range _ in-range
 
-    pub unfit-start : depth_at d.tokens from < sl.open_start → outcome s (Replace from to sl false) d ≡ Err Depth
+    pub unfit-start : depth_at d.tokens from < sl.open_start → made s (Replace from to sl false) d ≡ Err Depth
     unfit-start g =
         let e : nat_le sl.open_start (depth_at d.tokens from) ≡ false = lt-leb sl.open_start (depth_at d.tokens from) g in
         to-depths ∙ fails (depths_fit d.tokens from to sl) Depth _ (ap (λ z. z && (depth_at d.tokens from + sl.open_end == depth_at d.tokens to + sl.open_start)) e)
 
-    pub unfit-end : (depth_at d.tokens from + sl.open_end ≡ depth_at d.tokens to + sl.open_start → ⊥) → outcome s (Replace from to sl false) d ≡ Err Depth
+    pub unfit-end : (depth_at d.tokens from + sl.open_end ≡ depth_at d.tokens to + sl.open_start → ⊥) → made s (Replace from to sl false) d ≡ Err Depth
     unfit-end g = to-depths ∙ fails (depths_fit d.tokens from to sl) Depth _ (second (nat_le sl.open_start (depth_at d.tokens from)) (ne_eqb (depth_at d.tokens from + sl.open_end) (depth_at d.tokens to + sl.open_start) g))
       where
         second : (a : Bool) {b : Bool} → b ≡ false → (a && b) ≡ false
@@ -96,15 +98,15 @@ module _ (s : Schema) (d : Doc) (from to : ℕ) (sl : Slice) (slice : is_slice s
         second false e = refl
 
     module _ (depths : depths_fit d.tokens from to sl ≡ true) where
-      to-pairs : outcome s (Replace from to sl false) d ≡ unless (parts_no_pair d.tokens (from ∷ to ∷ [])) Pair
+      to-pairs : made s (Replace from to sl false) d ≡ unless (parts_no_pair d.tokens (from ∷ to ∷ [])) Pair
           (unless (joins (compatible s) [] (spliced d.tokens from to sl)) Join
           (checked s (with_tokens d (plain (spliced d.tokens from to sl)))))
       to-pairs = to-depths ∙ passes (depths_fit d.tokens from to sl) Depth _ depths
 
-      pub pair-from : parts_pair d.tokens from ≡ true → outcome s (Replace from to sl false) d ≡ Err Pair
+      pub pair-from : parts_pair d.tokens from ≡ true → made s (Replace from to sl false) d ≡ Err Pair
       pair-from g = to-pairs ∙ fails (parts_no_pair d.tokens (from ∷ to ∷ [])) Pair _ (ap (λ z. not z && (not (parts_pair d.tokens to) && true)) g)
 
-      pub pair-to : parts_pair d.tokens to ≡ true → outcome s (Replace from to sl false) d ≡ Err Pair
+      pub pair-to : parts_pair d.tokens to ≡ true → made s (Replace from to sl false) d ≡ Err Pair
       pair-to g = to-pairs ∙ fails (parts_no_pair d.tokens (from ∷ to ∷ [])) Pair _ (ap (λ z. not (parts_pair d.tokens from) && (not z && true)) g ∙ last (not (parts_pair d.tokens from)))
         where
           last : (a : Bool) → (a && false) ≡ false
@@ -112,12 +114,12 @@ module _ (s : Schema) (d : Doc) (from to : ℕ) (sl : Slice) (slice : is_slice s
           last false = refl
 
       module _ (p : parts_pair d.tokens from ≡ false) (q : parts_pair d.tokens to ≡ false) where
-        pub to-joins : outcome s (Replace from to sl false) d ≡ spliced_outcome s d (spliced d.tokens from to sl)
+        pub to-joins : made s (Replace from to sl false) d ≡ spliced_outcome s d (spliced d.tokens from to sl)
         to-joins =
             let e : parts_no_pair d.tokens (from ∷ to ∷ []) ≡ true = and_from (not (parts_pair d.tokens from)) (not (parts_pair d.tokens to) && true) (ap not p) (and_from (not (parts_pair d.tokens to)) true (ap not q) refl) in
             to-pairs ∙ passes (parts_no_pair d.tokens (from ∷ to ∷ [])) Pair _ e
 
-        pub then-checked : joins (compatible s) [] (spliced d.tokens from to sl) ≡ true → outcome s (Replace from to sl false) d ≡ checked s (with_tokens d (plain (spliced d.tokens from to sl)))
+        pub then-checked : joins (compatible s) [] (spliced d.tokens from to sl) ≡ true → made s (Replace from to sl false) d ≡ checked s (with_tokens d (plain (spliced d.tokens from to sl)))
         then-checked g = to-joins ∙ passes (joins (compatible s) [] (spliced d.tokens from to sl)) Join _ g
 
 -- the depths fit, by what the code reads of them
@@ -150,7 +152,7 @@ module _ (s : Schema) (d : Doc) (piece : List Owned) where
 -- the outcome, where the tests before the join are passed
 pub joined-answers : (s : Schema) (d : Doc) (from to : ℕ) (sl : Slice) (r : Result Doc (Failed Reason)) → is_slice sl ≡ true → from ≤ to → to ≤ length d.tokens
     → depths_fit d.tokens from to sl ≡ true → parts_pair d.tokens from ≡ false → parts_pair d.tokens to ≡ false
-    → Answers (spliced_outcome s d (spliced d.tokens from to sl)) r → Answers (outcome s (Replace from to sl false) d) r
+    → Answers (spliced_outcome s d (spliced d.tokens from to sl)) r → Answers (made s (Replace from to sl false) d) r
 joined-answers s d from to sl r w h i f p q a = subst (λ z. Answers z r) (sym (to-joins s d from to sl w h i f p q)) a
 
 -- the size of what a splice gives
@@ -170,3 +172,18 @@ spliced-changed s ts made from to new_to sl b w h i e is n =
       ends = omega (arith, n, slice-length sl (slice-is sl w));
       is = is ∙ spliced-plain (compatible s) ts from to sl (balanced-whole b) (slice-is sl w) h i d.0 d.1;
     }
+
+-- ---- what the schema knows
+
+module _ (s : Schema) (c : Step) (d : Doc) where
+  -- the outcome is a document where the schema knows the step, and what is made is this document
+  pub known-answers : (next : Doc) → knows_step s c ≡ true → made s c d ≡ Ok next → outcome s c d ≡ Ok next
+  known-answers next k h = rw (h, k) refl
+
+  pub unknown-answers : (next : Doc) → knows_step s c ≡ false → made s c d ≡ Ok next → outcome s c d ≡ Err NotInSchema
+  unknown-answers next k h = rw (h, k) refl
+
+  -- a reason why nothing is made is the outcome's
+  pub failed-answers : (e : Failed Reason) → Answers (made s c d) (Err e) → Answers (outcome s c d) (Err e)
+  failed-answers (failed.Reason r) h = ap (and_unless (knows_step s c) NotInSchema) h
+  failed-answers failed.NoMemory h = tt

@@ -2,12 +2,15 @@
 #![tactic(auto)]
 
 mod checking;
+mod known;
 pub mod laws;
 mod refusing;
 mod replacing;
 mod splicing;
+mod values;
 
 pub use checking::{checked, checked_change, checked_content};
+pub use known::{knows_mark, knows_slice};
 pub use pm_meaning::Reason;
 pub use refusing::failed;
 pub use replacing::{replace, splice_valid};

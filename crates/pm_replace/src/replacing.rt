@@ -5,12 +5,13 @@ ghost use Rattle.pm_tokens.specs.Slices.{spliced, depths_fit};
 ghost use Rattle.pm_tokens.specs.Faults.{Valid};
 ghost use Rattle.pm_change.specs.Failing.{Answers};
 ghost use Rattle.pm_meaning.specs.Steps.{Replace};
-ghost use Rattle.pm_meaning.specs.Outcomes.{outcome};
+ghost use Rattle.pm_meaning.specs.Outcomes.{made, outcome};
 ghost use Rattle.pm_node.specs.Documents.{doc_with};
 ghost use Rattle.pm_schema.specs.Documents.{documents_of};
 ghost use Rattle.pm_replace.specs.Splices.{spliced_outcome, Made};
 
 use crate::checking::checked_change;
+use crate::known::knows_slice;
 use crate::refusing::failed;
 use crate::splicing::{join, splice};
 use pm_build::{depth_at, parts_pair};
@@ -25,7 +26,8 @@ use std::alloc::Global;
 /// joined node keeps the left type, attributes and marks. The reasons come in this order. Range: not
 /// from <= to <= size. Depth: the open sides don't fit the depths of from and to. Pair: from or to parts a surrogate pair.
 /// Join: an open node meets a close whose owner's type isn't compatible with its own. Large, Deep and Content: the result
-/// has too many tokens, nests too deep, or has a fault, of which the least place is named.
+/// has too many tokens, nests too deep, or has a fault, of which the least place is named. NotInSchema: a node that is open at
+/// the slice's start has a type, attributes or marks that are none of the schema.
 pub fn replace(
     alloc: Global,
     schema: &Schema,
@@ -39,7 +41,7 @@ pub fn replace(
 {
     let top = doc.top();
     let content = doc.content();
-    replace_in(
+    let next = replace_in(
         alloc,
         schema,
         top,
@@ -47,10 +49,16 @@ pub fn replace(
         from as usize,
         to as usize,
         slice,
-    )
+    )?;
+    let known = knows_slice(alloc, schema, slice)?;
+    if !known {
+        return Err(Failed::Reason(Reason::NotInSchema));
+    }
+    Ok(next)
 }
 
-/// The document with the top node's type, attributes and marks and this content, with the range from..to replaced.
+/// The document with the top node's type, attributes and marks and this content, with the range from..to replaced, or the first
+/// reason of those that look at the document.
 fn replace_in(
     alloc: Global,
     schema: &Schema,
@@ -61,7 +69,7 @@ fn replace_in(
     slice: &Slice,
 ) -> Result<Document, Failed<Reason>>
     requires { Valid (documents_of schema.now.spec) (doc_with top.now content.now) }
-    ensures { Answers (outcome (documents_of schema.now.spec) (Replace from to slice.now false) (doc_with top.now content.now)) result }
+    ensures { Answers (made (documents_of schema.now.spec) (Replace from to slice.now false) (doc_with top.now content.now)) result }
 {
     let size = content.size();
     let _ = slice.size();

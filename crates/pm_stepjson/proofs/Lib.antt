@@ -6,3 +6,8 @@ pub mod ReadSteps
 pub mod StepLevels
 pub mod StepOrder
 pub mod SameSpecs
+pub mod Depths
+pub mod SlicesWritten
+pub mod Applied
+pub mod StepsBack
+pub mod KnownSteps

@@ -1,7 +1,7 @@
 -- What can be written and is read again.
 use Rattle.std.specs.Prelude.{◌≡◌, ℕ, ◌<◌, ◌≤◌, ◌^◌, true}
 use Rattle.pm_tokens.specs.Scan.{is_whole, deepest}
-use Rattle.pm_tokens.specs.Slices.{Slice}
+use Rattle.pm_tokens.specs.Slices.{Slice, is_slice}
 use Rattle.pm_schema.specs.declared.spec.SchemaSpec.{SchemaSpec}
 use Rattle.pm_docjson.specs.Writable.{mark_fits, AreWritable}
 use Rattle.pm_meaning.specs.Steps.{Step, Replace, ReplaceAround, AddMark, RemoveMark, AddNodeMark, RemoveNodeMark}
@@ -14,6 +14,15 @@ CanBeWritten s (AddMark from to mark) = mark_fits s mark ≡ true
 CanBeWritten s (RemoveMark from to mark) = mark_fits s mark ≡ true
 CanBeWritten s (AddNodeMark pos mark) = mark_fits s mark ≡ true
 CanBeWritten s (RemoveNodeMark pos mark) = mark_fits s mark ≡ true
+
+-- the step's slice is one, as that of every step of the code is
+abbrev pub HasSlice : Step → Type 0
+HasSlice (Replace from to sl structure) = is_slice sl ≡ true
+HasSlice (ReplaceAround from to gap_from gap_to sl insert structure) = is_slice sl ≡ true
+HasSlice (AddMark from to mark) = Unit {0}
+HasSlice (RemoveMark from to mark) = Unit {0}
+HasSlice (AddNodeMark pos mark) = Unit {0}
+HasSlice (RemoveNodeMark pos mark) = Unit {0}
 
 -- a number that is read
 abbrev pub IsCount : ℕ → Type 0
@@ -41,3 +50,10 @@ NestsWithin n (AddMark from to mark) = Unit {0}
 NestsWithin n (RemoveMark from to mark) = Unit {0}
 NestsWithin n (AddNodeMark pos mark) = Unit {0}
 NestsWithin n (RemoveNodeMark pos mark) = Unit {0}
+
+-- The step can be stored as text: it can be written, its numbers are ones that are read, and its slice nests no deeper than a
+-- document, so that the text is read as the JSON value and the value as this step.
+pub record IsStorable (s : SchemaSpec) (step : Step) : Type 0 where
+  pub written : CanBeWritten s step
+  pub counts : HasCounts step
+  pub nested : NestsWithin 48 step

@@ -1,6 +1,6 @@
 //! Parts of documents that are cut out, and contents that are opened.
 use crate::rows::answers;
-use pm_node::{Body, Document, Fragment};
+use pm_node::{Document, Fragment};
 use pm_schema::Schema;
 use pm_slice::{Slice, clip, cut, cut_content};
 use pm_step::{ReplaceStep, Step};
@@ -22,9 +22,7 @@ pub(crate) fn sliced(
     if asked == "cut" {
         return cut_out(alloc, schema, before, first, second);
     }
-    let Body::Children(content) = &before.top().body else {
-        return Err(Fail::new("no content"));
-    };
+    let content = before.content();
     if asked == "open" {
         return opened(alloc, schema, content.copy(alloc)?, first, second);
     }

@@ -3,7 +3,8 @@ use Rattle.pm_schema.specs.Documents.{documents_of}
 use Rattle.pm_node.specs.Documents.{doc_with}
 use Rattle.pm_apply.specs.declared.runs.Place.TheVariants.{Range}
 use Rattle.pm_apply.specs.Walks.{place_step}
-use Rattle.pm_step.specs.Steps.{opposite}
+use Rattle.pm_step.specs.Steps.{opposite, range_step}
+use Rattle.pm_meaning.proofs.OutcomeLaws.{made-ok}
 use Rattle.pm_apply.proofs.KnownLaws.{top-known, all-known}
 use Rattle.pm_apply.proofs.RestoredWalk.{are_back}
 use Rattle.pm_apply.proofs.BackLaws.{back-by-one, by-runs, place-range}
@@ -35,7 +36,7 @@ returns-then-kept c =
     ∙ (ap (λ z. z ++ place_step (Range c.args.step.now.from c.args.step.now.to) c.in_ok-back.back ∷ []) c.new-steps.ensures.items
     ∙ (ap (λ z. place_step (Range c.args.step.now.from c.args.step.now.to) z ∷ []) c.in_ok-back.ensures
     ∙ (ap (λ z. z ∷ []) (place-range (opposite m) c.args.step.now.from c.args.step.now.to)
-    ∙ back-by-one s m c.args.step.now.from c.args.step.now.to d c.requires.good r.order r.within r.start r.end
+    ∙ back-by-one s m c.args.step.now.from c.args.step.now.to d c.requires.good r.order r.within (made-ok s (range_step m c.args.step.now.from c.args.step.now.to) d c.requires.applies.0 c.requires.applies.1).0 r.start r.end
     (ap (λ z. are_back s m z (d.kind ∷ []) c.args.step.now.from c.args.step.now.to d.tokens) (sym c.in_ok-back.ensures) ∙ (sym (c.in_ok-kept.ensures []) ∙ c.if-kept.true)))))
 
 pub returns : goal.returns
@@ -44,7 +45,7 @@ returns c =
     let d = doc_with c.args.top.now c.args.content.now in
     let m = c.args.step.now.marking in
     let r = range-is s m c.args.step.now.from c.args.step.now.to d c.requires.applies.0 c.requires.applies.1 in
-    by-runs s m c.args.step.now.from c.args.step.now.to d c.requires.good r.order r.within r.start r.end
+    by-runs s m c.args.step.now.from c.args.step.now.to d c.requires.good r.order r.within (made-ok s (range_step m c.args.step.now.from c.args.step.now.to) d c.requires.applies.0 c.requires.applies.1).0 r.start r.end
     (ap (λ z. are_back s m z (d.kind ∷ []) c.args.step.now.from c.args.step.now.to d.tokens) (sym c.in_ok-back.ensures) ∙ (sym (c.in_ok-kept.ensures []) ∙ c.if-kept.false))
     c.new-runs.result c.take_content.new.self c.close.new.self c.size-size.result
     c.new-runs.ensures.steps c.new-runs.ensures.run (c.in_ok-take_content.ensures []) c.in_ok-close.ensures.steps c.size-size.ensures.size

@@ -10,6 +10,8 @@ use Rattle.pm_apply.specs.declared.runs.Place.TheVariants.{Node}
 use Rattle.pm_apply.specs.Walks.{place_step, given_back}
 use Rattle.pm_apply.specs.Markings.{changed}
 use Rattle.pm_apply.specs.Backs.{back_step}
+use Rattle.pm_step.specs.Steps.{node_step}
+use Rattle.pm_meaning.proofs.OutcomeLaws.{made-ok}
 use Rattle.pm_apply.proofs.BackLaws.{place-node}
 use Rattle.pm_apply.proofs.NodeBackLaws.{node-by-one, node-by-marks}
 use Rattle.pm_apply.proofs.InverseLaws.{node-is}
@@ -33,7 +35,7 @@ returns-then-same c =
     c.in_ok-push_step.ensures
     ∙ (ap (λ z. z ++ place_step (Node c.args.step.now.pos) b ∷ []) c.new-steps.ensures.items
     ∙ (ap (λ z. z ∷ []) (place-node b c.args.step.now.pos)
-    ∙ node-by-one s m b c.args.step.now.pos d old c.requires.good r.within r.whole there
+    ∙ node-by-one s m b c.args.step.now.pos d old c.requires.good r.within r.whole there (made-ok s (node_step m c.args.step.now.pos) d c.requires.applies.0 c.requires.applies.1).0
     (c.in_ok-back.ensures c.args.step.now.pos ∙ ap (λ z. back_step m c.args.step.now.pos old z) c.in_ok-new.ensures)
     (ap (λ z. same_marks same_attrs z old) (sym (c.in_ok-restored.ensures ∙ ap (changed s b) c.in_ok-new.ensures)) ∙ (sym c.same-same.ensures.same ∙ c.if-same.true))))
 
@@ -49,6 +51,6 @@ returns c =
     c.in_ok-give_back.ensures
     ∙ (ap (λ z. z ++ given_back (Node c.args.step.now.pos) old c.in_ok-new.new) c.new-steps.ensures.items
     ∙ (ap (λ z. node_steps c.args.step.now.pos old z) c.in_ok-new.ensures
-    ∙ node-by-marks s m b c.args.step.now.pos d old c.requires.good r.within r.whole there
+    ∙ node-by-marks s m b c.args.step.now.pos d old c.requires.good r.within r.whole there (made-ok s (node_step m c.args.step.now.pos) d c.requires.applies.0 c.requires.applies.1).0
     (c.in_ok-back.ensures c.args.step.now.pos ∙ ap (λ z. back_step m c.args.step.now.pos old z) c.in_ok-new.ensures)
     (ap (λ z. same_marks same_attrs z old) (sym (c.in_ok-restored.ensures ∙ ap (changed s b) c.in_ok-new.ensures)) ∙ (sym c.same-same.ensures.same ∙ c.if-same.false))))

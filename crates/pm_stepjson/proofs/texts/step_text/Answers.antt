@@ -5,6 +5,7 @@ use Rattle.pm_stepjson.specs.Writing.{step_written}
 use Rattle.pm_stepjson.proofs.NoFloat.{step-whole}
 use Rattle.pm_stepjson.proofs.StepLevels.{step-deep}
 use Rattle.pm_stepjson.proofs.StepOrder.{step-ordered}
+use Rattle.pm_stepjson.proofs.StepsBack.{step-back}
 use Rattle.pm_stepjson.proofs.texts.step_text.Goals as goal
 
 pub returns-clause-text : goal.returns-clause-text
@@ -36,3 +37,11 @@ returns-clause-ordered c = step-ordered c.args.schema.now.spec (step_of c.args.s
 
 pub returns-in_err-value-clause-ordered : goal.returns-in_err-value-clause-ordered
 returns-in_err-value-clause-ordered c = step-ordered c.args.schema.now.spec (step_of c.args.step.now)
+
+pub returns-clause-back : goal.returns-clause-back
+returns-clause-back c =
+    let s = c.args.schema.now.spec in
+    let st = step_of c.args.step.now in
+    step-back s st (view c.in_ok-value.value) c.to_string.result c.in_ok-value.ensures.written
+    (text-reads (view c.in_ok-value.value) (step_written s st) c.to_string.result c.in_ok-value.ensures.written c.to_string.ensures.reads_back)
+    c.in_ok-value.ensures.again
