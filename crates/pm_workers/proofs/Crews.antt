@@ -3,6 +3,7 @@ use Rattle.std.specs.List.{AllByRecursion as Each}
 use Rattle.std.specs.Prelude.{◌&&◌}
 use Rattle.std.proofs.Common.{◌≡◌, ℕ, ◌+◌, ◌<◌, Bool, true, false, cond, List, [], ◌∷◌, ◌++◌, length, map, slice_get, Some, All, Result, refl, sym, ap, ◌∙◌, subst, eq-eqb}
 use Rattle.pm_change.specs.Changes.{Meaning}
+use Rattle.pm_change.specs.declared.no_step.NoStep.{NoStep}
 use Rattle.pm_authority.specs.declared.authority.Authority.{Authority}
 use Rattle.pm_authority.specs.declared.machine.Request.{Request}
 use Rattle.pm_desk.specs.declared.history.Past.{Past}
@@ -13,7 +14,6 @@ use Rattle.pm_session.specs.declared.line.Act.{Act}
 use Rattle.pm_session.specs.declared.line.Act.TheVariants.{Edit, Undo, Redo, Cursor, Submit, Ask, Present, Take, Push, Pull, Forge}
 use Rattle.pm_session.specs.declared.member.Member.{Member}
 use Rattle.pm_session.specs.declared.member.Member.TheVariants.{Editor, Raw}
-use Rattle.pm_session.specs.declared.maker.NoSteps.{NoSteps}
 use Rattle.pm_session.specs.declared.outcome.Outcome.{Outcome}
 use Rattle.pm_session.specs.Events.{State}
 use Rattle.pm_session.specs.Members.{name_of, is_raw, kinds_of}
@@ -26,7 +26,7 @@ use Rattle.pm_workers.specs.Worked.{Worked}
 use Rattle.pm_workers.proofs.MergeLaws.{map-get}
 use Rattle.pm_workers.proofs.Steps.{request, answers_to}
 use Rattle.pm_workers.proofs.Reordering.{done-more, own-are, suit-own}
-use Rattle.pm_workers.proofs.Threaded.{Threaded, threaded}
+use Rattle.pm_workers.proofs.Threading.{Threaded, threaded}
 use Rattle.pm_workers.proofs.OneThread.{one-thread}
 use Rattle.pm_workers.proofs.Working.{answers-longer}
 
@@ -88,7 +88,7 @@ member-suits s lines h i (Editor c) at named =
     (editor-suits (kinds_of s.members) i h.earlier (own_lines i lines) (length c.messages) (length c.answers) (map-get is_raw s.members i (Editor c) at) n.0 n.1 (own-are i lines)
     (suit-own (kinds_of s.members) h.earlier lines h.suit i))
 
-module _ {Rules Doc Reason C : Type 0} (m : Meaning Rules Doc Reason C) {Op : Type 0} (makes : Doc → Op → Result (List C) NoSteps) (d : DeskValue (Authority C Rules Doc Reason) Rules) where
+module _ {Rules Doc Reason C : Type 0} (m : Meaning Rules Doc Reason C) {Op : Type 0} (makes : Doc → Op → Result (List C) NoStep) (d : DeskValue (Authority C Rules Doc Reason) Rules) where
   -- What a client did at a seat that had seen nothing: its calls are those of its lines, and the outcomes and the member after
   -- them are those that its lines come to, where they get the answers of the whole history.
   pub record Did (lines : List (Line Op C)) (i : ℕ) (x : Member C Rules Doc Reason) (outcomes : List (Outcome C Rules Doc Reason)) (y : Member C Rules Doc Reason) (log : List (Past (Request C))) : Type 0 where

@@ -4,13 +4,13 @@ use Rattle.std.proofs.Common.{◌≡◌, ◌≢◌, ◌⊎◌, inl, inr, ℕ, ze
 use mathlib.Core.Logic.{dite}
 use native.Mathlib.Decide.{ℕ_discrete}
 use Rattle.pm_change.specs.Changes.{Meaning}
+use Rattle.pm_change.specs.declared.no_step.NoStep.{NoStep}
 use Rattle.pm_authority.specs.declared.authority.Authority.{Authority}
 use Rattle.pm_authority.specs.declared.machine.Request.{Request}
 use Rattle.pm_desk.specs.declared.history.Past.{Past}
 use Rattle.pm_desk.specs.Histories.{state_at, calls_of}
 use Rattle.pm_session.specs.declared.line.Line.{Line}
 use Rattle.pm_session.specs.declared.member.Member.{Member}
-use Rattle.pm_session.specs.declared.maker.NoSteps.{NoSteps}
 use Rattle.pm_session.specs.Events.{State, placed}
 use Rattle.pm_session.specs.Sessions.{session}
 use Rattle.pm_session.proofs.SoundLaws.{get-set, set-length}
@@ -42,7 +42,7 @@ module _ {Op C A : Type 0} (i : ℕ) (line : Line Op C) (lines : List (Line Op C
   pub outcomes-there : line.client ≢ i → own_outcomes i (line ∷ lines) (o ∷ outcomes) ≡ own_outcomes i lines outcomes
   outcomes-there ne = ap (λ b. cond b (o ∷ own_outcomes i lines outcomes) (own_outcomes i lines outcomes)) (ne_eqb line.client i ne)
 
-module _ {Rules Doc Reason C Op : Type 0} (m : Meaning Rules Doc Reason C) (rules : Rules) (makes : Doc → Op → Result (List C) NoSteps) where
+module _ {Rules Doc Reason C Op : Type 0} (m : Meaning Rules Doc Reason C) (rules : Rules) (makes : Doc → Op → Result (List C) NoStep) where
   -- Lines of a room make the calls of this history: those that present are the calls' clients', and the calls of each client
   -- are those that its own lines make where they get the history's answers.
   pub record Calls (s : State C Rules Doc Reason) (lines : List (Line Op C)) (h : List (Past (Request C))) : Type 0 where

@@ -7,7 +7,7 @@ pub mod Reordering
 pub mod Telling
 pub mod Dealing
 pub mod Filing
-pub mod Threaded
+pub mod Threading
 pub mod OneThread
 pub mod Loops
 pub mod Seatings
@@ -17,3 +17,8 @@ pub mod Suitings
 pub mod Crews
 pub mod Unused
 pub mod Handing
+pub mod Zipped
+pub mod Closing
+pub mod Readying
+pub mod Playing
+pub mod Gathering

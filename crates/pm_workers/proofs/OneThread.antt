@@ -3,12 +3,12 @@ use Rattle.std.specs.List.{AllByRecursion as Each}
 use Rattle.std.proofs.Common.{◌≡◌, ℕ, suc, ◌<◌, List, [], ◌∷◌, length, map, slice_get, Some, Result, refl, sym, ap, ap₂, ◌∙◌, subst}
 use Rattle.std.proofs.lemmas.Option.{slice_get_within, get_or_from_slice_get}
 use Rattle.pm_change.specs.Changes.{Meaning}
+use Rattle.pm_change.specs.declared.no_step.NoStep.{NoStep}
 use Rattle.pm_authority.specs.declared.machine.Request.{Request}
 use Rattle.pm_desk.specs.declared.history.Past.{Past}
 use Rattle.pm_desk.specs.Histories.{state_at}
 use Rattle.pm_session.specs.declared.line.Line.{Line}
 use Rattle.pm_session.specs.declared.member.Member.{Member}
-use Rattle.pm_session.specs.declared.maker.NoSteps.{NoSteps}
 use Rattle.pm_session.specs.declared.outcome.Outcome.{Outcome}
 use Rattle.pm_session.specs.Events.{State, played}
 use Rattle.pm_session.specs.Members.{is_raw, kinds_of}
@@ -18,9 +18,9 @@ use Rattle.pm_workers.proofs.MergeLaws.{length-map}
 use Rattle.pm_workers.proofs.Interleaved.{own_work, member-at}
 use Rattle.pm_workers.proofs.Filing.{suit-within}
 use Rattle.pm_workers.proofs.Dealing.{same-places, deals}
-use Rattle.pm_workers.proofs.Threaded.{Threaded}
+use Rattle.pm_workers.proofs.Threading.{Threaded}
 
-module _ {Rules Doc Reason C Op : Type 0} (m : Meaning Rules Doc Reason C) (rules : Rules) (makes : Doc → Op → Result (List C) NoSteps) where
+module _ {Rules Doc Reason C Op : Type 0} (m : Meaning Rules Doc Reason C) (rules : Rules) (makes : Doc → Op → Result (List C) NoStep) where
   -- an outcome for each line
   outcome-count : (s : State C Rules Doc Reason) (lines : List (Line Op C)) → length (session m rules makes s lines).0 ≡ length lines
   outcome-count s [] = refl

@@ -2,6 +2,7 @@
 use Rattle.std.proofs.Common.{◌≡◌, ◌≢◌, ℕ, true, false, cond, List, [], ◌∷◌, map, Option, None, Some, slice_get, Result, refl, sym, ap, ◌∙◌, subst, eq-eqb, ne_eqb}
 use Rattle.std.specs.Prelude.{is_some}
 use Rattle.pm_change.specs.Changes.{Meaning}
+use Rattle.pm_change.specs.declared.no_step.NoStep.{NoStep}
 use Rattle.pm_authority.specs.declared.authority.Authority.{Authority}
 use Rattle.pm_authority.specs.declared.machine.Request.{Request}
 use Rattle.pm_authority.specs.declared.message.Message.{Message}
@@ -10,7 +11,6 @@ use Rattle.pm_desk.specs.declared.history.Past.{Past}
 use Rattle.pm_desk.specs.Histories.{state_at, calls_of}
 use Rattle.pm_session.specs.declared.line.Line.{Line}
 use Rattle.pm_session.specs.declared.member.Member.{Member}
-use Rattle.pm_session.specs.declared.maker.NoSteps.{NoSteps}
 use Rattle.pm_session.specs.declared.outcome.Outcome.{Outcome}
 use Rattle.pm_session.specs.Events.{State, placed, by_some, by_answer, asked, finished, acted, played}
 use Rattle.pm_workers.specs.Threads.{presents, after_request, reply_to}
@@ -49,7 +49,7 @@ module _ {Rules Doc Reason C : Type 0} (m : Meaning Rules Doc Reason C) (rules :
   abbrev pub answers_to : ℕ → Authority C Rules Doc Reason → List (Past (Request C)) → List (Answer C Rules Doc Reason)
   answers_to i a h = answers_of (after_request m) (reply_to m) rules i a h
 
-module _ {Rules Doc Reason C Op : Type 0} (m : Meaning Rules Doc Reason C) (rules : Rules) (makes : Doc → Op → Result (List C) NoSteps) where
+module _ {Rules Doc Reason C Op : Type 0} (m : Meaning Rules Doc Reason C) (rules : Rules) (makes : Doc → Op → Result (List C) NoStep) where
   -- Along these lines the act tells whether a message is presented.
   abbrev pub Tells : List (Line Op C) → Member C Rules Doc Reason → List (Answer C Rules Doc Reason) → Type 0
   Tells [] x answers = Unit {0}

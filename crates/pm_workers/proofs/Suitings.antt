@@ -2,9 +2,13 @@
 use Rattle.std.proofs.Common.{◌≡◌, ℕ, ℤ, zero, suc, ◌+◌, ◌-◌, ◌<◌, Bool, true, false, List, [], ◌∷◌, length, cond, slice_get, Option, None, Some, Result, Ok, Err, refl, sym, ap, ◌∙◌, subst, arith, length-append}
 use Rattle.std.specs.Prelude.{nat_lt, if◌then◌else◌}
 use Rattle.pm_change.specs.Changes.{Meaning}
+use Rattle.pm_change.specs.declared.no_step.NoStep.{NoStep}
+use Rattle.pm_change.specs.declared.no_step.NoStep.TheVariants.{Range}
 use Rattle.pm_authority.specs.declared.message.Message.{Message}
 use Rattle.pm_authority.specs.declared.message.Answer.{Answer}
 use Rattle.pm_authority.specs.declared.running.Refusal.{Refusal}
+use Rattle.pm_history.specs.declared.direction.Direction.{Direction}
+use Rattle.pm_history.specs.declared.direction.Direction.TheVariants as direction
 use Rattle.pm_client.specs.declared.client.Client.{Client}
 use Rattle.pm_client.specs.declared.taken.Kind.{Kind}
 use Rattle.pm_client.specs.declared.taken.Kind.TheVariants.{Submit as Submission, Ask as Asking}
@@ -14,10 +18,8 @@ use Rattle.pm_session.specs.declared.line.Act.{Act}
 use Rattle.pm_session.specs.declared.line.Act.TheVariants.{Edit, Undo, Redo, Cursor, Submit, Ask, Present, Take, Push, Pull, Forge}
 use Rattle.pm_session.specs.declared.member.Member.{Member}
 use Rattle.pm_session.specs.declared.member.Member.TheVariants.{Editor, Raw}
-use Rattle.pm_session.specs.declared.maker.NoSteps.{NoSteps}
-use Rattle.pm_session.specs.declared.maker.NoSteps.TheVariants.{Range, NotThere, NoFit as FitsNowhere, NoMemory}
 use Rattle.pm_session.specs.declared.outcome.Outcome.{Outcome}
-use Rattle.pm_session.specs.declared.outcome.Outcome.TheVariants.{NoRange, CursorAt}
+use Rattle.pm_session.specs.declared.outcome.Outcome.TheVariants.{NoStep as NoneMade, CursorAt}
 use Rattle.pm_session.specs.Events.{asked, finished, made, turns, sets, edits, ends}
 use Rattle.pm_session.specs.Hosts.{ActsBy, Acts}
 use Rattle.pm_session.specs.Members.{name_of, is_raw}
@@ -67,26 +69,23 @@ module _ {Rules Doc Reason C : Type 0} where
   }
 
 module _ {Rules Doc Reason C : Type 0} (m : Meaning Rules Doc Reason C) (rules : Rules) (c : Client C Rules Doc Reason) where
-  edits-counted : (event : Option ℕ) (r : Result (List C) NoSteps) → Counted false false (Editor c) (Editor (edits m rules c event r).1)
-  edits-counted event (Err Range) = counted-same (Editor c)
-  edits-counted event (Err NotThere) = counted-same (Editor c)
-  edits-counted event (Err FitsNowhere) = counted-same (Editor c)
-  edits-counted event (Err NoMemory) = counted-same (Editor c)
+  edits-counted : (event : Option ℕ) (r : Result (List C) NoStep) → Counted false false (Editor c) (Editor (edits m rules c event r).1)
+  edits-counted event (Err reason) = counted-same (Editor c)
   edits-counted event (Ok steps) = from (edited m rules c steps event) refl
     where
       from : (r : Result (Client C Rules Doc Reason) (Refusal Reason)) → edited m rules c steps event ≡ r → Counted false false (Editor c) (Editor (made c steps r).1)
       from (Ok next) e = counted-box c next (edited-keeps m rules c steps event next e)
       from (Err r) e = counted-same (Editor c)
 
-  turns-counted : (redo : Bool) (o : Option _) → Counted false false (Editor c) (Editor (turns c (last_turned m rules c redo o)).1)
-  turns-counted redo None = counted-same (Editor c)
-  turns-counted redo (Some event) = counted-box c (event_turned m rules c redo event).1 (turned-keeps m rules c redo event)
+  turns-counted : (way : Direction) (o : Option _) → Counted false false (Editor c) (Editor (turns c (last_turned m rules c way o)).1)
+  turns-counted way None = counted-same (Editor c)
+  turns-counted way (Some event) = counted-box c (event_turned m rules c way event).1 (turned-keeps m rules c way event)
 
   sets-counted : (p : ℕ) (side : ℤ) → Counted false false (Editor c) (Editor (sets m c p side).1)
   sets-counted p side = from (nat_lt (m.size c.doc) p)
     where
       chosen : Bool → Outcome C Rules Doc Reason × Client C Rules Doc Reason
-      chosen b = if b then (NoRange, c) else (CursorAt p, cursor_set c p side)
+      chosen b = if b then (NoneMade Range, c) else (CursorAt p, cursor_set c p side)
 
       from : (b : Bool) → Counted false false (Editor c) (Editor (chosen b).1)
       from true = counted-same (Editor c)
@@ -98,13 +97,13 @@ module _ {Rules Doc Reason C : Type 0} (m : Meaning Rules Doc Reason C) (rules :
       let keeper = kept (composed c kind) answer in
       counted-then true true c keeper (taken m rules keeper answer).1 (counted-given c kind answer) (taken-keeps m rules keeper answer)
 
-module _ {Rules Doc Reason C : Type 0} (m : Meaning Rules Doc Reason C) (rules : Rules) {Op : Type 0} (makes : Doc → Op → Result (List C) NoSteps) where
+module _ {Rules Doc Reason C : Type 0} (m : Meaning Rules Doc Reason C) (rules : Rules) {Op : Type 0} (makes : Doc → Op → Result (List C) NoStep) where
   -- an act that suits and presents no message
   alone-counted : (x : Member C Rules Doc Reason) (act : Act Op C) → ActSuits x act → asked act x ≡ None
       → Counted (composes_one act) (gets_one act) x (finished m rules makes act x None).1
   alone-counted (Editor c) (Edit op event) suits none = edits-counted m rules c event (makes c.doc op)
-  alone-counted (Editor c) Undo suits none = turns-counted m rules c false _
-  alone-counted (Editor c) Redo suits none = turns-counted m rules c true _
+  alone-counted (Editor c) Undo suits none = turns-counted m rules c direction.Undo _
+  alone-counted (Editor c) Redo suits none = turns-counted m rules c direction.Redo _
   alone-counted (Editor c) (Cursor p side) suits none = sets-counted m rules c p side
   alone-counted (Editor c) Submit suits none = counted-composed c Submission
   alone-counted (Editor c) Ask suits none = counted-composed c Asking

@@ -4,9 +4,13 @@ use Rattle.std.specs.Prelude.{◌≡◌, ℕ, ℤ, zero, suc, ◌+◌, ◌-◌, 
 use Rattle.std.proofs.Common.{sym, ap, ◌∙◌, arith, length-append}
 use Rattle.std.proofs.lemmas.Bool.{eq-eqb}
 use Rattle.pm_change.specs.Changes.{Meaning}
+use Rattle.pm_change.specs.declared.no_step.NoStep.{NoStep}
+use Rattle.pm_change.specs.declared.no_step.NoStep.TheVariants.{Range}
 use Rattle.pm_authority.specs.declared.running.Refusal.{Refusal}
 use Rattle.pm_authority.specs.declared.message.Message.{Message}
 use Rattle.pm_authority.specs.declared.message.Answer.{Answer}
+use Rattle.pm_history.specs.declared.direction.Direction.{Direction}
+use Rattle.pm_history.specs.declared.direction.Direction.TheVariants as direction
 use Rattle.pm_client.specs.declared.client.Client.{Client}
 use Rattle.pm_client.specs.declared.taken.Kind.{Kind}
 use Rattle.pm_client.specs.declared.taken.Kind.TheVariants.{Submit as Submission, Ask as Asking}
@@ -16,10 +20,8 @@ use Rattle.pm_session.specs.declared.line.Act.{Act}
 use Rattle.pm_session.specs.declared.line.Act.TheVariants.{Edit, Undo, Redo, Cursor, Submit, Ask, Present, Take, Push, Pull, Forge}
 use Rattle.pm_session.specs.declared.member.Member.{Member}
 use Rattle.pm_session.specs.declared.member.Member.TheVariants.{Editor, Raw}
-use Rattle.pm_session.specs.declared.maker.NoSteps.{NoSteps}
-use Rattle.pm_session.specs.declared.maker.NoSteps.TheVariants.{Range, NotThere, NoFit as FitsNowhere, NoMemory}
 use Rattle.pm_session.specs.declared.outcome.Outcome.{Outcome}
-use Rattle.pm_session.specs.declared.outcome.Outcome.TheVariants.{NoRange, CursorAt}
+use Rattle.pm_session.specs.declared.outcome.Outcome.TheVariants.{NoStep as NoneMade, CursorAt}
 use Rattle.pm_session.specs.Events.{made, turns, edits, exchanges, asked, finished_by_editor, finished}
 use Rattle.pm_session.specs.Members.{is_raw}
 use Rattle.pm_session.specs.Suits.{composes_one, gets_one, is_forge, done_by, composed_by, answered_by, NamesOneOf, Suits, AllSuit}
@@ -45,23 +47,20 @@ module _ {Rules Doc Reason C : Type 0} (m : Meaning Rules Doc Reason C) (rules :
   no-more : More c 0 0 c
   no-more = as-many c (record { name = refl; messages = refl; answers = refl })
 
-  more-edits : (event : Option ℕ) (r : Result (List C) NoSteps) → More c 0 0 (edits m rules c event r).1
-  more-edits event (Err Range) = no-more
-  more-edits event (Err NotThere) = no-more
-  more-edits event (Err FitsNowhere) = no-more
-  more-edits event (Err NoMemory) = no-more
+  more-edits : (event : Option ℕ) (r : Result (List C) NoStep) → More c 0 0 (edits m rules c event r).1
+  more-edits event (Err reason) = no-more
   more-edits event (Ok steps) = from (edited m rules c steps event) refl
     where
       from : (r : Result (Client C Rules Doc Reason) (Refusal Reason)) → edited m rules c steps event ≡ r → More c 0 0 (made c steps r).1
       from (Ok next) e = as-many next (edited-keeps m rules c steps event next e)
       from (Err r) e = no-more
 
-  more-turns : (redo : Bool) (o : Option _) → More c 0 0 (turns c (last_turned m rules c redo o)).1
-  more-turns redo None = no-more
-  more-turns redo (Some event) = as-many (event_turned m rules c redo event).1 (turned-keeps m rules c redo event)
+  more-turns : (way : Direction) (o : Option _) → More c 0 0 (turns c (last_turned m rules c way o)).1
+  more-turns way None = no-more
+  more-turns way (Some event) = as-many (event_turned m rules c way event).1 (turned-keeps m rules c way event)
 
   abbrev chosen : ℕ → ℤ → Bool → Outcome C Rules Doc Reason × Client C Rules Doc Reason
-  chosen p side b = if b then (NoRange, c) else (CursorAt p, cursor_set c p side)
+  chosen p side b = if b then (NoneMade Range, c) else (CursorAt p, cursor_set c p side)
 
   more-sets : (p : ℕ) (side : ℤ) (b : Bool) → More c 0 0 (chosen p side b).1
   more-sets p side true = no-more
@@ -74,13 +73,13 @@ module _ {Rules Doc Reason C : Type 0} (m : Meaning Rules Doc Reason C) (rules :
       let k = taken-keeps m rules (kept (composed c kind) answer) answer in
       (ap length k.messages ∙ length-append c.messages (message_of c kind ∷ []), ap length k.answers ∙ length-append c.answers (answer ∷ []))
 
-  module _ {Op : Type 0} (makes : Doc → Op → Result (List C) NoSteps) where
+  module _ {Op : Type 0} (makes : Doc → Op → Result (List C) NoStep) where
     -- an act of an editor, where an answer came exactly if the act presents a message
     more-box : (act : Act Op C) (r : Option (Answer C Rules Doc Reason)) → is_forge act ≡ false → is_some r ≡ presents act
         → More c (cond (composes_one act) 1 0) (cond (gets_one act) 1 0) (finished_by_editor m rules makes act c r).1
     more-box (Edit op event) r h some = more-edits event (makes c.doc op)
-    more-box Undo r h some = more-turns false _
-    more-box Redo r h some = more-turns true _
+    more-box Undo r h some = more-turns direction.Undo _
+    more-box Redo r h some = more-turns direction.Redo _
     more-box (Cursor p side) r h some = more-sets p side (nat_lt (m.size c.doc) p)
     more-box Submit r h some = (length-append c.messages (message_of c Submission ∷ []), omega arith)
     more-box Ask r h some = (length-append c.messages (message_of c Asking ∷ []), omega arith)
@@ -105,7 +104,7 @@ module _ {Rules Doc Reason C : Type 0} (m : Meaning Rules Doc Reason C) (rules :
     tells-editor (Take j) n k h e named = refl
     tells-editor (Forge version steps) n k h e named = absurd (cc)
 
-module _ {Rules Doc Reason C Op : Type 0} (m : Meaning Rules Doc Reason C) (rules : Rules) (makes : Doc → Op → Result (List C) NoSteps) (raw : List Bool) (i : ℕ) where
+module _ {Rules Doc Reason C Op : Type 0} (m : Meaning Rules Doc Reason C) (rules : Rules) (makes : Doc → Op → Result (List C) NoStep) (raw : List Bool) (i : ℕ) where
   -- Member i is of its kind, and where it is an editor it has the messages and answers that it composed and got on these lines.
   pub record Keeps (earlier : List (Line Op C)) (x : Member C Rules Doc Reason) : Type 0 where
     pub kind : slice_get raw i ≡ Some (is_raw x)

@@ -1,10 +1,10 @@
 -- Seats that have seen nothing, and seats that were joined.
-use Rattle.std.proofs.Common.{◌≡◌, ℕ, zero, suc, ◌+◌, List, [], ◌∷◌, ◌++◌, map, All, refl, ap, ◌∙◌, arith}
+use Rattle.std.proofs.Common.{◌≡◌, ℕ, zero, suc, ◌+◌, ◌<◌, List, [], ◌∷◌, ◌++◌, length, map, slice_get, Some, All, refl, ap, ◌∙◌, subst, arith}
 use mathlib.Core.Option.{some}
 use lib.ListN.{get_elem?}
 use Rattle.pm_desk.specs.declared.history.Past.{Past}
 use Rattle.pm_desk.specs.declared.history.Joined.{Joined}
-use Rattle.pm_desk.specs.Desks.{DeskValue, SeatValue, first_seat}
+use Rattle.pm_desk.specs.Desks.{DeskValue, SeatValue, IsSeatOf, first_seat}
 use Rattle.pm_desk.specs.Histories.{calls_of, StartsWith}
 use Rattle.pm_workers.specs.Seatings.{unused_seats, as_joined, IsCovered}
 use Rattle.pm_workers.proofs.Loops.{all-elements}
@@ -43,3 +43,42 @@ module _ {M R Q : Type 0} where
   all-covered log js ss is h = all-elements (λ s. IsCovered log s) ss (λ k s at.
       let one = h k (as_joined s) (ap (λ l. get_elem? l k) is ∙ get-mapped ss k s at) in
       record { begins = one.0; calls = one.1 })
+
+  -- where each seat that was joined has one of the first numbers, each number that was joined is one of them
+  pub joined-within : (n : ℕ) (ss : List (SeatValue M R Q)) → All (λ s. s.number < n) ss → (j : ℕ) (x : Joined Q) → get_elem? (map as_joined ss) j ≡ some x → x.number < n
+  joined-within n [] h j x at = absurd (cc)
+  joined-within n (s ∷ ss) h zero x at = let e : as_joined s ≡ x = cc in subst (λ (y : Joined Q). y.number < n) e (h 0 s (omega arith))
+  joined-within n (s ∷ ss) h (suc j) x at = joined-within n ss (λ k d lt. h (suc k) d (omega (arith, lt))) j x at
+
+-- the first seat and so many others
+pub unused-count : {M R : Type 0} (Q : Type 0) (d : DeskValue M R) (n : ℕ) → length (record (first_seat {Q = Q} d) { splits = n } ∷ unused_seats {Q = Q} d 1 n) ≡ n + 1
+unused-count Q d n = let e : suc (length (unused_seats {Q = Q} d 1 n)) ≡ suc n = ap suc (count 1 n) in omega (arith, e)
+  where
+    count : (k n : ℕ) → length (unused_seats {Q = Q} d k n) ≡ n
+    count k zero = refl
+    count k (suc n) = ap suc (count (k + 1) n)
+
+pub one-of : {A : Type 0} (x y : A) → Some x ≡ Some y → x ≡ y
+one-of x y e = cc
+
+module _ {M R Q : Type 0} (d : DeskValue M R) where
+  -- a seat of the desk with this number, which has seen nothing and to which none is joined
+  pub record Fresh (i : ℕ) (s : SeatValue M R Q) : Type 0 where
+    pub seat : IsSeatOf d s
+    pub number : s.number ≡ i
+    pub seen : s.seen ≡ []
+    pub joined : s.joined ≡ []
+
+  unused-at : (k n i : ℕ) (s : SeatValue M R Q) → slice_get (unused_seats d k n) i ≡ Some s → Fresh (k + i) s
+  unused-at k zero i s h = absurd (cc)
+  unused-at k (suc n) zero s h =
+      let e : record (first_seat d) { number = k } ≡ s = one-of (record (first_seat d) { number = k }) s h in
+      let f : k ≡ k + zero = omega arith in
+      subst (λ t. Fresh (k + zero) t) e (record { seat = (refl, refl); number = f; seen = refl; joined = refl })
+  unused-at k (suc n) (suc i) s h = let e : (k + 1) + i ≡ k + suc i = omega arith in subst (λ j. Fresh j s) e (unused-at (k + 1) n i s h)
+
+  pub fresh-at : (n i : ℕ) (s : SeatValue M R Q) → slice_get (record (first_seat d) { splits = n } ∷ unused_seats d 1 n) i ≡ Some s → Fresh i s
+  fresh-at n zero s h =
+      let e : record (first_seat d) { splits = n } ≡ s = one-of (record (first_seat d) { splits = n }) s h in
+      subst (λ t. Fresh zero t) e (record { seat = (refl, refl); number = refl; seen = refl; joined = refl })
+  fresh-at n (suc i) s h = let e : 1 + i ≡ suc i = omega arith in subst (λ j. Fresh j s) e (unused-at 1 n i s h)

@@ -6,6 +6,7 @@ use Rattle.std.proofs.lemmas.List.{map-append, length-take-le}
 use mathlib.Core.Logic.{dite}
 use native.Mathlib.Decide.{ℕ_discrete}
 use Rattle.pm_change.specs.Changes.{Meaning}
+use Rattle.pm_change.specs.declared.no_step.NoStep.{NoStep}
 use Rattle.pm_authority.specs.declared.authority.Authority.{Authority}
 use Rattle.pm_authority.specs.declared.machine.Request.{Request}
 use Rattle.pm_authority.specs.declared.message.Message.{Message}
@@ -18,7 +19,6 @@ use Rattle.pm_desk.proofs.Histories.{calls_of-append, calls_of-own, starts_longe
 use Rattle.pm_session.specs.declared.line.Line.{Line}
 use Rattle.pm_session.specs.declared.line.Act.{Act}
 use Rattle.pm_session.specs.declared.member.Member.{Member}
-use Rattle.pm_session.specs.declared.maker.NoSteps.{NoSteps}
 use Rattle.pm_session.specs.declared.outcome.Outcome.{Outcome}
 use Rattle.pm_session.specs.Events.{asked, finished}
 use Rattle.pm_session.specs.Hosts.{ActsBy, Acts}
@@ -92,7 +92,7 @@ module _ {M R Q A : Type 0} (next : R → M → Q → M) (reply : R → M → Q 
     subst (λ l. StartsWith l s.seen) (sym (ap (λ u. u.seen) told.seen)) (starts_longer told.before s.seen (past s.number q ∷ []) told.begins),
   )
 
-module _ {Rules Doc Reason C : Type 0} (m : Meaning Rules Doc Reason C) (rules : Rules) {Op : Type 0} (makes : Doc → Op → Result (List C) NoSteps) where
+module _ {Rules Doc Reason C : Type 0} (m : Meaning Rules Doc Reason C) (rules : Rules) {Op : Type 0} (makes : Doc → Op → Result (List C) NoStep) where
   -- what the first line comes to, and then the others, where the line presents this message
   abbrev stepped : Option (Message C) → Line Op C → List (Line Op C) → Member C Rules Doc Reason → List (Answer C Rules Doc Reason) → Work C Rules Doc Reason
   stepped message line lines x answers =
@@ -132,7 +132,7 @@ module _ {Rules Doc Reason C : Type 0} (m : Meaning Rules Doc Reason C) (rules :
   works-each [] x answers = refl
   works-each (line ∷ lines) x answers = ap suc (works-each lines (finished m rules makes line.act x (answer_to (asked line.act x) answers)).1 (answers_after (asked line.act x) answers))
 
-module _ {Rules Doc Reason C : Type 0} (m : Meaning Rules Doc Reason C) {Op : Type 0} (makes : Doc → Op → Result (List C) NoSteps) (d : DeskValue (Authority C Rules Doc Reason) Rules)
+module _ {Rules Doc Reason C : Type 0} (m : Meaning Rules Doc Reason C) {Op : Type 0} (makes : Doc → Op → Result (List C) NoStep) (d : DeskValue (Authority C Rules Doc Reason) Rules)
     (x : Member C Rules Doc Reason) (s : SeatValue (Authority C Rules Doc Reason) Rules (Request C)) where
   abbrev now : Rules
   now = d.opening.rules
@@ -241,7 +241,7 @@ module _ {Rules Doc Reason C : Type 0} (m : Meaning Rules Doc Reason C) {Op : Ty
         seat = seat;
       }
 
-module _ {Rules Doc Reason C : Type 0} (m : Meaning Rules Doc Reason C) {Op : Type 0} (makes : Rules → Doc → Op → Result (List C) NoSteps) where
+module _ {Rules Doc Reason C : Type 0} (m : Meaning Rules Doc Reason C) {Op : Type 0} (makes : Rules → Doc → Op → Result (List C) NoStep) where
   -- an act at a host, told of what the host stands for
   acts-weaker : (rules : Rules) (same told : Type 0) (tells says : Message C → Answer C Rules Doc Reason → Type 0) → (same → told) → ((message : Message C) (answer : Answer C Rules Doc Reason) → tells message answer → says message answer)
       → (act : Act Op C) (x : Member C Rules Doc Reason) (o : Outcome C Rules Doc Reason) (next : Member C Rules Doc Reason)

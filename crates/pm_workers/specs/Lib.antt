@@ -5,3 +5,5 @@ pub mod Seats
 pub mod Suiting
 pub mod Worked
 pub mod Seatings
+pub mod Gathered
+pub mod Hired

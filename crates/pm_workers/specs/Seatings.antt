@@ -1,8 +1,8 @@
 -- The seats of one desk, one for each client.
-use Rattle.std.specs.Prelude.{◌≡◌, ℕ, zero, suc, ◌+◌, List, [], ◌∷◌}
+use Rattle.std.specs.Prelude.{◌≡◌, ℕ, zero, suc, ◌+◌, ◌<◌, List, [], ◌∷◌, length, slice_get, Some, All}
 use Rattle.pm_desk.specs.declared.history.Past.{Past}
 use Rattle.pm_desk.specs.declared.history.Joined.{Joined}
-use Rattle.pm_desk.specs.Desks.{DeskValue, SeatValue, first_seat}
+use Rattle.pm_desk.specs.Desks.{DeskValue, SeatValue, IsSeatOf, first_seat}
 use Rattle.pm_desk.specs.Histories.{calls_of, StartsWith}
 
 module _ {M R Q : Type 0} where
@@ -19,3 +19,11 @@ module _ {M R Q : Type 0} where
   pub record IsCovered (log : List (Past Q)) (s : SeatValue M R Q) : Type 0 where
     pub begins : StartsWith log s.seen
     pub calls : calls_of s.number log ≡ calls_of s.number s.seen
+
+  -- All seats of a desk that was split, each at the place of its number. None is joined yet.
+  pub record AreSeats (d : DeskValue M R) (ss : List (SeatValue M R Q)) : Type 0 where
+    pub some : 0 < length ss
+    pub of_desk : All (λ s. IsSeatOf d s) ss
+    pub numbered : (i : ℕ) (s : SeatValue M R Q) → slice_get ss i ≡ Some s → s.number ≡ i
+    pub splits : (s : SeatValue M R Q) → slice_get ss 0 ≡ Some s → s.splits + 1 ≡ length ss
+    pub none_joined : (s : SeatValue M R Q) → slice_get ss 0 ≡ Some s → s.joined ≡ []

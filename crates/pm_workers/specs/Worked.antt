@@ -1,6 +1,7 @@
 -- What a worker did by its lines.
 use Rattle.std.specs.Prelude.{◌≡◌, ◌≤◌, List, [], ◌++◌, length, map, take, Result}
 use Rattle.pm_change.specs.Changes.{Meaning}
+use Rattle.pm_change.specs.declared.no_step.NoStep.{NoStep}
 use Rattle.pm_authority.specs.declared.authority.Authority.{Authority}
 use Rattle.pm_authority.specs.declared.machine.Request.{Request}
 use Rattle.pm_authority.specs.declared.message.Answer.{Answer}
@@ -8,7 +9,6 @@ use Rattle.pm_desk.specs.Desks.{DeskValue, SeatValue}
 use Rattle.pm_desk.specs.Histories.{calls_of}
 use Rattle.pm_session.specs.declared.line.Line.{Line}
 use Rattle.pm_session.specs.declared.member.Member.{Member}
-use Rattle.pm_session.specs.declared.maker.NoSteps.{NoSteps}
 use Rattle.pm_session.specs.declared.outcome.Outcome.{Outcome}
 use Rattle.pm_session.specs.declared.line.Act.{Act}
 use Rattle.pm_session.specs.Hosts.{Acts}
@@ -19,7 +19,7 @@ use Rattle.pm_workers.specs.Suiting.{SuitMember}
 use Rattle.pm_workers.specs.Threads.{after_request, reply_to}
 use Rattle.pm_workers.specs.Works.{answers_of, works}
 
-module _ {Rules Doc Reason C : Type 0} (m : Meaning Rules Doc Reason C) {Op : Type 0} (makes : Doc → Op → Result (List C) NoSteps) (d : DeskValue (Authority C Rules Doc Reason) Rules) where
+module _ {Rules Doc Reason C : Type 0} (m : Meaning Rules Doc Reason C) {Op : Type 0} (makes : Doc → Op → Result (List C) NoStep) (d : DeskValue (Authority C Rules Doc Reason) Rules) where
   -- The member x played these lines at the seat s, which became t: the seat has seen more, and is else as it was. Of the calls
   -- that it has seen those that are new and the seat's own present the messages of the lines, one after another, and their
   -- answers in that history are those from which the outcomes and the member y are made.

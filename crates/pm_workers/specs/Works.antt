@@ -1,12 +1,12 @@
 -- What a worker does by its lines, and what a history tells of the calls that it made.
 use Rattle.std.specs.Prelude.{ℕ, List, [], ◌∷◌, cond, ◌==◌, Option, None, Some, Result}
 use Rattle.pm_change.specs.Changes.{Meaning}
+use Rattle.pm_change.specs.declared.no_step.NoStep.{NoStep}
 use Rattle.pm_authority.specs.declared.message.Message.{Message}
 use Rattle.pm_authority.specs.declared.message.Answer.{Answer}
 use Rattle.pm_desk.specs.declared.history.Past.{Past}
 use Rattle.pm_session.specs.declared.line.Line.{Line}
 use Rattle.pm_session.specs.declared.member.Member.{Member}
-use Rattle.pm_session.specs.declared.maker.NoSteps.{NoSteps}
 use Rattle.pm_session.specs.declared.outcome.Outcome.{Outcome}
 use Rattle.pm_session.specs.Events.{asked, finished}
 
@@ -42,7 +42,7 @@ module _ {Rules Doc Reason C : Type 0} where
   answers_after (Some message) [] = []
   answers_after (Some message) (answer ∷ answers) = answers
 
-module _ {Rules Doc Reason C : Type 0} (m : Meaning Rules Doc Reason C) (rules : Rules) {Op : Type 0} (makes : Doc → Op → Result (List C) NoSteps) where
+module _ {Rules Doc Reason C : Type 0} (m : Meaning Rules Doc Reason C) (rules : Rules) {Op : Type 0} (makes : Doc → Op → Result (List C) NoStep) where
   -- What a member does by these lines, where its messages get these answers one after another. It speaks of no authority:
   -- a line reads and writes its own member alone, and the answer that came.
   abbrev pub works : List (Line Op C) → Member C Rules Doc Reason → List (Answer C Rules Doc Reason) → Work C Rules Doc Reason

@@ -39,6 +39,8 @@ pub fn close_all<M: Machine>(desk: Desk<M>, mut first: Seat<M>, seats: Vec<Seat<
     ensures good { M.good result.rules result.machine }
     ensures first { IsCovered result.history.items first }
     ensures seats { All (λ s. IsCovered result.history.items s) seats.items }
+    // Each call was made at the first seat or at one that was joined to it.
+    ensures callers { (n : ℕ) → 0 < n → All (λ s. s.number < n) seats.items → All (λ past. past.seat < n) result.history.items }
 {
     for seat in seats {
         desk.join(&mut first, seat);

@@ -3,6 +3,7 @@ use Rattle.std.specs.List.{AllByRecursion as Each}
 use Rattle.std.proofs.Common.{◌≡◌, ℕ, suc, ◌<◌, Bool, true, false, cond, List, [], ◌∷◌, length, map, slice_get, Option, None, Some, All, Result, refl, sym, ap, ◌∙◌, subst, arith}
 use Rattle.std.specs.Prelude.{is_some}
 use Rattle.pm_change.specs.Changes.{Meaning}
+use Rattle.pm_change.specs.declared.no_step.NoStep.{NoStep}
 use Rattle.pm_authority.specs.declared.machine.Request.{Request}
 use Rattle.pm_authority.specs.declared.message.Message.{Message}
 use Rattle.pm_authority.specs.declared.message.Answer.{Answer}
@@ -10,7 +11,6 @@ use Rattle.pm_desk.specs.declared.history.Past.{Past}
 use Rattle.pm_desk.specs.Histories.{state_at, calls_of}
 use Rattle.pm_session.specs.declared.line.Line.{Line}
 use Rattle.pm_session.specs.declared.member.Member.{Member}
-use Rattle.pm_session.specs.declared.maker.NoSteps.{NoSteps}
 use Rattle.pm_session.specs.Events.{State, asked, finished}
 use Rattle.pm_session.specs.Members.{is_raw, kinds_of}
 use Rattle.pm_session.specs.Sessions.{session}
@@ -25,7 +25,7 @@ use Rattle.pm_workers.proofs.Reordering.{own-are, suit-own, suit-order}
 use Rattle.pm_workers.proofs.Telling.{tells}
 use Rattle.pm_workers.proofs.Filing.{answers-calls, own-ordered, callers-ordered, suit-within}
 
-module _ {Rules Doc Reason C Op : Type 0} (m : Meaning Rules Doc Reason C) (rules : Rules) (makes : Doc → Op → Result (List C) NoSteps) where
+module _ {Rules Doc Reason C Op : Type 0} (m : Meaning Rules Doc Reason C) (rules : Rules) (makes : Doc → Op → Result (List C) NoStep) where
   -- as many lines present a message as there are messages
   presenting-is : (lines : List (Line Op C)) (x : Member C Rules Doc Reason) (answers : List (Answer C Rules Doc Reason)) → Tells m rules makes lines x answers
       → length (works m rules makes lines x answers).messages ≡ presenting lines
