@@ -20,6 +20,7 @@ HELP = """usage: ./pm WORDS < SESSION      builds the program if it is missing o
 words
   check       write how many op lines the session has and how large its first document is
   replay      play the session with its lines in file order, and write its report
+  run         play the session with a thread for each client, and write the order of its lines and its report
 
 statuses
   0  done: the whole output was written

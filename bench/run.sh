@@ -168,3 +168,6 @@ node "$here/check.js" "$here/../crates/pm_program/out/pm_program" $((10 * tries)
 title "the word replay, milliseconds" "ours" "ProseMirror"
 node "$here/undos.js" "$here/../crates/pm_program/out/pm_program" 5000 1000 $tries
 for lines in 1000 10000 100000; do node "$here/typing.js" "$here/../crates/pm_program/out/pm_program" $lines; done
+
+title "the word run, seconds" "run" "replay"
+node "$here/threads.js" "$here/../crates/pm_program/out/pm_program" 32 3000 $tries

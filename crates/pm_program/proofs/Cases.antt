@@ -1,8 +1,8 @@
 -- The status of an answer is that of what the input is.
 use Rattle.std.proofs.Common.{◌≡◌, ℕ, List, length, inl, inr, refl, ap, ◌∙◌, sym}
 use Rattle.std.specs.Prelude.{◌⊎◌, codes, decimal, Option, Result, Ok, Err}
-use Rattle.pm_script.specs.declared.session.Session.{Session}
 use Rattle.pm_head.specs.declared.fault.Refusal.{Refusal}
+use Rattle.pm_script.specs.declared.session.Session.{Session}
 use Rattle.pm_script.specs.Sessions.{SessionIs}
 use Rattle.pm_script.specs.OneMeaning.{SameSession}
 use Rattle.pm_script.proofs.OneSession.{session-apart, one-refusal, one-session}
@@ -10,8 +10,8 @@ use Rattle.pm_report.specs.Words.{◌&◌, line}
 use Rattle.pm_program.specs.declared.call.Status.{Status}
 use Rattle.pm_program.specs.declared.call.Status.TheVariants.{Done, SessionRefused, Usage, ReadFault, WriteFault, NoMemory}
 use Rattle.pm_program.specs.declared.words.Command.{Command}
-use Rattle.pm_program.specs.declared.words.Command.TheVariants.{Check}
-use Rattle.pm_program.specs.Output.{refusal, counts_of, text_of, status_for, IsOutput, Answered, IsAnswer}
+use Rattle.pm_program.specs.declared.words.Command.TheVariants.{Check, Replay, Run}
+use Rattle.pm_program.specs.Output.{refusal, counts_of, IsTextOf, status_for, IsOutput, Answered, IsAnswer}
 use Rattle.pm_program.specs.Cases.{IsByCase, Tells}
 
 -- ---- the status
@@ -21,33 +21,33 @@ of-session command input text s is o = at o.found o.is o.says
   where
     at : (found : Result Session Refusal) → SessionIs input found → SessionRefused ≡ status_for found → ⊥
     at (Ok t) h e = absurd (cc)
-    at (Err refused) h e = session-apart input s refused is h
+    at (Err fault) h e = session-apart input s fault is h
 
-of-refused : (command : Command) (input text : List ℕ) (refused : Refusal) → SessionIs input (Err refused) → IsOutput command input text Done → ⊥
-of-refused command input text refused is o = at o.found o.is o.says
+of-refused : (command : Command) (input text : List ℕ) (fault : Refusal) → SessionIs input (Err fault) → IsOutput command input text Done → ⊥
+of-refused command input text fault is o = at o.found o.is o.says
   where
     at : (found : Result Session Refusal) → SessionIs input found → Done ≡ status_for found → ⊥
-    at (Ok s) h e = session-apart input s refused h is
+    at (Ok s) h e = session-apart input s fault h is
     at (Err other) h e = absurd (cc)
 
 -- what was written for the input tells what it is
 pub tells : (asked : Command) (input : List ℕ) (status : Status) (old new : Option (List ℕ)) → Answered asked input status old new → Tells input status
-tells asked input Done old new a = record { session = λ s is e. absurd (cc); refused = λ refused is e. of-refused asked input a.text refused is a.output }
-tells asked input SessionRefused old new a = record { session = λ s is e. of-session asked input a.text s is a.output; refused = λ refused is e. absurd (cc) }
+tells asked input Done old new a = record { session = λ s is e. absurd (cc); refused = λ fault is e. of-refused asked input a.text fault is a.output }
+tells asked input SessionRefused old new a = record { session = λ s is e. of-session asked input a.text s is a.output; refused = λ fault is e. absurd (cc) }
 tells asked input Usage old new a = absurd a
-tells asked input ReadFault old new a = record { session = λ s is e. absurd (cc); refused = λ refused is e. absurd (cc) }
-tells asked input WriteFault old new a = record { session = λ s is e. absurd (cc); refused = λ refused is e. absurd (cc) }
-tells asked input NoMemory old new a = record { session = λ s is e. absurd (cc); refused = λ refused is e. absurd (cc) }
+tells asked input ReadFault old new a = record { session = λ s is e. absurd (cc); refused = λ fault is e. absurd (cc) }
+tells asked input WriteFault old new a = record { session = λ s is e. absurd (cc); refused = λ fault is e. absurd (cc) }
+tells asked input NoMemory old new a = record { session = λ s is e. absurd (cc); refused = λ fault is e. absurd (cc) }
 
 -- an answer, or want of memory, is by case
 pub by-case : (asked : Command) (input : List ℕ) (status : Status) (old new : Option (List ℕ)) → Answered asked input status old new → IsAnswer status ⊎ (status ≡ NoMemory) → IsByCase input status
 by-case asked input status old new a (inl (inl e)) =
     let t = tells asked input status old new a in
-    record { session = λ s is. inl e; refused = λ refused is. absurd (t.refused refused is e) }
+    record { session = λ s is. inl e; refused = λ fault is. absurd (t.refused fault is e) }
 by-case asked input status old new a (inl (inr e)) =
     let t = tells asked input status old new a in
-    record { session = λ s is. absurd (t.session s is e); refused = λ refused is. inl e }
-by-case asked input status old new a (inr e) = record { session = λ s is. inr e; refused = λ refused is. inr e }
+    record { session = λ s is. absurd (t.session s is e); refused = λ fault is. inl e }
+by-case asked input status old new a (inr e) = record { session = λ s is. inr e; refused = λ fault is. inr e }
 
 -- ---- the text
 
@@ -60,25 +60,31 @@ one-status command input text other a b x y = x.says ∙ at x.found y.found x.is
   where
     at : (f g : Result Session Refusal) → SessionIs input f → SessionIs input g → status_for f ≡ status_for g
     at (Ok s) (Ok t) h k = refl
-    at (Ok s) (Err refused) h k = absurd (session-apart input s refused h k)
-    at (Err refused) (Ok t) h k = absurd (session-apart input t refused k h)
-    at (Err refused) (Err g) h k = refl
+    at (Ok s) (Err fault) h k = absurd (session-apart input s fault h k)
+    at (Err fault) (Ok t) h k = absurd (session-apart input t fault k h)
+    at (Err fault) (Err g) h k = refl
 
 -- what `check` writes is one
 pub one-check : (input text other : List ℕ) (a b : Status) → IsOutput Check input text a → IsOutput Check input other b → text ≡ other
-one-check input text other a b x y = x.written ∙ at x.found y.found x.is y.is ∙ sym y.written
+one-check input text other a b x y = at x.found y.found x.is y.is x.written y.written
   where
-    at : (f g : Result Session Refusal) → SessionIs input f → SessionIs input g → text_of Check f ≡ text_of Check g
-    at (Ok s) (Ok t) h k = counts-same s t (one-session input s t h k)
-    at (Ok s) (Err refused) h k = absurd (session-apart input s refused h k)
-    at (Err refused) (Ok t) h k = absurd (session-apart input t refused k h)
-    at (Err refused) (Err g) h k = ap refusal (one-refusal input refused g h k)
+    at : (f g : Result Session Refusal) → SessionIs input f → SessionIs input g → IsTextOf Check f text → IsTextOf Check g other → text ≡ other
+    at (Ok s) (Ok t) h k v w = v ∙ counts-same s t (one-session input s t h k) ∙ sym w
+    at (Ok s) (Err fault) h k v w = absurd (session-apart input s fault h k)
+    at (Err fault) (Ok t) h k v w = absurd (session-apart input t fault k h)
+    at (Err fault) (Err g) h k v w = v ∙ ap refusal (one-refusal input fault g h k) ∙ sym w
+
+refused-text : (command : Command) (fault : Refusal) (text : List ℕ) → IsTextOf command (Err fault) text → text ≡ refusal fault
+refused-text Check fault text h = h
+refused-text Replay fault text h = h
+refused-text Run fault text h = h
 
 -- the line that refuses an input is one, whatever the command
 pub one-line : (command : Command) (input text other : List ℕ) → IsOutput command input text SessionRefused → IsOutput command input other SessionRefused → text ≡ other
-one-line command input text other x y = x.written ∙ at x.found y.found x.is y.is x.says y.says ∙ sym y.written
+one-line command input text other x y = at x.found y.found x.is y.is x.says y.says x.written y.written
   where
-    at : (f g : Result Session Refusal) → SessionIs input f → SessionIs input g → SessionRefused ≡ status_for f → SessionRefused ≡ status_for g → text_of command f ≡ text_of command g
-    at (Ok s) g h k e d = absurd (cc)
-    at (Err refused) (Ok t) h k e d = absurd (cc)
-    at (Err refused) (Err g) h k e d = ap (λ z. text_of command (Err z)) (one-refusal input refused g h k)
+    at : (f g : Result Session Refusal) → SessionIs input f → SessionIs input g → SessionRefused ≡ status_for f → SessionRefused ≡ status_for g
+        → IsTextOf command f text → IsTextOf command g other → text ≡ other
+    at (Ok s) g h k e d v w = absurd (cc)
+    at (Err fault) (Ok t) h k e d v w = absurd (cc)
+    at (Err fault) (Err g) h k e d v w = refused-text command fault text v ∙ ap refusal (one-refusal input fault g h k) ∙ sym (refused-text command g other w)

@@ -1,4 +1,14 @@
+pub mod Crossing
+pub mod Commands
 pub mod Reports
+pub mod Runs
 pub mod TooLong
 pub mod Answered
 pub mod Cases
+pub mod TwinWraps
+pub mod SameWrappings
+pub mod SameSteps
+pub mod SameTexts
+pub mod Built
+pub mod SameReports
+pub mod OneOutput

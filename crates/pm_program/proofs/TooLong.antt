@@ -1,20 +1,13 @@
 -- All that a source gives is the input, and an input of which more than the limit came is refused on line 0.
 use Rattle.std.proofs.Common.{◌≡◌, ◌<◌, ◌≤◌, ◌+◌, ◌++◌, ◌∙◌, ℕ, true, List, length, refl, ap, sym, subst, arith, length-append}
-use Rattle.std.specs.Prelude.{nat_lt, Option, None, Some, Err, codes, decimal}
+use Rattle.std.specs.Prelude.{nat_lt, Option, None, Some, Err}
 use Rattle.std.specs.Io.KnownBytes.{Consumes, IsAtEnd}
 use Rattle.std.proofs.lemmas.List.{append-nil}
 use Rattle.std.proofs.lemmas.Bool.Decides.{nat_tests}
 use Rattle.pm_head.specs.declared.code.Code.TheVariants.{InputTooLong}
 use Rattle.pm_head.specs.Refusals.{refused}
-use Rattle.pm_head.specs.Numbers.{number_of}
 use Rattle.pm_script.specs.declared.session.TheConstants.{MAX_INPUT}
 use Rattle.pm_script.specs.Sessions.{SessionIs}
-use Rattle.pm_report.specs.Words.{◌&◌, line}
-use Rattle.pm_program.specs.declared.call.Status.{Status}
-use Rattle.pm_program.specs.declared.call.Status.TheVariants.{SessionRefused}
-use Rattle.pm_program.specs.declared.words.Command.{Command}
-use Rattle.pm_program.specs.declared.words.Command.TheVariants.{Check, Replay}
-use Rattle.pm_program.specs.Output.{IsOutput}
 
 to_end : (new : Option (List ℕ)) (bytes input : List ℕ) → Consumes (Some input) new bytes → IsAtEnd new → bytes ≡ input
 to_end None bytes input h e = absurd h
@@ -36,10 +29,6 @@ past_limit old new bytes input h size is =
     let taken = subst (λ o. Consumes o new bytes) is h in
     above (length input) (omega (arith, longer new bytes input taken, size))
 
-no_session : (input : List ℕ) → nat_lt MAX_INPUT (length input) ≡ true → SessionIs input (Err (refused 0 InputTooLong))
+-- it is no session
+pub no_session : (input : List ℕ) → nat_lt MAX_INPUT (length input) ≡ true → SessionIs input (Err (refused 0 InputTooLong))
 no_session input h = rw h refl
-
--- the line that refuses it is the output of each command
-pub refused_whole : (asked : Command) (input text : List ℕ) (status : Status) → nat_lt MAX_INPUT (length input) ≡ true → text ≡ line (codes "refused" & decimal 0 & decimal (number_of InputTooLong)) → status ≡ SessionRefused → IsOutput asked input text status
-refused_whole Check input text status h t s = record { found = Err (refused 0 InputTooLong); is = no_session input h; written = t; says = s }
-refused_whole Replay input text status h t s = record { found = Err (refused 0 InputTooLong); is = no_session input h; written = t; says = s }

@@ -3,6 +3,9 @@ pub mod Making
 pub mod Makers
 pub mod Playing
 pub mod Sounds
+pub mod Running
+pub mod Finding
 pub mod Output
 pub mod Headline
 pub mod Cases
+pub mod OneOutput

@@ -11,8 +11,9 @@ use Rattle.pm_report.specs.Words.{◌&◌, line}
 use Rattle.pm_program.specs.declared.call.Status.{Status}
 use Rattle.pm_program.specs.declared.call.Status.TheVariants.{Done, SessionRefused, Usage, ReadFault, WriteFault, NoMemory}
 use Rattle.pm_program.specs.declared.words.Command.{Command}
-use Rattle.pm_program.specs.declared.words.Command.TheVariants.{Check, Replay}
+use Rattle.pm_program.specs.declared.words.Command.TheVariants.{Check, Replay, Run}
 use Rattle.pm_program.specs.Playing.{report_of}
+use Rattle.pm_program.specs.Running.{IsRun}
 
 -- the line that refuses an input
 abbrev pub refusal : Refusal → List ℕ
@@ -22,11 +23,13 @@ refusal r = line (codes "refused" & decimal r.line & decimal (number_of r.code))
 abbrev pub counts_of : Session → List ℕ
 counts_of s = line (codes "ok" & decimal (length s.lines) & decimal (length s.head.doc.tokens))
 
--- what a command writes of what the input is found to be
-abbrev pub text_of : Command → Result Session Refusal → List ℕ
-text_of Check (Ok s) = counts_of s
-text_of Replay (Ok s) = report_of s
-text_of command (Err r) = refusal r
+-- What a command may write of what the input is found to be. Of `check` and `replay` it is one text; what `run` writes
+-- is of an order.
+abbrev pub IsTextOf : Command → Result Session Refusal → List ℕ → Type 0
+IsTextOf Check (Ok s) text = text ≡ counts_of s
+IsTextOf Replay (Ok s) text = text ≡ report_of s
+IsTextOf Run (Ok s) text = IsRun s text
+IsTextOf command (Err r) text = text ≡ refusal r
 
 -- Done for a session, SessionRefused for any other input
 abbrev pub status_for : Result Session Refusal → Status
@@ -37,7 +40,7 @@ status_for (Err r) = SessionRefused
 pub record IsOutput (command : Command) (input text : List ℕ) (status : Status) : Type 0 where
   pub found : Result Session Refusal
   pub is : SessionIs input found
-  pub written : text ≡ text_of command found
+  pub written : IsTextOf command found text
   pub says : status ≡ status_for found
 
 -- the command's output for the input was written whole, and this status says so
@@ -67,6 +70,13 @@ Answered asked input NoMemory old new = new ≡ old
 -- the statuses with which an output is written whole
 abbrev pub IsAnswer : Status → Type 0
 IsAnswer status = (status ≡ Done) ⊎ (status ≡ SessionRefused)
+
+-- Bytes that were taken from a source have this output, which was written whole, and this status. What a source has left says
+-- which bytes they are, where the source tells it.
+pub record AnswersRead (asked : Command) (status : Status) (left rest old new : Option (List ℕ)) : Type 0 where
+  pub input : List ℕ
+  pub read : Consumes left rest input
+  pub written : IsWritten asked input status old new
 
 -- one byte more than the limit of an input was read from a source
 abbrev pub IsPastLimit : Option (List ℕ) → Option (List ℕ) → Type 0

@@ -10,6 +10,7 @@ use Rattle.pm_session.specs.declared.outcome.Outcome.{Outcome}
 use Rattle.pm_session.specs.Events.{State}
 use Rattle.pm_session.specs.Sessions.{opened, session, settled}
 use Rattle.pm_script.specs.declared.session.Session.{Session}
+use Rattle.pm_report.specs.Outcomes.{with_numbers}
 use Rattle.pm_report.specs.Report.{report}
 use Rattle.pm_program.specs.Making.{makes}
 
@@ -36,5 +37,6 @@ room_after s k = (session meaning s.head.schema (makes s.head.schema) (room_of s
 abbrev pub room_settled : Session → Room
 room_settled s = settled meaning s.head.schema (playing s).1
 
+-- the report of the session, whose outcomes are told in file order
 abbrev pub report_of : Session → List ℕ
-report_of s = report s.head.schema.spec s.head.clients s.lines (playing s).0 (playing s).1 (room_settled s)
+report_of s = report s.head.schema.spec s.head.clients (with_numbers s.lines (playing s).0) (playing s).1 (room_settled s)

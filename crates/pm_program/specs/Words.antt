@@ -2,14 +2,28 @@
 use Rattle.std.specs.Prelude.{ℕ, List, [], ◌∷◌, codes, Option, Some, None, nat_eq, if◌then◌else◌}
 use Rattle.std.specs.Cmp.Lexicographic.{pointwise}
 use Rattle.pm_program.specs.declared.words.Command.{Command}
-use Rattle.pm_program.specs.declared.words.Command.TheVariants.{Check, Replay}
+use Rattle.pm_program.specs.declared.words.Command.TheVariants.{Check, Replay, Run}
 
 -- what a word asks for
 abbrev pub command_named : List ℕ → Option Command
-command_named word = if pointwise nat_eq word (codes "check") then Some Check else (if pointwise nat_eq word (codes "replay") then Some Replay else None)
+command_named word =
+    if pointwise nat_eq word (codes "check") then Some Check
+    else (if pointwise nat_eq word (codes "replay") then Some Replay
+    else (if pointwise nat_eq word (codes "run") then Some Run else None))
 
 -- what the words ask for; None where they are none of the forms
 abbrev pub command_of : List (List ℕ) → Option Command
 command_of [] = None
 command_of (word ∷ []) = command_named word
 command_of (word ∷ next ∷ more) = None
+
+-- a command that takes no threads
+abbrev pub without_threads : Option Command → Option Command
+without_threads None = None
+without_threads (Some Check) = Some Check
+without_threads (Some Replay) = Some Replay
+without_threads (Some Run) = None
+
+-- what the words ask for where there are no threads: the word `run` is then none of the forms
+abbrev pub plain_command_of : List (List ℕ) → Option Command
+plain_command_of words = without_threads (command_of words)

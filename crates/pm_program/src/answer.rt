@@ -1,18 +1,14 @@
 //! What is written for an input.
-ghost use Rattle.std.specs.Prelude.{◌≡◌, ◌↔◌, ◌⊎◌, ℕ, List, codes, decimal, string_bytes, IfOk, IsErrOf, Some};
-ghost use Rattle.std.specs.Io.KnownBytes.{IsAtEnd};
-ghost use Rattle.pm_io.specs.Faults.{Rose};
+ghost use Rattle.std.specs.Prelude.{◌≡◌, codes, decimal, string_bytes, IfOk};
 ghost use Rattle.pm_report.specs.Words.{◌&◌, line};
-ghost use Rattle.pm_script.specs.declared.session.Session.{Session};
-ghost use Rattle.pm_program.specs.Output.{IsOutput, IsAnswer, IsPastLimit, counts_of, refusal as refusal_line};
-ghost use Rattle.pm_program.specs.Playing.{report_of};
-ghost use Rattle.pm_script.specs.Held.{Holds};
+ghost use Rattle.pm_program.specs.Finding.{found_of, FoundHolds};
+ghost use Rattle.pm_program.specs.Output.{IsTextOf, status_for, refusal};
 
 use crate::call::Status;
+use crate::finding::Found;
 use crate::replaying::replay;
 use crate::words::Command;
-use pm_io::{ReadError, Source, read_all};
-use pm_script::{Code, MAX_INPUT, Refusal, Session, SessionError, read_session};
+use pm_script::{Refusal, Session};
 use std::alloc::{AllocError, Global};
 
 /// What is to be written, and the status that says so.
@@ -22,60 +18,35 @@ pub struct Answer {
     pub text: String,
 }
 
-/// The answer to what a source gives.
-pub fn answer_of<R: Source>(
-    alloc: Global,
-    command: Command,
-    source: &mut R,
-) -> Result<Answer, ReadError>
-    ensures output { IfOk result (λ a. (input : List ℕ) → R.left source.old ≡ Some input
-        → IsOutput command input (string_bytes a.text) a.status) }
-    ensures answers { IfOk result (λ a. IsAnswer a.status) }
-    ensures fault { IsErrOf result ReadError.ReadFault → Rose (R.faults source.old) (R.faults source.new) }
-    ensures no_fault { IsErrOf result ReadError.ReadFault ⊎ (R.faults source.new ≡ R.faults source.old) }
-    ensures read { IsErrOf result ReadError.TooLong → ⊥ }
-    ensures to_end { IfOk result (λ a. IsAtEnd (R.left source.new)
-        ⊎ ((a.status ≡ Status.SessionRefused) × IsPastLimit (R.left source.old) (R.left source.new))) }
+/// The answer of a command that takes no threads to what an input was found to be.
+pub fn answer_to(alloc: Global, command: Command, found: &Found) -> Result<Answer, AllocError>
+    requires alone { command ≡ Command.Run → ⊥ }
+    requires holds { FoundHolds found.now }
+    ensures text { IfOk result (λ a. IsTextOf command (found_of found.now) (string_bytes a.text)) }
+    ensures says { IfOk result (λ a. a.status ≡ status_for (found_of found.now)) }
 {
-    match read_all(alloc, source, MAX_INPUT) {
-        Ok(input) => Ok(answer_to(alloc, command, &input)?),
-        Err(ReadError::TooLong) => Ok(refusal(
-            alloc,
-            Refusal {
-                line: 0,
-                code: Code::InputTooLong,
-            },
-        )?),
-        Err(e) => Err(e),
-    }
-}
-
-/// The answer to an input.
-fn answer_to(alloc: Global, command: Command, input: &[u8]) -> Result<Answer, AllocError>
-    ensures output { IfOk result (λ a. IsOutput command input.now (string_bytes a.text) a.status) }
-    ensures answers { IfOk result (λ a. IsAnswer a.status) }
-{
-    match read_session(alloc, input) {
-        Ok(session) => Ok(Answer {
+    match found {
+        Found::IsSession(session) => Ok(Answer {
             status: Status::Done,
-            text: told(alloc, command, &session)?,
+            text: told(alloc, command, session)?,
         }),
-        Err(SessionError::Refused(refused)) => refusal(alloc, refused),
-        Err(SessionError::NoMemory) => Err(AllocError),
+        Found::Refused(refused) => refusal(alloc, *refused),
     }
 }
 
-ghost use Rattle.pm_program.specs.Output.{text_of};
-ghost use Rattle.std.specs.Prelude.{Ok};
+ghost use Rattle.pm_script.specs.Held.{Holds};
+ghost use Rattle.std.specs.Prelude.{Ok, length};
 
 /// What the command writes of a session.
 fn told(alloc: Global, command: Command, session: &Session) -> Result<String, AllocError>
-    requires { Holds session.now }
-    ensures { IfOk result (λ s. string_bytes s ≡ text_of command (Ok session.now)) }
+    requires alone { command ≡ Command.Run → ⊥ }
+    requires holds { Holds session.now }
+    ensures { IfOk result (λ s. IsTextOf command (Ok session.now) (string_bytes s)) }
 {
     match command {
         Command::Check => counts(alloc, session.lines.len(), session.head.doc.size()),
         Command::Replay => replay(alloc, session),
+        Command::Run => unreachable!(),
     }
 }
 
@@ -86,8 +57,8 @@ fn counts(alloc: Global, lines: usize, size: usize) -> Result<String, AllocError
 }
 
 /// The line that refuses an input.
-fn refusal(alloc: Global, refused: Refusal) -> Result<Answer, AllocError>
-    ensures text { IfOk result (λ a. string_bytes a.text ≡ refusal_line refused) }
+pub fn refusal(alloc: Global, refused: Refusal) -> Result<Answer, AllocError>
+    ensures text { IfOk result (λ a. string_bytes a.text ≡ refusal refused) }
     ensures status { IfOk result (λ a. a.status ≡ Status.SessionRefused) }
 {
     let line = refused.line;

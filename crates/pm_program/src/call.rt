@@ -2,16 +2,22 @@
 ghost use Rattle.std.specs.Prelude.{◌≡◌, ◌⊎◌, ◌↔◌, ℕ, List, None, Some, map, string_bytes};
 ghost use Rattle.std.specs.Io.KnownBytes.{IsAtEnd};
 ghost use Rattle.pm_io.specs.Faults.{Rose};
-ghost use Rattle.pm_program.specs.Words.{command_of};
-ghost use Rattle.pm_program.specs.declared.words.Command.{Command};
-ghost use Rattle.pm_program.specs.Output.{IsAnswer, Answered, IsPastLimit};
+ghost use Rattle.pm_program.specs.Words.{command_of, plain_command_of};
+ghost use Rattle.pm_program.specs.Output.{IsAnswer, Answered, AnswersRead, IsPastLimit};
+ghost use Rattle.pm_program.specs.Cases.{Tells, IsByCase};
 ghost use Rattle.pm_program.specs.Sounds.{AllSound};
 ghost use Rattle.pm_program.specs.Headline.{Writes, Agrees, Silent, number_of};
 
-use crate::answer::{Answer, answer_of};
-use crate::words::{Command, command_of};
+use crate::answer::{Answer, answer_to};
+use crate::finding::found_in;
+use crate::making::EditMaker;
+use crate::running::answer_on_threads;
+use crate::words::{Command, command_of, plain_command_of};
 use pm_io::{Gate, ReadError, Sink, Source, write_all};
-use std::alloc::Global;
+use pm_workers::Crew;
+use std::alloc::{AllocError, Global};
+use std::sync::Wait;
+use std::thread::Threads;
 
 /// How a call ended.
 #[derive(Clone, Copy, Debug, PartialEq, Eq)]
@@ -46,46 +52,17 @@ impl Status {
     }
 }
 
-/// Does what the words say, with a gate that is asked before each call of a client that has a thread
-/// of its own. There is no such client yet, so that the words are handed to `plain`.
-pub fn run<R: Source, W: Sink, G: Gate + Sync>(
+/// Does what the words say. A session that `run` names is played with a thread for each client, raw clients too, and the gate
+/// is asked before each message that a line presents. All other words are handed to `plain`. Under `run` it may wait, and
+/// returns if the threads do.
+#[tactic(auto, using(crate::proofs::Reports::all_sound))]
+pub fn run<R: Source, W: Sink, G: Gate + Sync, T: Threads + Wait + Sync>(
     alloc: Global,
+    rt: &T,
     words: &[String],
     source: &mut R,
     sink: &mut W,
     gate: &G,
-) -> Status
-    ensures usage { (result ≡ Status.Usage) ↔ (command_of (map string_bytes words.now) ≡ None) }
-    ensures unread { result ≡ Status.Usage → (R.left source.new ≡ R.left source.old)
-        × (R.faults source.new ≡ R.faults source.old) × (W.faults sink.new ≡ W.faults sink.old) }
-    ensures silent { Silent result (W.written sink.old) (W.written sink.new) }
-    ensures output { (asked : Command) (input : List ℕ) → command_of (map string_bytes words.now) ≡ Some asked
-        → R.left source.old ≡ Some input
-        → Answered asked input result (W.written sink.old) (W.written sink.new) }
-    ensures sound { (input : List ℕ) → AllSound input }
-    ensures read_fault { result ≡ Status.ReadFault → Rose (R.faults source.old) (R.faults source.new) }
-    ensures write_fault { result ≡ Status.WriteFault → Rose (W.faults sink.old) (W.faults sink.new) }
-    ensures no_read_fault { (result ≡ Status.ReadFault) ⊎ (R.faults source.new ≡ R.faults source.old) }
-    ensures no_write_fault { (result ≡ Status.WriteFault) ⊎ (W.faults sink.new ≡ W.faults sink.old) }
-    ensures read_whole { result ≡ Status.Done → IsAtEnd (R.left source.new) }
-    ensures read_enough { result ≡ Status.SessionRefused
-        → IsAtEnd (R.left source.new) ⊎ IsPastLimit (R.left source.old) (R.left source.new) }
-    ensures complete { (asked : Command) → command_of (map string_bytes words.now) ≡ Some asked
-        → ¬ Rose (R.faults source.old) (R.faults source.new)
-        → ¬ Rose (W.faults sink.old) (W.faults sink.new)
-        → IsAnswer result ⊎ (result ≡ Status.NoMemory) }
-{
-    let _gate = gate;
-    plain(alloc, words, source, sink)
-}
-
-/// Does what the words say. It returns for every input.
-#[tactic(auto, using(crate::proofs::Reports::all_sound))]
-pub fn plain<R: Source, W: Sink>(
-    alloc: Global,
-    words: &[String],
-    source: &mut R,
-    sink: &mut W,
 ) -> Status
     // Usage, exactly by the words.
     ensures usage { (result ≡ Status.Usage) ↔ (command_of (map string_bytes words.now) ≡ None) }
@@ -114,16 +91,130 @@ pub fn plain<R: Source, W: Sink>(
         → ¬ Rose (R.faults source.old) (R.faults source.new)
         → ¬ Rose (W.faults sink.old) (W.faults sink.new)
         → IsAnswer result ⊎ (result ≡ Status.NoMemory) }
+    // The status tells what the input is, also where a fault rose: 1 is never that of a session, 0 never that of any other.
+    ensures tells { (input : List ℕ) → R.left source.old ≡ Some input → Tells input result }
+    // By case, where no fault rose: for a session the whole output, for any other input its refusal, or want of memory.
+    ensures by_case { (asked : Command) (input : List ℕ) → command_of (map string_bytes words.now) ≡ Some asked
+        → R.left source.old ≡ Some input
+        → ¬ Rose (R.faults source.old) (R.faults source.new)
+        → ¬ Rose (W.faults sink.old) (W.faults sink.new)
+        → IsByCase input result }
+    // With an answer, what was written is the output for the bytes that were read, also of a source that does not tell them.
+    ensures answers { (asked : Command) → command_of (map string_bytes words.now) ≡ Some asked → IsAnswer result
+        → AnswersRead asked result (R.left source.old) (R.left source.new) (W.written sink.old) (W.written sink.new) }
 {
-    let Some(command) = command_of(words) else {
-        return Status::Usage;
-    };
-    let answer = match answer_of(alloc, command, source) {
-        Ok(answer) => answer,
+    match command_of(words) {
+        Some(Command::Run) => {
+            let crew = Crew {
+                rt,
+                maker: &EditMaker,
+                gate,
+            };
+            run_session(alloc, &crew, source, sink)
+        }
+        _ => plain(alloc, words, source, sink),
+    }
+}
+
+/// Plays the session that a source gives, with a thread for each client.
+fn run_session<R: Source, W: Sink, G: Gate + Sync, T: Threads + Wait + Sync>(
+    alloc: Global,
+    crew: &Crew<EditMaker, G, T>,
+    source: &mut R,
+    sink: &mut W,
+) -> Status
+    ensures usage { result ≡ Status.Usage → ⊥ }
+    ensures silent { Silent result (W.written sink.old) (W.written sink.new) }
+    ensures output { (input : List ℕ) → R.left source.old ≡ Some input
+        → Answered Command.Run input result (W.written sink.old) (W.written sink.new) }
+    ensures read_fault { result ≡ Status.ReadFault → Rose (R.faults source.old) (R.faults source.new) }
+    ensures write_fault { result ≡ Status.WriteFault → Rose (W.faults sink.old) (W.faults sink.new) }
+    ensures no_read_fault { (result ≡ Status.ReadFault) ⊎ (R.faults source.new ≡ R.faults source.old) }
+    ensures no_write_fault { (result ≡ Status.WriteFault) ⊎ (W.faults sink.new ≡ W.faults sink.old) }
+    ensures read_whole { result ≡ Status.Done → IsAtEnd (R.left source.new) }
+    ensures read_enough { result ≡ Status.SessionRefused
+        → IsAtEnd (R.left source.new) ⊎ IsPastLimit (R.left source.old) (R.left source.new) }
+    ensures complete { ¬ Rose (R.faults source.old) (R.faults source.new)
+        → ¬ Rose (W.faults sink.old) (W.faults sink.new)
+        → IsAnswer result ⊎ (result ≡ Status.NoMemory) }
+    ensures tells { (input : List ℕ) → R.left source.old ≡ Some input → Tells input result }
+    ensures by_case { (input : List ℕ) → R.left source.old ≡ Some input
+        → ¬ Rose (R.faults source.old) (R.faults source.new)
+        → ¬ Rose (W.faults sink.old) (W.faults sink.new)
+        → IsByCase input result }
+    ensures answers { IsAnswer result
+        → AnswersRead Command.Run result (R.left source.old) (R.left source.new) (W.written sink.old) (W.written sink.new) }
+{
+    let found = match found_in(alloc, source) {
+        Ok(found) => found,
         Err(ReadError::ReadFault) => return Status::ReadFault,
         Err(_) => return Status::NoMemory,
     };
-    deliver(sink, &answer)
+    match answer_on_threads(alloc, crew, found) {
+        Ok(answer) => deliver(sink, &answer),
+        Err(AllocError) => Status::NoMemory,
+    }
+}
+
+/// Does what the words say, without threads: to it the word `run` is none of the forms. It returns for every input.
+#[tactic(auto, using(crate::proofs::Reports::all_sound))]
+pub fn plain<R: Source, W: Sink>(
+    alloc: Global,
+    words: &[String],
+    source: &mut R,
+    sink: &mut W,
+) -> Status
+    // Usage, exactly by the words.
+    ensures usage { (result ≡ Status.Usage) ↔ (plain_command_of (map string_bytes words.now) ≡ None) }
+    // Nothing is read for wrong words, and nothing written without an answer.
+    ensures unread { result ≡ Status.Usage → (R.left source.new ≡ R.left source.old)
+        × (R.faults source.new ≡ R.faults source.old) × (W.faults sink.new ≡ W.faults sink.old) }
+    ensures silent { Silent result (W.written sink.old) (W.written sink.new) }
+    // The output of the words and the input, and nothing else. The status says whether the input is a session.
+    ensures output { (asked : Command) (input : List ℕ) → plain_command_of (map string_bytes words.now) ≡ Some asked
+        → R.left source.old ≡ Some input
+        → Answered asked input result (W.written sink.old) (W.written sink.new) }
+    // A theorem on what a session is: every room of every session is sound. With `output` it speaks of what was written.
+    ensures sound { (input : List ℕ) → AllSound input }
+    // Faults only where they rose.
+    ensures read_fault { result ≡ Status.ReadFault → Rose (R.faults source.old) (R.faults source.new) }
+    ensures write_fault { result ≡ Status.WriteFault → Rose (W.faults sink.old) (W.faults sink.new) }
+    // With any other status no read failed, and no write.
+    ensures no_read_fault { (result ≡ Status.ReadFault) ⊎ (R.faults source.new ≡ R.faults source.old) }
+    ensures no_write_fault { (result ≡ Status.WriteFault) ⊎ (W.faults sink.new ≡ W.faults sink.old) }
+    // With an answer the input was read to its end. Of an input past the limit one byte more than the limit was read.
+    ensures read_whole { result ≡ Status.Done → IsAtEnd (R.left source.new) }
+    ensures read_enough { result ≡ Status.SessionRefused
+        → IsAtEnd (R.left source.new) ⊎ IsPastLimit (R.left source.old) (R.left source.new) }
+    // Where no fault rose, the output and its status, or want of memory.
+    ensures complete { (asked : Command) → plain_command_of (map string_bytes words.now) ≡ Some asked
+        → ¬ Rose (R.faults source.old) (R.faults source.new)
+        → ¬ Rose (W.faults sink.old) (W.faults sink.new)
+        → IsAnswer result ⊎ (result ≡ Status.NoMemory) }
+    // The status tells what the input is, also where a fault rose: 1 is never that of a session, 0 never that of any other.
+    ensures tells { (input : List ℕ) → R.left source.old ≡ Some input → Tells input result }
+    // By case, where no fault rose: for a session the whole output, for any other input its refusal, or want of memory.
+    ensures by_case { (asked : Command) (input : List ℕ) → plain_command_of (map string_bytes words.now) ≡ Some asked
+        → R.left source.old ≡ Some input
+        → ¬ Rose (R.faults source.old) (R.faults source.new)
+        → ¬ Rose (W.faults sink.old) (W.faults sink.new)
+        → IsByCase input result }
+    // With an answer, what was written is the output for the bytes that were read, also of a source that does not tell them.
+    ensures answers { (asked : Command) → plain_command_of (map string_bytes words.now) ≡ Some asked → IsAnswer result
+        → AnswersRead asked result (R.left source.old) (R.left source.new) (W.written sink.old) (W.written sink.new) }
+{
+    let Some(command) = plain_command_of(words) else {
+        return Status::Usage;
+    };
+    let found = match found_in(alloc, source) {
+        Ok(found) => found,
+        Err(ReadError::ReadFault) => return Status::ReadFault,
+        Err(_) => return Status::NoMemory,
+    };
+    match answer_to(alloc, command, &found) {
+        Ok(answer) => deliver(sink, &answer),
+        Err(AllocError) => Status::NoMemory,
+    }
 }
 
 /// Writes an answer.

@@ -3,9 +3,11 @@
 
 mod answer;
 mod call;
-mod laws;
+mod finding;
 mod making;
+mod one_output;
 mod replaying;
+mod running;
 #[cfg(test)]
 mod tests;
 mod words;
@@ -24,7 +26,7 @@ fn main(rt: HostRuntime) -> io::Result<ExitCode> {
     let mut source = StdSource::new(rt.stdin());
     let mut sink = StdSink::new(rt.stdout());
     let status = match words_of(&rt) {
-        Ok(words) => run(alloc, &words, &mut source, &mut sink, &OpenGate),
+        Ok(words) => run(alloc, &rt, &words, &mut source, &mut sink, &OpenGate),
         Err(e) if e.kind() == io::ErrorKind::OutOfMemory => Status::NoMemory,
         // A word that is no text is none of the forms.
         Err(_) => Status::Usage,
@@ -32,7 +34,7 @@ fn main(rt: HostRuntime) -> io::Result<ExitCode> {
     // Where standard error takes nothing, the number still tells.
     let _told = match status {
         Status::Done | Status::SessionRefused => Ok(()),
-        Status::Usage => eprintln!(rt; "usage: check | replay"),
+        Status::Usage => eprintln!(rt; "usage: check | replay | run"),
         Status::ReadFault => eprintln!(rt; "read fault"),
         Status::WriteFault => eprintln!(rt; "write fault"),
         Status::NoMemory => eprintln!(rt; "no memory"),

@@ -3,11 +3,12 @@ ghost use Rattle.std.specs.Prelude.{◌≡◌, map, IfOk};
 ghost use Rattle.pm_step.specs.Steps.{step_of};
 
 use pm_apply::DocChange;
-use pm_edit::{EditRefusal, steps_for};
+use pm_change::MakeError;
+use pm_edit::steps_for;
 use pm_node::Document;
 use pm_ops::Op;
 use pm_schema::Schema;
-use pm_session::{Maker, NoSteps};
+use pm_session::Maker;
 use pm_step::Step;
 use std::alloc::{AllocError, Global};
 
@@ -16,7 +17,7 @@ pub struct EditMaker;
 
 impl Maker<DocChange> for EditMaker {
     ghost use Rattle.pm_program.specs.Making.{makes};
-    ghost use Rattle.pm_program.specs.Makers.{some_step, no_memory};
+    ghost use Rattle.pm_program.specs.Makers.{some_step};
 
     type Op = Op;
 
@@ -28,22 +29,18 @@ impl Maker<DocChange> for EditMaker {
         schema: &Schema,
         doc: &Document,
         op: &Op,
-    ) -> Result<Vec<DocChange>, NoSteps> {
+    ) -> Result<Vec<DocChange>, MakeError> {
         match steps_for(alloc, schema, doc, op) {
             Ok(steps) => match as_changes(alloc, steps) {
                 Ok(changes) => Ok(changes),
-                Err(AllocError) => Err(NoSteps::NoMemory),
+                Err(AllocError) => Err(MakeError::NoMemory),
             },
-            Err(EditRefusal::Range) => Err(NoSteps::Range),
-            Err(EditRefusal::NotThere) => Err(NoSteps::NotThere),
-            Err(EditRefusal::NoFit) => Err(NoSteps::NoFit),
-            Err(EditRefusal::NoMemory) => Err(NoSteps::NoMemory),
+            Err(MakeError::NoStep(reason)) => Err(MakeError::NoStep(reason)),
+            Err(MakeError::NoMemory) => Err(MakeError::NoMemory),
         }
     }
 
     ghost some = { λ maker schema doc op h. some_step schema doc op h };
-
-    ghost meant = { λ maker schema doc op h. no_memory schema doc op h };
 }
 
 fn as_changes(alloc: Global, steps: Vec<Step>) -> Result<Vec<DocChange>, AllocError>

@@ -11,7 +11,7 @@ ghost use Rattle.pm_script.specs.Held.{Holds};
 use crate::making::EditMaker;
 use pm_apply::DocChange;
 use pm_head::raw_flags;
-use pm_report::{client_lines, report};
+use pm_report::{client_lines, report, with_numbers};
 use pm_script::Session;
 use pm_session::Room;
 use std::alloc::{AllocError, Global};
@@ -26,17 +26,10 @@ pub fn replay(alloc: Global, session: &Session) -> Result<String, AllocError>
     let lines = session.lines.as_slice();
     let mut room = open(alloc, session)?;
     let outcomes = room.play_all(alloc, schema, &EditMaker, lines)?;
+    let outcomes = with_numbers(alloc, lines, outcomes)?;
     let standing = client_lines(alloc, schema, entries, room.members())?;
     room.settle(alloc, schema)?;
-    report(
-        alloc,
-        schema,
-        entries,
-        lines,
-        &outcomes,
-        standing.as_str(),
-        &room,
-    )
+    report(alloc, schema, entries, &outcomes, standing.as_str(), &room)
 }
 
 /// A room at the session's first document, with its clients.

@@ -1,5 +1,6 @@
 -- What became of a line, in words.
 use Rattle.std.specs.Prelude.{ℕ, List, [], ◌∷◌, ◌++◌, codes, decimal, Option, Some, None}
+use Rattle.pm_change.specs.declared.no_step.NoStep.TheVariants.{Range, NotThere, NoFit}
 use Rattle.pm_tokens.specs.Tokens.{Doc}
 use Rattle.pm_schema.specs.declared.schema.Schema.{Schema}
 use Rattle.pm_meaning.specs.Steps.{Step}
@@ -12,8 +13,9 @@ use Rattle.pm_session.specs.declared.line.Line.{Line}
 use Rattle.pm_session.specs.declared.outcome.Told.{Told}
 use Rattle.pm_session.specs.declared.outcome.Told.TheVariants.{Accepted, Version, Refused as ToldRefused, Entries}
 use Rattle.pm_session.specs.declared.outcome.Outcome.{Outcome}
-use Rattle.pm_session.specs.declared.outcome.Outcome.TheVariants.{Made, Nothing, NoRange, NoPlace, NoFit, Refused, CursorAt, Composed, Answered, Took, Exchanged}
+use Rattle.pm_session.specs.declared.outcome.Outcome.TheVariants.{Made, Nothing, NoStep, Refused, CursorAt, Composed, Answered, Took, Exchanged}
 use Rattle.pm_report.specs.Words.{◌&◌, line}
+use Rattle.pm_report.specs.declared.outcomes.Numbered.{Numbered}
 
 -- the number of a reason, and the place of a fault
 abbrev pub reason_text : Reason → List ℕ
@@ -28,6 +30,7 @@ reason_text reason.Deep = codes "8"
 reason_text (reason.Content at) = codes "9" & decimal at
 reason_text reason.NoNode = codes "10"
 reason_text reason.NoAttribute = codes "11"
+reason_text reason.NotInSchema = codes "12"
 
 -- a step that does not apply, counted from 0
 abbrev pub refused_text : ℕ → Reason → List ℕ
@@ -53,9 +56,9 @@ end_text (Some taken) = taken_text taken
 abbrev pub outcome_text : Outcome Step Schema Doc Reason → List ℕ
 outcome_text (Made count) = codes "made" & decimal count
 outcome_text Nothing = codes "nothing"
-outcome_text NoRange = codes "no range"
-outcome_text NoPlace = codes "no place"
-outcome_text NoFit = codes "no fit"
+outcome_text (NoStep Range) = codes "no range"
+outcome_text (NoStep NotThere) = codes "no place"
+outcome_text (NoStep NoFit) = codes "no fit"
 outcome_text (Refused index reason) = refused_text index reason
 outcome_text (CursorAt p) = codes "cursor" & decimal p
 outcome_text (Composed n) = codes "composed" & decimal n
@@ -63,8 +66,13 @@ outcome_text (Answered told) = told_text told
 outcome_text (Took taken) = taken_text taken
 outcome_text (Exchanged told taken) = told_text told ++ codes ";" & end_text taken
 
--- for each line its number and its outcome
-abbrev pub outcome_lines : List (Line Op Step) → List (Outcome Step Schema Doc Reason) → List ℕ
-outcome_lines [] outcomes = []
-outcome_lines (l ∷ lines) [] = []
-outcome_lines (l ∷ lines) (o ∷ outcomes) = line (decimal l.number & outcome_text o) ++ outcome_lines lines outcomes
+-- the outcomes of these lines, each with its line's number
+abbrev pub with_numbers : List (Line Op Step) → List (Outcome Step Schema Doc Reason) → List Numbered
+with_numbers [] outcomes = []
+with_numbers (l ∷ lines) [] = []
+with_numbers (l ∷ lines) (o ∷ outcomes) = record { number = l.number; outcome = o } ∷ with_numbers lines outcomes
+
+-- for each outcome its line's number and what it says
+abbrev pub outcome_lines : List Numbered → List ℕ
+outcome_lines [] = []
+outcome_lines (o ∷ outcomes) = line (decimal o.number & outcome_text o.outcome) ++ outcome_lines outcomes

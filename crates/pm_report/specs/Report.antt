@@ -1,5 +1,5 @@
 -- The report of a session: what became of each line, how the editors stood, the log, and how all stands in the end.
-use Rattle.std.specs.Prelude.{ℕ, ℤ, ◌+◌, List, [], ◌∷◌, ◌++◌, length, map, codes, decimal, option_map, slice_get, unwrap_or}
+use Rattle.std.specs.Prelude.{ℕ, ◌+◌, List, [], ◌∷◌, ◌++◌, length, map, codes, decimal, option_map, slice_get, unwrap_or}
 use Rattle.serde_json.specs.Written.{compact_text}
 use Rattle.pm_tokens.specs.Tokens.{Doc}
 use Rattle.pm_schema.specs.declared.schema.Schema.{Schema}
@@ -11,21 +11,20 @@ use Rattle.pm_stepjson.specs.Writing.{step_written}
 use Rattle.pm_head.specs.declared.clients.ClientEntry.{ClientEntry}
 use Rattle.pm_authority.specs.declared.named.Named.{Named}
 use Rattle.pm_client.specs.declared.client.Client.{Client}
-use Rattle.pm_ops.specs.declared.op.Op.{Op}
-use Rattle.pm_session.specs.declared.line.Line.{Line}
+use Rattle.pm_client.specs.declared.cursors.Cursor.{Cursor}
 use Rattle.pm_session.specs.declared.member.Member.{Member}
 use Rattle.pm_session.specs.declared.member.Member.TheVariants.{Editor, Raw}
-use Rattle.pm_session.specs.declared.outcome.Outcome.{Outcome}
 use Rattle.pm_session.specs.Events.{State}
 use Rattle.pm_report.specs.Words.{◌&◌, line, list_text}
+use Rattle.pm_report.specs.declared.outcomes.Numbered.{Numbered}
 use Rattle.pm_report.specs.Outcomes.{outcome_lines}
 
 abbrev pub serial_of : Named Step → ℕ
 serial_of step = step.name.serial
 
 -- a cursor's position
-abbrev pub place_of : ℕ × ℤ → ℕ
-place_of cursor = cursor.0
+abbrev pub place_of : Cursor → ℕ
+place_of cursor = cursor.pos
 
 -- the name of client i
 abbrev pub name_at : List ClientEntry → ℕ → List ℕ
@@ -71,9 +70,9 @@ module _ (s : SchemaSpec) where
   entry_lines entries i (n ∷ log) = line (decimal i & name_at entries n.name.client & decimal n.name.serial & step_text n.change) ++ entry_lines entries (i + 1) log
 
   -- the outcomes, the editors before they settle, the log after that, the editors again, and the authority's document
-  abbrev pub report : List ClientEntry → List (Line Op Step) → List (Outcome Step Schema Doc Reason) → State Step Schema Doc Reason → State Step Schema Doc Reason → List ℕ
-  report entries lines outcomes before after =
-      outcome_lines lines outcomes
+  abbrev pub report : List ClientEntry → List Numbered → State Step Schema Doc Reason → State Step Schema Doc Reason → List ℕ
+  report entries outcomes before after =
+      outcome_lines outcomes
       ++ client_lines entries 0 before.members
       ++ line (codes "log" & decimal (length after.authority.log))
       ++ entry_lines entries 1 after.authority.log

@@ -1,39 +1,63 @@
 //! What became of a line, in words.
-ghost use Rattle.std.specs.Prelude.{◌≡◌, ◌++◌, length, codes, decimal, IfOk, OnOk, string_bytes};
+ghost use Rattle.std.specs.Prelude.{◌≡◌, ◌++◌, codes, decimal, IfOk, OnOk, string_bytes};
 ghost use Rattle.pm_report.specs.Words.{◌&◌, line};
-ghost use Rattle.pm_report.specs.Outcomes.{reason_text, refused_text, told_text, taken_text, end_text, outcome_text, outcome_lines};
+ghost use Rattle.pm_report.specs.Outcomes.{reason_text, refused_text, told_text, taken_text, end_text, outcome_text, with_numbers, outcome_lines};
 
 use pm_apply::DocChange;
+use pm_change::NoStep;
 use pm_client::Taken;
 use pm_meaning::Reason;
 use pm_ops::Op;
 use pm_session::{Line, Outcome, Told};
 use std::alloc::{AllocError, Global};
 
-/// Puts the number of each line and what became of it behind the text.
+/// What became of a line, with the number of the line in its file, from 1.
+#[derive(Drop)]
+pub struct Numbered {
+    pub number: u32,
+    pub outcome: Outcome<DocChange>,
+}
+
+/// The outcomes of these lines in their order, each with its line's number. There is one for each line.
+pub fn with_numbers(
+    alloc: Global,
+    lines: &[Line<Op, DocChange>],
+    outcomes: Vec<Outcome<DocChange>>,
+) -> Result<Vec<Numbered>, AllocError>
+    ensures { IfOk result (λ v. v.items ≡ with_numbers lines.now outcomes.items) }
+{
+    let mut told = Vec::new(alloc);
+    let mut rest = outcomes.into_iter();
+    for line in lines {
+        let Some(outcome) = rest.next() else {
+            return Ok(told);
+        };
+        told.push(Numbered {
+            number: line.number,
+            outcome,
+        })?;
+    }
+    Ok(told)
+}
+
+/// Puts the number of each outcome's line and what it says behind the text.
 pub(crate) fn push_outcomes(
     alloc: Global,
     text: &mut String,
-    lines: &[Line<Op, DocChange>],
-    outcomes: &[Outcome<DocChange>],
+    outcomes: &[Numbered],
 ) -> Result<(), AllocError>
-    requires { length outcomes.now ≡ length lines.now }
-    ensures { OnOk result (string_bytes text.new ≡ string_bytes text.old ++ outcome_lines lines.now outcomes.now) }
+    ensures { OnOk result (string_bytes text.new ≡ string_bytes text.old ++ outcome_lines outcomes.now) }
 {
-    for (i, line) in lines.iter().enumerate() {
-        text.push_str(outcome_line(alloc, line, &outcomes[i])?.as_str())?;
+    for outcome in outcomes {
+        text.push_str(outcome_line(alloc, outcome)?.as_str())?;
     }
     Ok(())
 }
 
-fn outcome_line(
-    alloc: Global,
-    of: &Line<Op, DocChange>,
-    outcome: &Outcome<DocChange>,
-) -> Result<String, AllocError>
-    ensures { IfOk result (λ s. string_bytes s ≡ line (decimal of.now.number & outcome_text outcome.now)) }
+fn outcome_line(alloc: Global, of: &Numbered) -> Result<String, AllocError>
+    ensures { IfOk result (λ s. string_bytes s ≡ line (decimal of.now.number & outcome_text of.now.outcome)) }
 {
-    let outcome = outcome_text(alloc, outcome)?;
+    let outcome = outcome_text(alloc, &of.outcome)?;
     outcome_words(alloc, of.number, outcome.as_str())
 }
 
@@ -50,9 +74,9 @@ fn outcome_text(alloc: Global, outcome: &Outcome<DocChange>) -> Result<String, A
     match outcome {
         Outcome::Made { count } => format!(in alloc; "made {count}"),
         Outcome::Nothing => String::from_str(alloc, "nothing"),
-        Outcome::NoRange => String::from_str(alloc, "no range"),
-        Outcome::NoPlace => String::from_str(alloc, "no place"),
-        Outcome::NoFit => String::from_str(alloc, "no fit"),
+        Outcome::NoStep(NoStep::Range) => String::from_str(alloc, "no range"),
+        Outcome::NoStep(NoStep::NotThere) => String::from_str(alloc, "no place"),
+        Outcome::NoStep(NoStep::NoFit) => String::from_str(alloc, "no fit"),
         Outcome::Refused { index, reason } => refused_text(alloc, *index, reason),
         Outcome::CursorAt { pos } => format!(in alloc; "cursor {pos}"),
         Outcome::Composed { number } => format!(in alloc; "composed {number}"),
@@ -139,5 +163,6 @@ fn reason_text(alloc: Global, reason: &Reason) -> Result<String, AllocError>
         Reason::Content { at } => format!(in alloc; "9 {at}"),
         Reason::NoNode => String::from_str(alloc, "10"),
         Reason::NoAttribute => String::from_str(alloc, "11"),
+        Reason::NotInSchema => String::from_str(alloc, "12"),
     }
 }

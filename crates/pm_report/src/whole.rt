@@ -4,39 +4,37 @@ ghost use Rattle.pm_report.specs.Words.{◌&◌, line};
 ghost use Rattle.pm_report.specs.Outcomes.{outcome_lines};
 ghost use Rattle.pm_report.specs.Report.{name_at, doc_text, step_text, entry_lines, settled_lines};
 
-use crate::outcomes::push_outcomes;
+use crate::outcomes::{Numbered, push_outcomes};
 use crate::standing::{name_at, push_settled};
 use pm_apply::DocChange;
 use pm_authority::Named;
 use pm_docjson::document_text;
 use pm_head::ClientEntry;
 use pm_node::Document;
-use pm_ops::Op;
 use pm_schema::Schema;
-use pm_session::{Line, Outcome, Room};
+use pm_session::Room;
 use pm_stepjson::step_text;
 use std::alloc::{AllocError, Global};
 
-/// The report: what became of each line, how the editors stood before they settled, which is `standing`, the log after that,
-/// how the editors stand then, and the authority's document. Each line ends with LF.
+/// The report: what became of each line, which is `outcomes` in the order in which they are told; how the editors stood
+/// before they settled, which is `standing`; the log after that; how the editors stand then; and the authority's document.
+/// Each line ends with LF.
 pub fn report(
     alloc: Global,
     schema: &Schema,
     entries: &[ClientEntry],
-    lines: &[Line<Op, DocChange>],
-    outcomes: &[Outcome<DocChange>],
+    outcomes: &[Numbered],
     standing: &str,
     settled: &Room<DocChange>,
 ) -> Result<String, AllocError>
-    requires { length outcomes.now ≡ length lines.now }
-    ensures { IfOk result (λ s. string_bytes s ≡ outcome_lines lines.now outcomes.now ++ standing.now
+    ensures { IfOk result (λ s. string_bytes s ≡ outcome_lines outcomes.now ++ standing.now
         ++ line (codes "log" & decimal (length settled.now.authority.log))
         ++ entry_lines schema.now.spec entries.now 1 settled.now.authority.log
         ++ settled_lines entries.now 0 settled.now.members.items
         ++ line (codes "final" & doc_text schema.now.spec settled.now.authority.doc)) }
 {
     let mut text = String::new(alloc);
-    push_outcomes(alloc, &mut text, lines, outcomes)?;
+    push_outcomes(alloc, &mut text, outcomes)?;
     text.push_str(standing)?;
     push_log(alloc, schema, &mut text, entries, settled.authority().log())?;
     push_settled(alloc, &mut text, entries, settled.members())?;

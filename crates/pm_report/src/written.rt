@@ -7,6 +7,7 @@ ghost use Rattle.pm_report.specs.Report.{serial_of, place_of};
 
 use pm_apply::DocChange;
 use pm_authority::Named;
+use pm_client::Cursor;
 use serde_json::Value;
 use std::alloc::{AllocError, Global};
 
@@ -25,17 +26,17 @@ fn serials_of(alloc: Global, steps: &[Named<DocChange>]) -> Result<Vec<u64>, All
 }
 
 /// The positions of cursors, as a list.
-pub(crate) fn cursors_text(alloc: Global, cursors: &[(u64, i8)]) -> Result<String, AllocError>
+pub(crate) fn cursors_text(alloc: Global, cursors: &[Cursor]) -> Result<String, AllocError>
     ensures { IfOk result (λ s. string_bytes s ≡ list_text (map place_of cursors.now)) }
 {
     let places = places_of(alloc, cursors)?;
     numbers_text(alloc, &places)
 }
 
-fn places_of(alloc: Global, cursors: &[(u64, i8)]) -> Result<Vec<u64>, AllocError>
+fn places_of(alloc: Global, cursors: &[Cursor]) -> Result<Vec<u64>, AllocError>
     ensures { IfOk result (λ v. v.items ≡ map place_of cursors.now) }
 {
-    cursors.iter().map(|cursor| cursor.0).collect(alloc)
+    cursors.iter().map(|cursor| cursor.pos).collect(alloc)
 }
 
 /// Numbers, as a list.

@@ -1,4 +1,3 @@
-use Rattle.std.proofs.Common.{[]}
 use Rattle.pm_tokens.specs.Tokens.{Doc}
 use Rattle.pm_schema.specs.declared.schema.Schema.{Schema}
 use Rattle.pm_meaning.specs.Steps.{Step}

@@ -1,0 +1,37 @@
+-- What `check` and `replay` write for an input is one text, with one status.
+use Rattle.std.proofs.Common.{◌≡◌, ℕ, List, refl, ap, ◌∙◌, sym}
+use Rattle.std.specs.Prelude.{Result, Ok, Err}
+use Rattle.pm_head.specs.declared.fault.Refusal.{Refusal}
+use Rattle.pm_script.specs.declared.session.Session.{Session}
+use Rattle.pm_script.specs.Sessions.{SessionIs}
+use Rattle.pm_script.proofs.OneSession.{session-apart, one-refusal}
+use Rattle.pm_program.specs.declared.call.Status.{Status}
+use Rattle.pm_program.specs.declared.call.Status.TheVariants.{Done}
+use Rattle.pm_program.specs.declared.words.Command.TheVariants.{Check, Replay}
+use Rattle.pm_program.specs.Output.{refusal, counts_of, IsTextOf, IsOutput}
+use Rattle.pm_program.specs.OneOutput.{HasOneOutput}
+use Rattle.pm_program.proofs.Cases.{one-status, one-check}
+use Rattle.pm_program.proofs.SameReports.{one-report}
+
+-- what `check` writes of a session that the input is
+counted : (input : List ℕ) (s : Session) → SessionIs input (Ok s) → IsOutput Check input (counts_of s) Done
+counted input s is = record { found = Ok s; is = is; written = refl; says = refl }
+
+pub one-count : (input : List ℕ) (s t : Session) → SessionIs input (Ok s) → SessionIs input (Ok t) → counts_of s ≡ counts_of t
+one-count input s t h k = one-check input (counts_of s) (counts_of t) Done Done (counted input s h) (counted input t k)
+
+-- what `replay` writes is one
+one-replay : (input text other : List ℕ) (a b : Status) → IsOutput Replay input text a → IsOutput Replay input other b → text ≡ other
+one-replay input text other a b x y = at x.found y.found x.is y.is x.written y.written
+  where
+    at : (f g : Result Session Refusal) → SessionIs input f → SessionIs input g → IsTextOf Replay f text → IsTextOf Replay g other → text ≡ other
+    at (Ok s) (Ok t) h k v w = v ∙ one-report input s t h k ∙ sym w
+    at (Ok s) (Err refused) h k v w = absurd (session-apart input s refused h k)
+    at (Err refused) (Ok t) h k v w = absurd (session-apart input t refused k h)
+    at (Err refused) (Err g) h k v w = v ∙ ap refusal (one-refusal input refused g h k) ∙ sym w
+
+pub check-output : (input : List ℕ) → HasOneOutput Check input
+check-output input text other a b x y = (one-check input text other a b x y, one-status Check input text other a b x y)
+
+pub replay-output : (input : List ℕ) → HasOneOutput Replay input
+replay-output input text other a b x y = (one-replay input text other a b x y, one-status Replay input text other a b x y)

@@ -1,0 +1,15 @@
+use Rattle.pm_program.proofs.SameReports.{one-report}
+use Rattle.pm_program.proofs.OneOutput.{one-count, check-output, replay-output}
+use Rattle.pm_program.proofs.one_output.output_is_one.Goals as goal
+
+pub returns-clause-one_report : goal.returns-clause-one_report
+returns-clause-one_report c = λ s t f g. one-report c.args.input.now s t f g
+
+pub returns-clause-one_count : goal.returns-clause-one_count
+returns-clause-one_count c = λ s t f g. one-count c.args.input.now s t f g
+
+pub returns-clause-check : goal.returns-clause-check
+returns-clause-check c = λ text other a b x y. check-output c.args.input.now text other a b x y
+
+pub returns-clause-replay : goal.returns-clause-replay
+returns-clause-replay c = λ text other a b x y. replay-output c.args.input.now text other a b x y

@@ -1,0 +1,56 @@
+//! What an input is: a session, or none.
+ghost use Rattle.std.specs.Prelude.{◌≡◌, ◌⊎◌, ℕ, List, IfOk, IsErrOf, Some, Err};
+ghost use Rattle.std.specs.Io.KnownBytes.{Consumes, IsAtEnd};
+ghost use Rattle.pm_io.specs.Faults.{Rose};
+ghost use Rattle.pm_head.specs.declared.code.Code.TheVariants.{InputTooLong};
+ghost use Rattle.pm_head.specs.Refusals.{refused};
+ghost use Rattle.pm_script.specs.Sessions.{SessionIs};
+ghost use Rattle.pm_program.specs.Finding.{found_of, FoundHolds};
+ghost use Rattle.pm_program.specs.Output.{IsPastLimit};
+
+use pm_io::{ReadError, Source, read_all};
+use pm_script::{Code, MAX_INPUT, Refusal, Session, SessionError, read_session};
+use std::alloc::{AllocError, Global};
+
+/// What an input was found to be.
+#[derive(Drop)]
+pub enum Found {
+    /// A session.
+    IsSession(Session),
+    /// None: the least faulty line, and the code of its first fault.
+    Refused(Refusal),
+}
+
+/// Reads a source to its end, and says what its bytes are. Of an input past the limit one byte more than the limit is read.
+pub fn found_in<R: Source>(alloc: Global, source: &mut R) -> Result<Found, ReadError>
+    ensures is { IfOk result (λ f. (input : List ℕ) → R.left source.old ≡ Some input → SessionIs input (found_of f)) }
+    ensures took { IfOk result (λ f. (input : List ℕ) × Consumes (R.left source.old) (R.left source.new) input
+        × SessionIs input (found_of f)) }
+    ensures holds { IfOk result FoundHolds }
+    ensures fault { IsErrOf result ReadError.ReadFault → Rose (R.faults source.old) (R.faults source.new) }
+    ensures no_fault { IsErrOf result ReadError.ReadFault ⊎ (R.faults source.new ≡ R.faults source.old) }
+    ensures read { IsErrOf result ReadError.TooLong → ⊥ }
+    ensures to_end { IfOk result (λ f. IsAtEnd (R.left source.new)
+        ⊎ ((found_of f ≡ Err (refused 0 InputTooLong)) × IsPastLimit (R.left source.old) (R.left source.new))) }
+{
+    match read_all(alloc, source, MAX_INPUT) {
+        Ok(input) => Ok(found_of(alloc, &input)?),
+        Err(ReadError::TooLong) => Ok(Found::Refused(Refusal {
+            line: 0,
+            code: Code::InputTooLong,
+        })),
+        Err(e) => Err(e),
+    }
+}
+
+/// What an input is.
+fn found_of(alloc: Global, input: &[u8]) -> Result<Found, AllocError>
+    ensures is { IfOk result (λ f. SessionIs input.now (found_of f)) }
+    ensures holds { IfOk result FoundHolds }
+{
+    match read_session(alloc, input) {
+        Ok(session) => Ok(Found::IsSession(session)),
+        Err(SessionError::Refused(refusal)) => Ok(Found::Refused(refusal)),
+        Err(SessionError::NoMemory) => Err(AllocError),
+    }
+}
