@@ -1,7 +1,9 @@
-//! Callers of the engine: one reads and applies, and one works together with another.
+//! Callers of the engine: one reads and applies, one works together with another, and two share a desk.
 #![tactic(auto)]
 
 #[cfg(test)]
 mod applying;
+#[cfg(test)]
+mod desk;
 #[cfg(test)]
 mod together;
