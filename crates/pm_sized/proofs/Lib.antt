@@ -1,3 +1,9 @@
 pub mod HalfLaws
 pub mod PairLaws
 pub mod FindLaws
+pub mod PartLaws
+pub mod LastLaws
+pub mod CopyLaws
+pub mod MergeLaws
+pub mod AppendLaws
+pub mod GrowLaws

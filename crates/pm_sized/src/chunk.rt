@@ -1,6 +1,7 @@
 //! One chunk, and how it grows before it is shared.
-ghost use Rattle.std.specs.Prelude.{◌≡◌, ◌+◌, ◌<◌, ◌≤◌, ◌^◌, [], ◌∷◌, ◌++◌, length, IfOk};
+ghost use Rattle.std.specs.Prelude.{◌≡◌, ◌+◌, ◌<◌, ◌≤◌, ◌^◌, [], ◌∷◌, ◌++◌, length, get_or, OnOk, OnErr};
 ghost use Rattle.pm_sized.specs.Pairs.{chunk_pairs, IsCounted, Grown};
+ghost use Rattle.pm_sized.specs.Parts.{Unchanged};
 
 use std::alloc::{AllocError, Global};
 
@@ -27,18 +28,44 @@ impl<T> Chunk<T> {
         }
     }
 
-    /// Puts an item behind the last one. After an error the chunk is of no use.
+    /// Puts an item behind the last one. For want of memory the chunk stays as it was, and the item is let go.
     pub(crate) fn push(&mut self, item: T, measure: usize) -> Result<(), AllocError>
     where
         T: Drop,
         requires counted { IsCounted self.old.items.items self.old.starts.items self.old.size }
         requires some { 1 ≤ measure }
         requires room { self.old.size + measure < 2 ^ 32 }
-        ensures { IfOk result (λ _. Grown self.old item measure self.new) }
+        ensures ok { OnOk result (Grown self.old item measure self.new) }
+        ensures err { OnErr result (Unchanged self.old self.new) }
     {
+        self.starts.reserve(1)?;
         self.items.push(item)?;
         self.starts.push(self.size)?;
         self.size += measure;
         Ok(())
+    }
+
+    /// Where item `i` ends in the chunk. It takes no memory.
+    fn end_of(&self, i: usize) -> usize
+        requires counted { IsCounted self.now.items.items self.now.starts.items self.now.size }
+        requires within { i < length self.now.items.items }
+        ensures { result ≡ get_or self.now.starts.items (i + 1) self.now.size }
+    {
+        let next = i + 1;
+        if next < self.starts.len() {
+            self.starts[next]
+        } else {
+            self.size
+        }
+    }
+
+    /// The measure of item `i`, counted from 0. It takes no memory.
+    pub(crate) fn measure(&self, i: usize) -> usize
+        requires counted { IsCounted self.now.items.items self.now.starts.items self.now.size }
+        requires within { i < length self.now.items.items }
+        ensures is { (x : T) → result ≡ (get_or (chunk_pairs self.now) i (x, 0)).1 }
+        ensures some { 1 ≤ result }
+    {
+        self.end_of(i) - self.starts[i]
     }
 }

@@ -1,7 +1,8 @@
 //! Items in chunks.
-ghost use Rattle.std.specs.Prelude.{◌≡◌, ◌+◌, ◌<◌, ◌≤◌, ◌^◌, [], ◌∷◌, ◌++◌, length, get_or, IfOk};
+ghost use Rattle.std.specs.Prelude.{◌≡◌, ◌+◌, ◌<◌, ◌≤◌, ◌^◌, [], ◌∷◌, ◌++◌, length, get_or, IfOk, OnOk, OnErr};
 ghost use Rattle.std.specs.Arc.{arc_value};
 ghost use Rattle.pm_sized.specs.Pairs.{chunk_pairs, all_pairs, pairs_of, total_of, EachCounts, IsChunk, AreFull, IsLaid, IsBuilt, built_pairs};
+ghost use Rattle.pm_sized.specs.Parts.{all_but_last};
 
 use crate::chunk::Chunk;
 use crate::halves::place;
@@ -84,8 +85,8 @@ impl<T> Chunks<T> {
         &self.chunks[at].items[i - self.firsts[at]]
     }
 
-    /// Puts a chunk behind the last one, which is shared, where each chunk has 32 items or more. After an error the chunks
-    /// are of no use.
+    /// Puts a chunk behind the last one, which is shared, where each chunk has 32 items or more. For want of memory the chunks
+    /// stay as they were.
     pub(crate) fn push_chunk(&mut self, chunk: Arc<Chunk<T>, Global>) -> Result<(), AllocError>
     where
         T: Drop,
@@ -94,17 +95,52 @@ impl<T> Chunks<T> {
         requires chunk { IsChunk (arc_value chunk) }
         requires few { length (pairs_of self.old) + length (chunk_pairs (arc_value chunk)) < 2 ^ 32 }
         requires room { total_of (pairs_of self.old) + total_of (chunk_pairs (arc_value chunk)) < 2 ^ 32 }
-        ensures chunks { IfOk result (λ _. self.new.chunks.items ≡ self.old.chunks.items ++ chunk ∷ []) }
-        ensures laid { IfOk result (λ _. IsLaid self.new) }
+        ensures chunks { OnOk result (self.new.chunks.items ≡ self.old.chunks.items ++ chunk ∷ []) }
+        ensures laid { IsLaid self.new }
+        ensures err { OnErr result (self.new.chunks.items ≡ self.old.chunks.items) }
     {
         let size = chunk.size;
         let count = chunk.items.len();
+        self.starts.reserve(1)?;
+        self.firsts.reserve(1)?;
         self.chunks.push(chunk)?;
         self.starts.push(self.total)?;
         self.firsts.push(self.len)?;
         self.total += size;
         self.len += count;
         Ok(())
+    }
+
+    /// Puts a chunk in the place of the last one, and answers that one. It takes no memory.
+    pub(crate) fn replace_last(&mut self, chunk: Arc<Chunk<T>, Global>) -> Arc<Chunk<T>, Global>
+        requires laid { IsLaid self.old }
+        requires some { 0 < length self.old.chunks.items }
+        requires chunk { IsChunk (arc_value chunk) }
+        requires few { length (all_pairs (all_but_last self.old.chunks.items)) + length (chunk_pairs (arc_value chunk)) < 2 ^ 32 }
+        requires room { total_of (all_pairs (all_but_last self.old.chunks.items)) + total_of (chunk_pairs (arc_value chunk)) < 2 ^ 32 }
+        ensures chunks { self.new.chunks.items ≡ all_but_last self.old.chunks.items ++ chunk ∷ [] }
+        ensures was { self.old.chunks.items ≡ all_but_last self.old.chunks.items ++ result ∷ [] }
+        ensures laid { IsLaid self.new }
+    {
+        let at = self.chunks.len() - 1;
+        self.total = self.starts[at] + chunk.size;
+        self.len = self.firsts[at] + chunk.items.len();
+        mem::replace(&mut self.chunks[at], chunk)
+    }
+
+    /// The same items, of which each chunk is shared with these.
+    pub fn copy(&self, alloc: Global) -> Result<Chunks<T>, AllocError>
+    where
+        T: Drop,
+        requires laid { IsLaid self.now }
+        ensures pairs { IfOk result (λ c. pairs_of c ≡ pairs_of self.now) }
+        ensures laid { IfOk result (λ c. IsLaid c) }
+    {
+        let mut made = Chunks::new(alloc);
+        for chunk in &self.chunks {
+            made.push_chunk(Arc::try_clone(chunk)?)?;
+        }
+        Ok(made)
     }
 }
 

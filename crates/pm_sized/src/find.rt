@@ -1,12 +1,13 @@
 //! Where a position stands.
-ghost use Rattle.std.specs.Prelude.{◌≤◌, ◌+◌, length};
+ghost use Rattle.std.specs.Prelude.{◌≡◌, ◌<◌, ◌≤◌, ◌+◌, length};
 ghost use Rattle.pm_sized.specs.Pairs.{pairs_of, total_of, IsLaid, Stands};
 ghost use Rattle.pm_sized.specs.Bound.{find_bound};
 
 use crate::chunks::Chunks;
 use crate::halves::search;
 use crate::steps::Steps;
-use std::sync::ledger::Ledger;
+use std::marker::Brand;
+use std::sync::ledger::{Blank, Ledger};
 
 /// Where a position stands among items.
 #[derive(Clone, Copy)]
@@ -41,4 +42,24 @@ impl<T> Chunks<T> {
             start: start + chunk.starts[i],
         }
     }
+    /// The same, where nobody counts. It takes no memory.
+    pub fn locate(&self, pos: usize) -> Found
+        requires laid { IsLaid self.now }
+        requires within { pos ≤ total_of (pairs_of self.now) }
+        ensures { Stands (pairs_of self.now) pos result.index result.start }
+    {
+        find_with::<T, Brand>(Blank::new(1), self, pos)
+    }
+}
+
+fn find_with<T, L: Ledger>(blank: Blank, chunks: &Chunks<T>, pos: usize) -> Found
+    requires name { blank.name ≡ L.name }
+    requires parts { blank.parts ≡ L.parts }
+    requires one { 0 < blank.parts }
+    requires laid { IsLaid chunks.now }
+    requires within { pos ≤ total_of (pairs_of chunks.now) }
+    ensures { Stands (pairs_of chunks.now) pos result.index result.start }
+{
+    let mut steps: Steps<L> = Steps::open(blank);
+    chunks.find(pos, &mut steps)
 }

@@ -1,10 +1,13 @@
 //! Items in shared chunks with their measures, found by halves.
 #![tactic(auto)]
 
+pub mod append;
 pub mod chunk;
 pub mod chunks;
 pub mod find;
+pub mod grow;
 pub mod halves;
+pub mod runs;
 pub mod steps;
 #[cfg(test)]
 mod tests;

@@ -1,6 +1,7 @@
-//! Each call once, on three items, and chunks within a tree.
-ghost use Rattle.std.specs.Prelude.{◌≡◌, ◌<◌, ◌≤◌};
+//! Each call once, on a few items, and chunks within a tree.
+ghost use Rattle.std.specs.Prelude.{◌≡◌, ◌<◌, ◌≤◌, length, IfOk};
 ghost use Rattle.pm_sized.specs.Pairs.{pairs_of, total_of, IsLaid};
+ghost use Rattle.pm_sized.specs.Parts.{values_of};
 
 use crate::{Chunks, Steps};
 use std::alloc::{AllocError, Global};
@@ -47,5 +48,38 @@ fn finds_items(rt: HostRuntime) -> Result<(), AllocError> {
     assert!(rt; found_with::<Brand>(Blank::new(1), &chunks, 1) == (0, 0));
     assert!(rt; found_with::<Brand>(Blank::new(1), &chunks, 2) == (1, 2));
     assert!(rt; found_with::<Brand>(Blank::new(1), &chunks, 6) == (3, 6));
+    Ok(())
+}
+
+/// The numbers from 0 on, so many, each with the measure 1.
+fn numbers(alloc: Global, count: usize) -> Result<Chunks<Arc<usize, Global>>, AllocError>
+    requires { count ≤ 1000 }
+    ensures laid { IfOk result (λ c. IsLaid c) }
+    ensures count { IfOk result (λ c. length (values_of c) ≡ count) }
+    ensures total { IfOk result (λ c. total_of (values_of c) ≡ count) }
+{
+    let mut made = Chunks::new(alloc);
+    for i in 0..count {
+        made.push(alloc, Arc::new(alloc, i)?, 1)?;
+    }
+    Ok(made)
+}
+
+#[test]
+fn shares_items(rt: HostRuntime) -> Result<(), AllocError> {
+    let alloc = rt.alloc();
+    let mut chunks = numbers(alloc, 100)?;
+    let copied = chunks.copy(alloc)?;
+    let cut = copied.cut(alloc, 40, 90)?;
+    chunks.append(alloc, &cut, 5, 45)?;
+    chunks.set_last(alloc, Arc::new(alloc, 7)?, 3)?;
+    assert!(rt; chunks.len() == 140);
+    assert!(rt; chunks.total() == 142);
+    assert!(rt; **chunks.item(99) == 99);
+    assert!(rt; **chunks.item(100) == 45);
+    assert!(rt; **chunks.item(138) == 83);
+    assert!(rt; **chunks.item(139) == 7);
+    assert!(rt; chunks.locate(141).index == 139);
+    assert!(rt; chunks.locate(141).start == 139);
     Ok(())
 }

@@ -36,9 +36,9 @@ loop-item-preserved g c =
     let last = c.make_room.new.tail in (
       tt,
       tt,
-      built-grown made last c.push.new.self c.in-Some.item c.in-Some.measure r.built r.fewer c.in_ok-push.ensures,
+      built-grown made last c.push.new.self c.in-Some.item c.in-Some.measure r.built r.fewer c.in_ok-push.ensures.ok,
       pairs-grown made last c.push.new.self c.in-Some.item c.in-Some.measure (built_pairs l.made l.tail) l.item-iterator.rest.items c.next.new.self.rest.items c.args.items.items
-          c.in_ok-push.ensures r.pairs c.in-Some.ensures.steps.0 l.invariant.3,
+          c.in_ok-push.ensures.ok r.pairs c.in-Some.ensures.steps.0 l.invariant.3,
     )
 
 pub finish-requires-clause-few : goal.finish-requires-clause-few

@@ -1,0 +1,65 @@
+-- Parts of items in chunks, and items that are shared.
+use Rattle.std.specs.Prelude.{◌≡◌, ℕ, ◌+◌, ◌-◌, ◌≤◌, ◌<◌, Option, Some, None, List, [], ◌∷◌, ◌++◌, length, take, drop, get_or}
+use Rattle.std.specs.declared.sync.Arc.{Arc}
+use Rattle.std.specs.declared.alloc.Global.{Global}
+use Rattle.std.specs.Arc.{arc_value}
+use Rattle.pm_sized.specs.declared.chunk.Chunk.{Chunk}
+use Rattle.pm_sized.specs.declared.chunks.Chunks.{Chunks}
+use Rattle.pm_sized.specs.Pairs.{chunk_pairs, pairs_of, IsChunk}
+
+-- those from number `from` on and before number `to`
+abbrev pub part : {A : Type 0} → ℕ → ℕ → List A → List A
+part from to xs = take (to - from) (drop from xs)
+
+abbrev pub all_but_last : {A : Type 0} → List A → List A
+all_but_last xs = take (length xs - 1) xs
+
+-- the items without their measures
+abbrev pub items_in : {T : Type 0} → List (T × ℕ) → List T
+items_in [] = []
+items_in (p ∷ ps) = p.0 ∷ items_in ps
+
+-- Items that are shared, each as the value that is shared, with its measure.
+abbrev pub values_in : {T Z : Type 0} → List (Arc T Z × ℕ) → List (T × ℕ)
+values_in [] = []
+values_in (p ∷ ps) = (arc_value p.0, p.1) ∷ values_in ps
+
+abbrev pub chunk_values : {T : Type 0} → Chunk (Arc T Global) → List (T × ℕ)
+chunk_values c = values_in (chunk_pairs c)
+
+abbrev pub values_of : {T : Type 0} → Chunks (Arc T Global) → List (T × ℕ)
+values_of c = values_in (pairs_of c)
+
+-- a chunk that stayed as it was
+pub record Unchanged {T : Type 0} (old new : Chunk T) : Type 0 where
+  pub items : new.items.items ≡ old.items.items
+  pub starts : new.starts.items ≡ old.starts.items
+  pub size : new.size ≡ old.size
+
+-- a chunk of the values from number i on, which end at `to` or before
+pub record IsRun {T : Type 0} (all : List (T × ℕ)) (i to : ℕ) (c : Chunk (Arc T Global)) : Type 0 where
+  pub chunk : IsChunk c
+  pub within : i + length c.items.items ≤ to
+  pub values : chunk_values c ≡ part i (i + length c.items.items) all
+
+-- there is a last chunk, and it has fewer than 32 items
+abbrev pub HasShortLast : {T : Type 0} → List (Arc (Chunk T) Global) → Type 0
+HasShortLast cs = (0 < length cs) × ((c : Arc (Chunk _) Global) → c ≡ get_or cs (length cs - 1) c → length (arc_value c).items.items < 32)
+
+-- n of the values from i on, and none from `to` on, were put behind those that were there
+pub record Appended {T : Type 0} (before all : List (T × ℕ)) (i to n : ℕ) (after : List (T × ℕ)) : Type 0 where
+  pub some : 0 < n
+  pub within : i + n ≤ to
+  pub values : after ≡ before ++ part i (i + n) all
+
+-- the item is behind the others, or came back, and nothing changed
+abbrev pub HasGrown : {T : Type 0} → List (T × ℕ) → T → ℕ → Option T → List (T × ℕ) → Type 0
+HasGrown before item measure None after = after ≡ before ++ (item, measure) ∷ []
+HasGrown before item measure (Some back) after = (back ≡ item) × (after ≡ before)
+
+-- the values from..until of the values from..to were put behind those that were there
+pub record HasFirst {T : Type 0} (before all : List (T × ℕ)) (from to : ℕ) (after : List (T × ℕ)) : Type 0 where
+  pub until : ℕ
+  pub from_on : from ≤ until
+  pub within : until ≤ to
+  pub values : after ≡ before ++ part from until all

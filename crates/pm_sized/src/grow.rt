@@ -1,0 +1,173 @@
+//! Shared items, one by one behind the others, and chunks of them.
+ghost use Rattle.std.specs.Prelude.{◌≡◌, ◌+◌, ◌-◌, ◌<◌, ◌≤◌, ◌^◌, [], ◌∷◌, ◌++◌, length, take, true, false, IfOk, OnOk, OnErr};
+ghost use Rattle.std.specs.Arc.{arc_value};
+ghost use Rattle.pm_sized.specs.Pairs.{pairs_of, all_pairs, chunk_pairs, total_of, IsLaid, IsChunk, AreFull};
+ghost use Rattle.pm_sized.specs.Parts.{all_but_last, chunk_values, values_of, HasShortLast, HasGrown};
+
+use crate::chunk::Chunk;
+use crate::chunks::{CHUNK, Chunks};
+use crate::runs::{extended, run};
+use std::alloc::{AllocError, Global};
+use std::sync::Arc;
+
+/// The greatest number of items of a chunk.
+const MOST: usize = 63;
+
+impl<T: Drop> Chunks<T> {
+    /// Puts an item behind the last one, in its chunk, where that has fewer than 32 items and nothing else shares it. Else the
+    /// item comes back, and nothing changes. For want of memory the items stay as they were, and this one is let go.
+    fn grow(&mut self, item: T, measure: usize) -> Result<Option<T>, AllocError>
+        requires laid { IsLaid self.old }
+        requires some { 1 ≤ measure }
+        requires room { total_of (pairs_of self.old) + measure < 2 ^ 32 }
+        ensures laid { IsLaid self.new }
+        ensures ok { IfOk result (λ back. HasGrown (pairs_of self.old) item measure back (pairs_of self.new)) }
+        ensures err { OnErr result (pairs_of self.new ≡ pairs_of self.old) }
+    {
+        let count = self.chunks.len();
+        if count == 0 || self.chunks[count - 1].items.len() >= CHUNK {
+            return Ok(Some(item));
+        }
+        match Arc::get_mut(&mut self.chunks[count - 1]) {
+            None => return Ok(Some(item)),
+            Some(chunk) => chunk.push(item, measure)?,
+        }
+        self.total += measure;
+        self.len += 1;
+        Ok(None)
+    }
+}
+
+impl<T: Drop> Chunks<Arc<T, Global>> {
+    /// Puts an item behind the last one. For want of memory the items stay as they were, and this one is let go.
+    pub fn push(
+        &mut self,
+        alloc: Global,
+        item: Arc<T, Global>,
+        measure: usize,
+    ) -> Result<(), AllocError>
+        requires laid { IsLaid self.old }
+        requires some { 1 ≤ measure }
+        requires room { total_of (values_of self.old) + measure < 2 ^ 32 }
+        ensures laid { IsLaid self.new }
+        ensures ok { OnOk result (values_of self.new ≡ values_of self.old ++ (arc_value item, measure) ∷ []) }
+        ensures err { OnErr result (values_of self.new ≡ values_of self.old) }
+    {
+        if let Some(item) = self.grow(item, measure)? {
+            let mut one = Chunk::new(alloc);
+            one.push(item, measure)?;
+            self.put(alloc, Arc::new(alloc, one)?)?;
+        }
+        Ok(())
+    }
+
+    /// Puts an item in the place of the last one. For want of memory that one stays.
+    pub fn set_last(
+        &mut self,
+        alloc: Global,
+        item: Arc<T, Global>,
+        measure: usize,
+    ) -> Result<(), AllocError>
+        requires laid { IsLaid self.old }
+        requires some { 0 < length (values_of self.old) }
+        requires counts { 1 ≤ measure }
+        requires room { total_of (all_but_last (values_of self.old)) + measure < 2 ^ 32 }
+        ensures laid { IsLaid self.new }
+        ensures ok { OnOk result (values_of self.new ≡ all_but_last (values_of self.old) ++ (arc_value item, measure) ∷ []) }
+        ensures err { OnErr result (values_of self.new ≡ values_of self.old) }
+    {
+        let last = &self.chunks[self.chunks.len() - 1];
+        let mut made = Chunk::new(alloc);
+        made.append_run(last, 0, last.items.len() - 1)?;
+        made.push(item, measure)?;
+        let _ = self.replace_last(Arc::new(alloc, made)?);
+        Ok(())
+    }
+
+    /// Puts a chunk behind the others, which is shared where the last one has 32 items or more. Else its items are put behind
+    /// those of the last chunk as far as they have room there, and the others behind it. For want of memory the items stay as
+    /// they were.
+    pub(crate) fn put(
+        &mut self,
+        alloc: Global,
+        chunk: Arc<Chunk<Arc<T, Global>>, Global>,
+    ) -> Result<(), AllocError>
+        requires laid { IsLaid self.old }
+        requires chunk { IsChunk (arc_value chunk) }
+        requires room { total_of (values_of self.old) + total_of (chunk_values (arc_value chunk)) < 2 ^ 32 }
+        ensures laid { IsLaid self.new }
+        ensures ok { OnOk result (values_of self.new ≡ values_of self.old ++ chunk_values (arc_value chunk)) }
+        ensures err { OnErr result (values_of self.new ≡ values_of self.old) }
+    {
+        if self.ends_short() {
+            return self.merge(alloc, chunk);
+        }
+        self.push_chunk(chunk)?;
+        Ok(())
+    }
+
+    /// Whether there is a last chunk, of fewer than 32 items.
+    fn ends_short(&self) -> bool
+        requires laid { IsLaid self.now }
+        ensures yes { result ≡ true → HasShortLast self.now.chunks.items }
+        ensures no { result ≡ false → AreFull self.now.chunks.items }
+    {
+        let count = self.chunks.len();
+        count > 0 && self.chunks[count - 1].items.len() < CHUNK
+    }
+
+    /// Puts a chunk's items behind those of the last chunk, which has fewer than 32: all where they are 63 at most together,
+    /// else so many that it has 32.
+    fn merge(
+        &mut self,
+        alloc: Global,
+        chunk: Arc<Chunk<Arc<T, Global>>, Global>,
+    ) -> Result<(), AllocError>
+        requires laid { IsLaid self.old }
+        requires short { HasShortLast self.old.chunks.items }
+        requires chunk { IsChunk (arc_value chunk) }
+        requires room { total_of (values_of self.old) + total_of (chunk_values (arc_value chunk)) < 2 ^ 32 }
+        ensures laid { IsLaid self.new }
+        ensures ok { OnOk result (values_of self.new ≡ values_of self.old ++ chunk_values (arc_value chunk)) }
+        ensures err { OnErr result (values_of self.new ≡ values_of self.old) }
+    {
+        let last = &self.chunks[self.chunks.len() - 1];
+        let count = chunk.items.len();
+        if last.items.len() + count <= MOST {
+            let all = extended(alloc, last, &chunk, count)?;
+            let _ = self.replace_last(all);
+            return Ok(());
+        }
+        let taken = CHUNK - last.items.len();
+        let full = extended(alloc, last, &chunk, taken)?;
+        let rest = run(alloc, &chunk, taken, count)?;
+        self.replace_by_two(full, rest)?;
+        Ok(())
+    }
+
+    /// Puts two chunks in the place of the last one. For want of memory it stays.
+    fn replace_by_two(
+        &mut self,
+        full: Arc<Chunk<Arc<T, Global>>, Global>,
+        rest: Arc<Chunk<Arc<T, Global>>, Global>,
+    ) -> Result<(), AllocError>
+        requires laid { IsLaid self.old }
+        requires some { 0 < length self.old.chunks.items }
+        requires full { IsChunk (arc_value full) }
+        requires enough { 32 ≤ length (arc_value full).items.items }
+        requires rest { IsChunk (arc_value rest) }
+        requires room { total_of (all_pairs (all_but_last self.old.chunks.items)) + total_of (chunk_pairs (arc_value full)) + total_of (chunk_pairs (arc_value rest)) < 2 ^ 32 }
+        ensures laid { IsLaid self.new }
+        ensures ok { OnOk result (self.new.chunks.items ≡ (all_but_last self.old.chunks.items ++ full ∷ []) ++ rest ∷ []) }
+        ensures err { OnErr result (self.new.chunks.items ≡ self.old.chunks.items) }
+    {
+        let last = self.replace_last(full);
+        match self.push_chunk(rest) {
+            Ok(()) => Ok(()),
+            Err(AllocError) => {
+                let _ = self.replace_last(last);
+                Err(AllocError)
+            }
+        }
+    }
+}

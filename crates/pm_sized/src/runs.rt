@@ -1,0 +1,76 @@
+//! Chunks made of runs of shared items.
+ghost use Rattle.std.specs.Prelude.{◌≡◌, ◌+◌, ◌-◌, ◌<◌, ◌≤◌, ◌^◌, ◌++◌, length, take, IfOk, OnOk};
+ghost use Rattle.std.specs.Arc.{arc_value};
+ghost use Rattle.pm_sized.specs.Pairs.{total_of, IsCounted, IsChunk};
+ghost use Rattle.pm_sized.specs.Parts.{part, chunk_values};
+
+use crate::chunk::Chunk;
+use std::alloc::{AllocError, Global};
+use std::sync::Arc;
+
+impl<T: Drop> Chunk<Arc<T, Global>> {
+    /// Puts the items from..to of another chunk behind the last one, shared with it. After an error the chunk is of no use.
+    pub(crate) fn append_run(
+        &mut self,
+        source: &Chunk<Arc<T, Global>>,
+        from: usize,
+        to: usize,
+    ) -> Result<(), AllocError>
+        requires counted { IsCounted self.old.items.items self.old.starts.items self.old.size }
+        requires source { IsCounted source.now.items.items source.now.starts.items source.now.size }
+        requires order { from ≤ to }
+        requires within { to ≤ length source.now.items.items }
+        requires room { self.old.size + source.now.size < 2 ^ 32 }
+        ensures counted { OnOk result (IsCounted self.new.items.items self.new.starts.items self.new.size) }
+        ensures values { OnOk result (chunk_values self.new ≡ chunk_values self.old ++ part from to (chunk_values source.now)) }
+        ensures count { OnOk result (length self.new.items.items ≡ length self.old.items.items + (to - from)) }
+    {
+        for i in from..to {
+            let item = Arc::try_clone(&source.items[i])?;
+            self.push(item, source.measure(i))?;
+        }
+        Ok(())
+    }
+}
+
+/// The items from..to of a chunk, as one of their own.
+pub(crate) fn run<T: Drop>(
+    alloc: Global,
+    source: &Chunk<Arc<T, Global>>,
+    from: usize,
+    to: usize,
+) -> Result<Arc<Chunk<Arc<T, Global>>, Global>, AllocError>
+    requires source { IsChunk source.now }
+    requires bound { source.now.size < 2 ^ 32 }
+    requires order { from < to }
+    requires within { to ≤ length source.now.items.items }
+    ensures chunk { IfOk result (λ c. IsChunk (arc_value c)) }
+    ensures values { IfOk result (λ c. chunk_values (arc_value c) ≡ part from to (chunk_values source.now)) }
+    ensures count { IfOk result (λ c. length (arc_value c).items.items ≡ to - from) }
+{
+    let mut made = Chunk::new(alloc);
+    made.append_run(source, from, to)?;
+    Ok(Arc::new(alloc, made)?)
+}
+
+/// A chunk, with the first `count` items of another one behind.
+pub(crate) fn extended<T: Drop>(
+    alloc: Global,
+    chunk: &Chunk<Arc<T, Global>>,
+    more: &Chunk<Arc<T, Global>>,
+    count: usize,
+) -> Result<Arc<Chunk<Arc<T, Global>>, Global>, AllocError>
+    requires chunk { IsChunk chunk.now }
+    requires more { IsChunk more.now }
+    requires room { chunk.now.size + more.now.size < 2 ^ 32 }
+    requires within { count ≤ length more.now.items.items }
+    requires few { length chunk.now.items.items + count ≤ 63 }
+    ensures chunk { IfOk result (λ c. IsChunk (arc_value c)) }
+    ensures values { IfOk result (λ c. chunk_values (arc_value c) ≡ chunk_values chunk.now ++ take count (chunk_values more.now)) }
+    ensures count { IfOk result (λ c. length (arc_value c).items.items ≡ length chunk.now.items.items + count) }
+{
+    let mut made = Chunk::new(alloc);
+    made.append_run(chunk, 0, chunk.items.len())?;
+    made.append_run(more, 0, count)?;
+    Ok(Arc::new(alloc, made)?)
+}
