@@ -1,0 +1,4 @@
+pub mod KnownLaws
+pub mod SeenLaws
+pub mod Boundaries
+pub mod Walks

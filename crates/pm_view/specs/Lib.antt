@@ -1,0 +1,5 @@
+pub mod Known
+pub mod Views
+pub mod Seen
+pub mod Parts
+pub mod Codes

@@ -1,0 +1,11 @@
+//! Views: the tokens of a part of a document, lent and not copied.
+#![tactic(auto)]
+
+mod part;
+mod slice_view;
+mod tokens;
+mod walk;
+
+pub use part::{Part, TextRun};
+pub use slice_view::{SliceView, view};
+pub use tokens::Tokens;
