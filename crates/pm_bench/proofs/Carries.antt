@@ -1,6 +1,7 @@
 -- Mappings that grow by maps of one range.
-use Rattle.std.specs.Prelude.{◌≡◌, ℕ, ℤ, ◌+◌, ◌-◌, ◌≤◌, ◌<◌, ◌^◌, List, [], ◌∷◌, length, None}
+use Rattle.std.specs.Prelude.{◌≡◌, ℕ, ◌+◌, ◌-◌, ◌≤◌, ◌<◌, ◌^◌, List, [], ◌∷◌, length, None}
 use Rattle.std.proofs.Common.{arith, ap}
+use Rattle.pm_map.specs.declared.side.Side.{Side}
 use Rattle.pm_map.specs.declared.step_map.Span.{Span}
 use Rattle.pm_map.specs.declared.mapping.Mirrored.{Mirrored}
 use Rattle.pm_map.specs.declared.step_map.Moved.{Moved}
@@ -31,7 +32,7 @@ around ms r s n k small within small2 within2 h =
     (inverted-fits (r ∷ []) n ((n - r.old_size) + r.new_size) (one-fits r n within)) (behind ms s n k small2 within2 h)
 
 -- a position within the first size comes out within the last
-pub lands : (ms : List Mirrored) (n k p : ℕ) (side : ℤ) (m : Moved) → ArePaired ms → FitBetween ms n k → p ≤ n → m ≡ through ms p side → m.pos ≤ k
+pub lands : (ms : List Mirrored) (n k p : ℕ) (side : Side) (m : Moved) → ArePaired ms → FitBetween ms n k → p ≤ n → m ≡ through ms p side → m.pos ≤ k
 lands ms n k p side m paired fits within is =
     let there = (position-fits ms n k p side paired fits within).1 in
     omega (arith, ap (λ (x : Moved). x.pos) is, there)

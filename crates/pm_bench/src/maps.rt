@@ -1,13 +1,12 @@
 //! Maps of pending steps that are carried over foreign ones, as a client does when it takes foreign steps.
 ghost use Rattle.std.specs.Prelude.{◌≡◌, ◌+◌, ◌-◌, ◌*◌, ◌≤◌, ◌<◌, ◌^◌, ◌∷◌, [], length, IfOk};
-ghost use Rattle.pm_map.specs.Moves.{IsSide};
 ghost use Rattle.pm_map.specs.Fits.{FitBetween, FitsSizes};
 
 use crate::numbers::Numbers;
 use crate::round::Round;
 use crate::time::nanos_since;
 use anyhow::Result;
-use pm_map::{Mapping, Span, StepMap};
+use pm_map::{Mapping, Side, Span, StepMap};
 use std::alloc::{AllocError, Global};
 use std::rt::Clock;
 use std::time::Instant;
@@ -100,8 +99,8 @@ fn carry(mapping: &mut Mapping, numbers: &mut Numbers, ends: Ends) -> Result<End
 {
     let range = range_in(numbers, ends.first);
     mapping.paired();
-    let from = mapping.map(range.start, 1);
-    let to = mapping.map(range.start + range.old_size, -1);
+    let from = mapping.map(range.start, Side::After);
+    let to = mapping.map(range.start + range.old_size, Side::Before);
     let back = map_of(range).inverted();
     let first = ends.first - range.old_size + range.new_size;
     let sum = ends.sum.wrapping_add(from.pos).wrapping_add(to.pos);
@@ -152,7 +151,11 @@ fn map_all(mapping: &Mapping, first: u64, last: u64) -> u64
     let _ = last;
     for i in 0..POSITIONS {
         let pos = numbers.below(first + 1);
-        let side = if i % 2 == 0 { 1 } else { -1 };
+        let side = if i % 2 == 0 {
+            Side::After
+        } else {
+            Side::Before
+        };
         sum = sum.wrapping_add(mapping.map(pos, side).pos);
     }
     sum

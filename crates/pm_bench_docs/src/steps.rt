@@ -6,8 +6,8 @@ use crate::round::Round;
 use crate::time::nanos_since;
 use anyhow::{Result, bail};
 use pm_change::Change;
-use pm_map::StepMap;
 use pm_map::laws::fits_both_ways;
+use pm_map::{Side, StepMap};
 use std::alloc::Global;
 use std::rt::Clock;
 use std::time::Instant;
@@ -89,7 +89,7 @@ fn sum_over(map: &StepMap, size: u64) -> u64
     let mut sum: u64 = 0;
     for i in 0..POSITIONS {
         let pos = (i * APART).min(size);
-        sum = sum.wrapping_add(map.map(pos, 1).pos);
+        sum = sum.wrapping_add(map.map(pos, Side::After).pos);
     }
     sum
 }

@@ -7,7 +7,7 @@ use Rattle.pm_authority.specs.declared.named.Named.{Named}
 use Rattle.pm_authority.specs.declared.running.Refusal.{Refusal}
 use Rattle.pm_authority.specs.Runs.{run, changes_of, AllApply}
 use Rattle.pm_authority.proofs.RunFolds.{run-fold}
-use Rattle.pm_history.specs.declared.branches.Side.TheVariants.{Edit}
+use Rattle.pm_history.specs.declared.branches.MadeBy.TheVariants.{Edit}
 use Rattle.pm_history.specs.Histories.{noted_all}
 use Rattle.pm_history.specs.Timelines.{items_from}
 use Rattle.pm_client.specs.declared.client.Client.{Client}

@@ -1,11 +1,11 @@
 -- Each call keeps how its client stands to the log, and each growth of the log keeps it too.
-use Rattle.std.specs.Prelude.{◌≡◌, ℕ, ℤ, ◌+◌, ◌≤◌, ◌<◌, ◌⊎◌, true, false, nat_lt, List, [], ◌∷◌, ◌++◌, length, drop, Option, Some, Result, Ok, Err, refl}
+use Rattle.std.specs.Prelude.{◌≡◌, ℕ, ◌+◌, ◌≤◌, ◌<◌, ◌⊎◌, true, false, nat_lt, List, [], ◌∷◌, ◌++◌, length, drop, Option, Some, Result, Ok, Err, refl}
 use Rattle.std.proofs.Common.{sym, subst, ap, ◌∙◌, inl, inr, arith, length-append, length-drop, append_assoc, append-nil}
 use Rattle.std.proofs.Math.Seq.{drop-append_seam}
 use Rattle.std.proofs.lemmas.List.Elements.{All-from_recursion}
 use Rattle.std.proofs.lemmas.Bool.{ltb-true, ltb-false}
 use Rattle.std.specs.List.{AllByRecursion as Each}
-use Rattle.pm_map.specs.Moves.{IsSide}
+use Rattle.pm_map.specs.declared.side.Side.{Side}
 use Rattle.pm_change.specs.Changes.{Meaning, Laws, fold}
 use Rattle.pm_change.proofs.Folds.{fold-append, fold-good}
 use Rattle.pm_authority.specs.declared.named.Named.{Named}
@@ -17,7 +17,7 @@ use Rattle.pm_authority.specs.declared.message.Answer.TheVariants.{Accepted, Wro
 use Rattle.pm_authority.specs.Runs.{run, changes_of, AllApply}
 use Rattle.pm_authority.proofs.RunFolds.{changes-append, run-fold}
 use Rattle.pm_history.specs.declared.branches.Branches.{Branches}
-use Rattle.pm_history.specs.declared.branches.Side.TheVariants.{Edit}
+use Rattle.pm_history.specs.declared.branches.MadeBy.TheVariants.{Edit}
 use Rattle.pm_history.specs.Histories.{noted_all}
 use Rattle.pm_history.specs.Timelines.{Step, changes_of as steps_changes, items_from}
 use Rattle.pm_history.specs.Standing.{IsHistoryOf}
@@ -25,8 +25,8 @@ use Rattle.pm_history.proofs.Grows.{history-new}
 use Rattle.pm_history.proofs.Rebased.{items-length}
 use Rattle.pm_history.proofs.Calls.{history-call}
 use Rattle.pm_client.specs.declared.client.Client.{Client}
-use Rattle.pm_client.specs.declared.taken.Kind.{Kind}
-use Rattle.pm_client.specs.declared.taken.Kind.TheVariants.{Submit as ToSubmit, Ask as ToAsk}
+use Rattle.pm_client.specs.declared.taken.MessageKind.{MessageKind}
+use Rattle.pm_client.specs.declared.taken.MessageKind.TheVariants.{Submit as ToSubmit, Ask as ToAsk}
 use Rattle.pm_client.specs.Clients.{named, new_client, gone_on, tried, edited, message_of, composed, kept, confirmed, brought, cursor_set}
 use Rattle.pm_client.specs.Kins.{IsOwn, IsForeign, IsPrefix, IsPart, MessageStands, AnswerStands, Past, Kin}
 use Rattle.pm_client.proofs.Lists.{All-more, All-push, Each-append, Each-front, Each-back, nothing}
@@ -177,7 +177,7 @@ module _ {Rules Doc Reason C : Type 0} (m : Meaning Rules Doc Reason C) (rules :
   kin-edited laws cs event next h = kin-tried laws cs event next (run m rules c.doc 0 (named c.name (c.serials + 1) cs)) refl h
 
   -- a message composed
-  pub kin-composed : (kind : Kind) → Kin m rules first log (composed c kind)
+  pub kin-composed : (kind : MessageKind) → Kin m rules first log (composed c kind)
   kin-composed kind = record {
     before = kin.before;
     past = kin.past;
@@ -200,13 +200,13 @@ module _ {Rules Doc Reason C : Type 0} (m : Meaning Rules Doc Reason C) (rules :
     answers = kin.answers;
   }
     where
-      new : (kind : Kind) → MessageStands c.version c.pending (message_of c kind)
+      new : (kind : MessageKind) → MessageStands c.version c.pending (message_of c kind)
       new ToSubmit = (omega arith, λ e. ([], append-nil c.pending))
       new ToAsk = omega arith
 
   -- a cursor set
-  pub kin-cursor : (p : ℕ) (side : ℤ) → p ≤ m.size c.doc → IsSide side → Kin m rules first log (cursor_set c p side)
-  kin-cursor p side within is_side = record {
+  pub kin-cursor : (p : ℕ) (side : Side) → p ≤ m.size c.doc → Kin m rules first log (cursor_set c p side)
+  kin-cursor p side within = record {
     before = kin.before;
     past = kin.past;
     standing = kin.standing;
@@ -217,7 +217,7 @@ module _ {Rules Doc Reason C : Type 0} (m : Meaning Rules Doc Reason C) (rules :
     first_good = kin.first_good;
     log_applies = kin.log_applies;
     own = kin.own;
-    cursors = Each-append (IsWithin (m.size c.doc)) c.cursors (cursor p side ∷ []) kin.cursors ((within, is_side), tt);
+    cursors = Each-append (IsWithin (m.size c.doc)) c.cursors (cursor p side ∷ []) kin.cursors (within, tt);
     parted = kin.parted;
     stands = kin.stands;
     timeline = kin.timeline;

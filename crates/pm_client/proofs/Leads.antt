@@ -1,6 +1,7 @@
--- A cursor with side 1 before a named token stays before it over the mapping of a rebase.
+-- A cursor with side `After` before a named token stays before it over the mapping of a rebase.
 use Rattle.std.specs.Prelude.{◌≡◌, ℕ, zero, suc, pos, ◌+◌, ◌-◌, ◌≤◌, ◌<◌, Bool, false, List, [], ◌∷◌, ◌++◌, length, take, drop, slice_get, map, Option, Some, None, refl}
 use Rattle.std.proofs.Common.{arith, sym, ap, ◌∙◌, subst, length-drop}
+use Rattle.pm_map.specs.declared.side.Side.TheVariants.{After}
 use Rattle.pm_map.specs.declared.step_map.Span.{Span}
 use Rattle.pm_map.specs.declared.step_map.Moved.{Moved}
 use Rattle.pm_map.specs.declared.step_map.Recover.{Recover}
@@ -117,9 +118,9 @@ module _ where
   abbrev pub Unseen : (ℕ → Token) → List Token → Type 0
   Unseen fresh xs = (j : ℕ) → Has xs (fresh j) → ⊥
 
-  -- a cursor with side 1 before a token of the old document that is in the new one stands before it there
+  -- a cursor with side `After` before a token of the old document that is in the new one stands before it there
   abbrev pub Leads : List Mirrored → List Token → List Token → Type 0
-  Leads ms old new = (p : ℕ) (t : Token) → slice_get old p ≡ Some t → Has new t → slice_get new (through ms p (pos 1)).pos ≡ Some t
+  Leads ms old new = (p : ℕ) (t : Token) → slice_get old p ≡ Some t → Has new t → slice_get new (through ms p After).pos ≡ Some t
 
   module _ (fresh : ℕ → Token) (rs : List Span) (n k : ℕ) (ms : List Mirrored) (old new : List Token) (fits : FitsSizes rs n k) (apart : Unpinched rs) (size : length old ≡ n) (leads : Leads ms old new) where
     from-old : (p : ℕ) (t : Token) → slice_get (spliced fresh rs old) p ≡ Some t → Origin fresh rs 0 0 0 old (moved_from (inverted_ranges rs) 0 0 0 p false) t

@@ -28,8 +28,8 @@ pub cursors-move : (ms : List Mirrored) (n k : ℕ) → ArePaired ms → FitBetw
 cursors-move ms n k paired fits [] h = (tt, tt)
 cursors-move ms n k paired fits (c ∷ cs) h =
     let go = cursors-move ms n k paired fits cs h.1 in
-    let here = position-fits ms n k c.pos c.side paired fits h.0.0 in
-    (((h.0.1, here.0), go.0), ((here.1, h.0.1), go.1))
+    let here = position-fits ms n k c.pos c.side paired fits h.0 in
+    ((here.0, go.0), (here.1, go.1))
 
 pub cursors-room : (ms : List Mirrored) (n k : ℕ) → ArePaired ms → FitBetween ms n k → (cs : List Cursor) → AreWithin n cs → All (HasRoomIn ms) cs
 cursors-room ms n k paired fits cs h = All-from_recursion (HasRoomIn ms) cs (cursors-move ms n k paired fits cs h).0

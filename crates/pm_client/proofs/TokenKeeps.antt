@@ -3,6 +3,7 @@ use Rattle.std.specs.Prelude.{◌≡◌, ℕ, zero, suc, pos, ◌+◌, ◌-◌, 
 use Rattle.std.specs.List.{AllByRecursion as Each}
 use Rattle.std.proofs.Common.{true, arith, sym, ap, ◌∙◌, subst, append_assoc, append-nil, length-append}
 use Rattle.std.proofs.Math.Seq.{drop-append_seam}
+use Rattle.pm_map.specs.declared.side.Side.TheVariants.{After}
 use Rattle.pm_map.specs.Through.{through}
 use Rattle.pm_change.specs.Changes.{Meaning, Laws, fold}
 use Rattle.pm_change.proofs.Folds.{fold-cons}
@@ -11,7 +12,7 @@ use Rattle.pm_authority.specs.declared.running.Refusal.{Refusal}
 use Rattle.pm_authority.specs.Runs.{run, changes_of, AllApply}
 use Rattle.pm_authority.proofs.RunFolds.{run-fold}
 use Rattle.pm_history.specs.declared.branches.Branches.{Branches}
-use Rattle.pm_history.specs.declared.branches.Side.TheVariants.{Edit}
+use Rattle.pm_history.specs.declared.branches.MadeBy.TheVariants.{Edit}
 use Rattle.pm_history.specs.Histories.{noted_all}
 use Rattle.pm_history.specs.Timelines.{items_from}
 use Rattle.pm_client.specs.declared.client.Client.{Client}
@@ -210,9 +211,9 @@ module _ {Rules Doc Reason C : Type 0} (m : Meaning Rules Doc Reason C) (rules :
       let same : names_after m (names_after m names (passed log c.version (c.version + (kin.standing + length front)))) r.kept ≡ names_after m (names_after m shared front) r.kept =
       ap (λ l. names_after m (names_after m names l) r.kept) went ∙ ap (λ l. names_after m l r.kept) (names-append m names s.standing front) in
       let there : Has (names_after m (names_after m shared front) r.kept) t = (after.0, ap (λ l. slice_get l after.0) (sym same) ∙ after.1) in (
-        (through r.maps p (pos 1)).pos,
-        get-map (moved_cursor r.maps) c.cursors i (cursor p (pos 1)) at,
-        ap (λ l. slice_get l (through r.maps p (pos 1)).pos) same ∙ leads p t was there,
+        (through r.maps p After).pos,
+        get-map (moved_cursor r.maps) c.cursors i (cursor p After) at,
+        ap (λ l. slice_get l (through r.maps p After).pos) same ∙ leads p t was there,
       )
 
   -- own steps were made
@@ -230,9 +231,9 @@ module _ {Rules Doc Reason C : Type 0} (m : Meaning Rules Doc Reason C) (rules :
       let same : names_after m (names_after m names (passed log c.version c.version)) (c.pending ++ new) ≡ names_after m old new =
       ap (λ l. names_after m (names_after m names l) (c.pending ++ new)) none-passed ∙ names-append m names c.pending new in
       let there : Has (names_after m old new) t = (after.0, ap (λ l. slice_get l after.0) (sym same) ∙ after.1) in (
-        (through (maps_of m new) p (pos 1)).pos,
-        get-map (moved_cursor (maps_of m new)) c.cursors i (cursor p (pos 1)) at,
-        ap (λ l. slice_get l (through (maps_of m new) p (pos 1)).pos) same ∙ leads p t before there,
+        (through (maps_of m new) p After).pos,
+        get-map (moved_cursor (maps_of m new)) c.cursors i (cursor p After) at,
+        ap (λ l. slice_get l (through (maps_of m new) p After).pos) same ∙ leads p t before there,
       )
 
   pub gone_on-keeps : (cs : List C) (doc : Doc) (h : Branches C) → AllApply m rules c.doc (named c.name (c.serials + 1) cs) doc → Kin m rules first log (gone_on m c cs doc h)

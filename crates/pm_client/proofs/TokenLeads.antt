@@ -1,4 +1,4 @@
--- A cursor with side 1 before a named token stays before it over steps one after another, and while pending steps are
+-- A cursor with side `After` before a named token stays before it over steps one after another, and while pending steps are
 -- carried over others' steps.
 use Rattle.std.specs.Prelude.{◌≡◌, ◌⊎◌, ℕ, false, ◌+◌, ◌-◌, List, [], ◌∷◌, ◌++◌, length, slice_get, Option, Some, None, Result, Ok, Err, refl}
 use Rattle.std.specs.List.{AllByRecursion as Each}
@@ -95,7 +95,7 @@ module _ {Rules Doc Reason C : Type 0} (m : Meaning Rules Doc Reason C) (rules :
       from (inl x) = x
       from (inr x) = absurd (not.0 x.0 x.1)
 
-  -- A cursor with side 1 stays before its token over the maps of steps one after another, none of which is pinched.
+  -- A cursor with side `After` stays before its token over the maps of steps one after another, none of which is pinched.
   pub maps-lead : (doc end : Doc) (ns : List (Named C)) (names : List Token) → AllApply m rules doc ns end → Named_well doc ns names → AllUnpinched m ns
       → Leads (maps_of m ns) names (names_after m names ns)
   maps-lead doc end [] names applies h apart p t at has = at
@@ -193,7 +193,7 @@ module _ {Rules Doc Reason C : Type 0} (m : Meaning Rules Doc Reason C) (rules :
         by-carry None e u = lost
         by-carry (Some c) e u = tried c e (m.outcome rules c so.doc) refl u
 
-  -- A cursor with side 1 stays before its token over the whole mapping.
+  -- A cursor with side `After` stays before its token over the whole mapping.
   pub rebased-leads : (old : Doc) (so : Rebasing C Rules Doc Reason) (ns : List (Named C)) (before from : List Token) → Following old so ns before from
       → AllUnpinched m (rebased m rules so ns).kept → Leads (rebased m rules so ns).maps (names_after m before ns) (names_after m from (rebased m rules so ns).kept)
   rebased-leads old so [] before from h u = h.leads

@@ -2,6 +2,7 @@
 use Rattle.std.specs.Prelude.{◌≡◌, ℕ, zero, suc, pos, ◌+◌, ◌-◌, ◌≤◌, ◌<◌, ◌⊎◌, ◌==◌, nat_lt, if◌then◌else◌, Bool, true, false, List, [], ◌∷◌, ◌++◌, length, take, drop, slice_get, Some, None, refl}
 use Rattle.std.proofs.Common.{arith, ap, ◌∙◌, inl, inr, length-drop}
 use Rattle.std.proofs.lemmas.Bool.{ltb-true, ltb-false, eqb-true, eq-eqb}
+use Rattle.pm_map.specs.declared.side.Side.TheVariants.{After}
 use Rattle.pm_map.specs.declared.step_map.Span.{Span}
 use Rattle.pm_map.specs.declared.step_map.Moved.{Moved}
 use Rattle.pm_map.specs.Moves.{moved, moved_from, kept_at, at_range, or_moved}
@@ -47,7 +48,7 @@ length-take [] (suc n) l = absurd (omega arith)
 length-take (x ∷ xs) zero l = refl
 length-take (x ∷ xs) (suc n) l = omega (arith, length-take xs n (omega arith))
 
--- where a position goes by side 1, by its place to a range
+-- where a position goes by `After`, by its place to a range
 pub before-range : (r : Span) (rs : List Span) (i gained lost p : ℕ) → p < r.start → moved_from (r ∷ rs) i gained lost p false ≡ kept_at ((p + gained) - lost)
 before-range r rs i gained lost p l = from (nat_lt p r.start) refl
   where
@@ -198,10 +199,10 @@ goes fresh (r ∷ rs) i gained lost from n k place p names t h u l f s size at =
           stays = g.stays;
         })
 
--- a cursor with side 1 before a token that a step leaves stands before that token after it
+-- a cursor with side `After` before a token that a step leaves stands before that token after it
 pub stands-moved : (fresh : ℕ → Token) (rs : List Span) (n k p : ℕ) (names : List Token) (t : Token)
     → FitsSizes rs n k → Unpinched rs → Survives rs p → length names ≡ n → slice_get names p ≡ Some t
-    → (slice_get (spliced fresh rs names) (moved rs p (pos 1)).pos ≡ Some t) × ((moved rs p (pos 1)).recover ≡ None)
+    → (slice_get (spliced fresh rs names) (moved rs p After).pos ≡ Some t) × ((moved rs p After).recover ≡ None)
 stands-moved fresh rs n k p names t h u s size at =
     let x : n + 0 ≡ n = omega arith in
     let y : k + 0 ≡ k = omega arith in

@@ -1,11 +1,12 @@
 -- What a client's calls make of it. Each is a function of the client's state.
-use Rattle.std.specs.Prelude.{ℕ, ℤ, ◌+◌, ◌-◌, ◌≡◌, ◌<◌, ◌==◌, nat_le, if◌then◌else◌, true, List, [], ◌∷◌, ◌++◌, length, take, drop, slice_get, Option, Some, None, Result, Ok, Err}
+use Rattle.std.specs.Prelude.{ℕ, ◌+◌, ◌-◌, ◌≡◌, ◌<◌, ◌==◌, nat_le, if◌then◌else◌, true, List, [], ◌∷◌, ◌++◌, length, take, drop, slice_get, Option, Some, None, Result, Ok, Err}
 use Rattle.pm_change.specs.Changes.{Meaning, fold}
+use Rattle.pm_map.specs.declared.side.Side.{Side}
 use Rattle.pm_map.specs.declared.step_map.Span.{Span}
 use Rattle.pm_history.specs.declared.item.Item.{Item}
 use Rattle.pm_history.specs.declared.branch.Event.{Event}
 use Rattle.pm_history.specs.declared.branches.Branches.{Branches}
-use Rattle.pm_history.specs.declared.branches.Side.TheVariants.{Edit}
+use Rattle.pm_history.specs.declared.branches.MadeBy.TheVariants.{Edit}
 use Rattle.pm_history.specs.declared.direction.Direction.{Direction}
 use Rattle.pm_history.specs.declared.direction.Direction.TheVariants.{Undo, Redo}
 use Rattle.pm_history.specs.declared.undoing.Undone.{Undone}
@@ -25,8 +26,8 @@ use Rattle.pm_client.specs.declared.failing.EditError.{EditError}
 use Rattle.pm_client.specs.declared.failing.EditError.TheVariants.{Refused as RefusedAt, NoMemory}
 use Rattle.pm_client.specs.declared.failing.CursorError.{CursorError}
 use Rattle.pm_client.specs.declared.failing.CursorError.TheVariants.{Range, NoMemory as NoCursorMemory}
-use Rattle.pm_client.specs.declared.taken.Kind.{Kind}
-use Rattle.pm_client.specs.declared.taken.Kind.TheVariants.{Submit as ToSubmit, Ask as ToAsk}
+use Rattle.pm_client.specs.declared.taken.MessageKind.{MessageKind}
+use Rattle.pm_client.specs.declared.taken.MessageKind.TheVariants.{Submit as ToSubmit, Ask as ToAsk}
 use Rattle.pm_client.specs.declared.taken.Taken.{Taken}
 use Rattle.pm_client.specs.declared.taken.Taken.TheVariants.{Confirmed, Rebased, Stale, Refused}
 use Rattle.pm_client.specs.declared.rebasing.Rebasing.{Rebasing}
@@ -68,12 +69,12 @@ module _ {Rules Doc Reason C : Type 0} where
   }
 
   -- the message of this kind: all pending steps at the client's version, or a request for what is past it
-  abbrev pub message_of : Client C Rules Doc Reason → Kind → Message C
+  abbrev pub message_of : Client C Rules Doc Reason → MessageKind → Message C
   message_of c ToSubmit = Submit c.version c.pending
   message_of c ToAsk = Ask c.version
 
   -- a message was composed
-  abbrev pub composed : Client C Rules Doc Reason → Kind → Client C Rules Doc Reason
+  abbrev pub composed : Client C Rules Doc Reason → MessageKind → Client C Rules Doc Reason
   composed c kind = record c { messages = c.messages ++ message_of c kind ∷ [] }
 
   -- an answer was kept
@@ -81,7 +82,7 @@ module _ {Rules Doc Reason C : Type 0} where
   kept c answer = record c { answers = c.answers ++ answer ∷ [] }
 
   -- one cursor more was set
-  abbrev pub cursor_set : Client C Rules Doc Reason → ℕ → ℤ → Client C Rules Doc Reason
+  abbrev pub cursor_set : Client C Rules Doc Reason → ℕ → Side → Client C Rules Doc Reason
   cursor_set c p side = record c { cursors = c.cursors ++ cursor p side ∷ [] }
 
   -- the message of this number, counted from 1

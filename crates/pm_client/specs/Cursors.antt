@@ -1,13 +1,14 @@
 -- Cursors over maps.
-use Rattle.std.specs.Prelude.{ℕ, ℤ, ◌≤◌, List, map}
+use Rattle.std.specs.Prelude.{ℕ, ◌≤◌, List, map}
 use Rattle.std.specs.List.{AllByRecursion as Each}
+use Rattle.pm_map.specs.declared.side.Side.{Side}
 use Rattle.pm_map.specs.declared.mapping.Mirrored.{Mirrored}
-use Rattle.pm_map.specs.Moves.{IsSide, is_before, kept_at}
+use Rattle.pm_map.specs.Moves.{is_before, kept_at}
 use Rattle.pm_map.specs.Through.{HasRoom, through}
 use Rattle.pm_client.specs.declared.cursors.Cursor.{Cursor}
 
 -- the cursor at this position, with this side
-abbrev pub cursor : ℕ → ℤ → Cursor
+abbrev pub cursor : ℕ → Side → Cursor
 cursor p side = record { pos = p; side = side }
 
 -- the cursor goes through all maps by its side, which it keeps
@@ -19,11 +20,11 @@ moved_over ms cs = map (moved_cursor ms) cs
 
 -- a cursor of a document of this size
 abbrev pub IsWithin : ℕ → Cursor → Type 0
-IsWithin size c = (c.pos ≤ size) × IsSide c.side
+IsWithin size c = c.pos ≤ size
 
 abbrev pub AreWithin : ℕ → List Cursor → Type 0
 AreWithin size cs = Each (IsWithin size) cs
 
 -- a cursor for which the maps have room
 abbrev pub HasRoomIn : List Mirrored → Cursor → Type 0
-HasRoomIn ms c = IsSide c.side × HasRoom ms 0 (is_before c.side) (kept_at c.pos)
+HasRoomIn ms c = HasRoom ms 0 (is_before c.side) (kept_at c.pos)

@@ -1,6 +1,7 @@
 -- Names of a document's tokens. A token keeps its name as long as it is in the document.
-use Rattle.std.specs.Prelude.{◌≡◌, ℕ, zero, suc, ◌+◌, ◌-◌, ◌<◌, List, [], ◌∷◌, ◌++◌, length, take, drop, slice_get, Some, pos}
+use Rattle.std.specs.Prelude.{◌≡◌, ℕ, zero, suc, ◌+◌, ◌-◌, ◌<◌, List, [], ◌∷◌, ◌++◌, length, take, drop, slice_get, Some}
 use Rattle.std.specs.List.{AllByRecursion as Each}
+use Rattle.pm_map.specs.declared.side.Side.TheVariants.{After}
 use Rattle.pm_map.specs.declared.step_map.Span.{Span}
 use Rattle.pm_change.specs.declared.name.Name.{Name}
 use Rattle.pm_change.specs.Changes.{Meaning}
@@ -103,13 +104,13 @@ module _ {Rules Doc Reason C : Type 0} (m : Meaning Rules Doc Reason C) (log : L
     pub differ : AllDiffer (passed log c.version d.version)
     pub unpinched : AllUnpinched m (gone_over c.name (passed log c.version d.version) c.pending d.pending)
 
-  -- A cursor with side 1 that stood before a token of the client's document stands before that token of its next document,
+  -- A cursor with side `After` that stood before a token of the client's document stands before that token of its next document,
   -- where that is there. The documents' tokens have the names that the base's tokens come to have over the pending steps,
   -- and over the steps passed and then the next pending ones.
   abbrev pub KeepsTokens : ℕ → Type 0
   KeepsTokens base_size =
-      (names : List Token) → MayName base_size names → (i p : ℕ) (t : Token) → slice_get c.cursors i ≡ Some (cursor p (pos 1))
+      (names : List Token) → MayName base_size names → (i p : ℕ) (t : Token) → slice_get c.cursors i ≡ Some (cursor p After)
       → slice_get (names_after m names c.pending) p ≡ Some t
       → Has (names_after m (names_after m names (passed log c.version d.version)) d.pending) t
-      → (q : ℕ) × (slice_get d.cursors i ≡ Some (cursor q (pos 1)))
+      → (q : ℕ) × (slice_get d.cursors i ≡ Some (cursor q After))
       × (slice_get (names_after m (names_after m names (passed log c.version d.version)) d.pending) q ≡ Some t)

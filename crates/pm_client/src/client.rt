@@ -1,22 +1,22 @@
 //! A client: its base, what is pending, and its document.
 ghost use Rattle.std.specs.Prelude.{◌≡◌, ◌+◌, ◌-◌, ◌<◌, ◌≤◌, ◌^◌, List, [], length, Some, IfOk, IfErr, OnOk, OnErr};
 ghost use Rattle.pm_authority.specs.declared.named.Named.{Named};
-ghost use Rattle.pm_map.specs.Moves.{IsSide};
 ghost use Rattle.pm_client.specs.Clients.{new_client, cursor_set, IsCursorRefusal, composed, kept, message_of, message_at};
 ghost use Rattle.pm_client.specs.Kins.{AnswerStands, Kin};
 
 use crate::cursors::Cursor;
 use crate::failing::CursorError;
-use crate::taken::Kind;
+use crate::taken::MessageKind;
 use pm_authority::{Answer, Message, Named, copy_steps};
 use pm_change::Change;
 use pm_history::Branches;
 use pm_list::Listed;
+use pm_map::Side;
 use std::alloc::{AllocError, Global};
 
 /// A client. `base` is the document after the first `version` steps of the log, and `doc` is the base after the pending
 /// steps. It keeps the messages that it composed and the answers that it was given, each under a number from 1 on. A cursor
-/// is a position in the document, in tokens, and a side, 1 or -1. `history` stands for the client's timeline: the log's first
+/// is a position in the document, in tokens, and a side. `history` stands for the client's timeline: the log's first
 /// `version` steps, and then the pending ones.
 #[derive(Drop)]
 pub struct Client<C: Change> {
@@ -125,13 +125,12 @@ impl<C: Change> Client<C> {
         self.answers.len() as u64
     }
 
-    /// Sets one cursor more, at this position of the client's document and with this side, 1 or -1. `Range` comes exactly
-    /// where the position passes the document's size. Then, and for want of memory, the client is as it was.
+    /// Sets one cursor more, at this position of the client's document and with this side. `Range` comes exactly where
+    /// the position passes the document's size. Then, and for want of memory, the client is as it was.
     ///
     /// The document must be smaller than 2^32 tokens, as each good one is.
-    pub fn set_cursor(&mut self, pos: u64, side: i8) -> Result<(), CursorError>
-        requires side { IsSide side }
-        requires small { C.means.size self.old.doc < 2 ^ 32 }
+    pub fn set_cursor(&mut self, pos: u64, side: Side) -> Result<(), CursorError>
+        requires { C.means.size self.old.doc < 2 ^ 32 }
         ensures set { OnOk result (self.new ≡ cursor_set self.old pos side) }
         ensures within { OnOk result (pos ≤ C.means.size self.old.doc) }
         ensures refused { IfErr result (IsCursorRefusal (C.means.size self.old.doc) pos) }
@@ -148,7 +147,7 @@ impl<C: Change> Client<C> {
     }
 
     /// Composes a message of this kind, and tells its number, from 1. For want of memory the client is as it was.
-    pub fn compose(&mut self, alloc: Global, kind: Kind) -> Result<u64, AllocError>
+    pub fn compose(&mut self, alloc: Global, kind: MessageKind) -> Result<u64, AllocError>
         ensures number { IfOk result (λ n. n ≡ length self.old.messages + 1) }
         ensures composed { IfOk result (λ n. self.new ≡ composed self.old kind) }
         ensures err { OnErr result (self.new ≡ self.old) }
@@ -162,16 +161,16 @@ impl<C: Change> Client<C> {
     }
 
     /// The message of this kind.
-    fn message_of(&self, alloc: Global, kind: Kind) -> Result<Message<C>, AllocError>
+    fn message_of(&self, alloc: Global, kind: MessageKind) -> Result<Message<C>, AllocError>
         ensures { IfOk result (λ message. message ≡ message_of self.now kind) }
     {
         let version = self.version;
         match kind {
-            Kind::Submit => Ok(Message::Submit {
+            MessageKind::Submit => Ok(Message::Submit {
                 version,
                 steps: copy_steps(alloc, self.pending.as_slice())?,
             }),
-            Kind::Ask => Ok(Message::Ask { version }),
+            MessageKind::Ask => Ok(Message::Ask { version }),
         }
     }
 

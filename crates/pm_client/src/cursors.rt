@@ -3,15 +3,15 @@ ghost use Rattle.std.specs.Prelude.{◌≡◌, IfOk, All};
 ghost use Rattle.pm_client.specs.Cursors.{HasRoomIn, moved_over};
 
 use pm_list::Listed;
-use pm_map::Mapping;
+use pm_map::{Mapping, Side};
 use std::alloc::{AllocError, Global};
 
-/// A position, in tokens, that goes over the steps, and its side: what is put in right there comes behind it by -1 and before
-/// it by 1.
+/// A position, in tokens, that goes over the steps, and its side: what is put in right there comes behind it by
+/// `Before` and before it by `After`.
 #[derive(Clone, Copy, Debug, PartialEq, Eq)]
 pub struct Cursor {
     pub pos: u64,
-    pub side: i8,
+    pub side: Side,
 }
 
 /// The cursors where these maps lead them, each by its side, which it keeps.

@@ -20,7 +20,7 @@ use crate::naming::name_steps;
 use crate::rebasing::maps_over;
 use pm_authority::Refusal;
 use pm_change::{Change, Failed};
-use pm_history::{Direction, Event, Side, Undone, names_in, undo_event};
+use pm_history::{Direction, Event, MadeBy, Undone, names_in, undo_event};
 use std::alloc::{AllocError, Global};
 
 impl<C: Change> Client<C> {
@@ -51,7 +51,7 @@ impl<C: Change> Client<C> {
         // To what log the client stood, it stands.
         ensures kin { (first : C.Doc) (log : List (Named C)) → Kin C.means rules.now first log self.old
             → Kin C.means rules.now first log self.new }
-        // A cursor with side 1 that stood before a token stands before it, where that is still there.
+        // A cursor with side `After` that stood before a token stands before it, where that is still there.
         ensures tokens { OnOk result ((first : C.Doc) (log : List (Named C)) → Kin C.means rules.now first log self.old
             → KeepsTokens C.means log self.old self.new (C.means.size self.old.base)) }
     {
@@ -64,10 +64,10 @@ impl<C: Change> Client<C> {
                 let Made { doc, items } = made;
                 let maps = maps_over(alloc, added.as_slice())?;
                 let cursors = move_all(alloc, self.cursors.as_slice(), &maps)?;
-                let side = Side::Edit { event, first: true };
+                let made_by = MadeBy::Edit { event, first: true };
                 let before = self.pending.len();
                 self.pending.append(added)?;
-                if let Err(AllocError) = self.history.note_all(alloc, items, side) {
+                if let Err(AllocError) = self.history.note_all(alloc, items, made_by) {
                     self.pending.truncate(before);
                     return Err(EditError::NoMemory);
                 }
@@ -90,7 +90,8 @@ impl<C: Change> Client<C> {
     /// redo, with the number of the event undone. No event is open then. `NothingToUndo` comes exactly where there is no
     /// event to undo. Then, and for want of memory, the client is as it was, the open event included.
     ///
-    /// An undo maps each inverse step's positions over a copy of the later maps, which is made once per inverse step.
+    /// An undo copies the maps of the steps from the event's first one on once. For each of the event's steps, and for each
+    /// step that it makes, it moves them and copies none.
     ///
     /// Under the rules that are lent the client must stand to a log. Each call keeps this.
     pub fn undo(&mut self, alloc: Global, rules: &C::Rules) -> Result<u64, UndoError>
@@ -107,7 +108,7 @@ impl<C: Change> Client<C> {
         // It is the undo of the event over the client's whole timeline.
         ensures whole { IfOk result (λ n. (first : C.Doc) (log : List (Named C)) (kin : Kin C.means rules.now first log self.old)
             → TurnsOver C.means rules.now Undo self.old first kin.timeline n self.new) }
-        // A cursor with side 1 that stood before a token stands before it, where that is still there.
+        // A cursor with side `After` that stood before a token stands before it, where that is still there.
         ensures tokens { OnOk result ((first : C.Doc) (log : List (Named C)) → Kin C.means rules.now first log self.old
             → KeepsTokens C.means log self.old self.new (C.means.size self.old.base)) }
     {
@@ -115,7 +116,7 @@ impl<C: Change> Client<C> {
     }
 
     /// Redoes the last event that was undone, as `undo` undoes one, with the events to undo and to redo exchanged. It costs the
-    /// same: each inverse step's positions are mapped over a copy of the later maps, which is made once per inverse step.
+    /// same: the later maps are copied once, and then moved.
     pub fn redo(&mut self, alloc: Global, rules: &C::Rules) -> Result<u64, UndoError>
         requires { Stands C.means rules.now self.old }
         ensures redone { IfOk result (λ n. redone_last C.means rules.now self.old ≡ Some (n, self.new)) }
@@ -130,7 +131,7 @@ impl<C: Change> Client<C> {
         // It is the undo of the event over the client's whole timeline.
         ensures whole { IfOk result (λ n. (first : C.Doc) (log : List (Named C)) (kin : Kin C.means rules.now first log self.old)
             → TurnsOver C.means rules.now Redo self.old first kin.timeline n self.new) }
-        // A cursor with side 1 that stood before a token stands before it, where that is still there.
+        // A cursor with side `After` that stood before a token stands before it, where that is still there.
         ensures tokens { OnOk result ((first : C.Doc) (log : List (Named C)) → Kin C.means rules.now first log self.old
             → KeepsTokens C.means log self.old self.new (C.means.size self.old.base)) }
     {

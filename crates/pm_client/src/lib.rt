@@ -16,4 +16,4 @@ pub mod taking;
 pub use client::Client;
 pub use cursors::Cursor;
 pub use failing::{CursorError, EditError, UndoError};
-pub use taken::{Kind, Taken};
+pub use taken::{MessageKind, Taken};

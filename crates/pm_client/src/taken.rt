@@ -2,7 +2,7 @@
 
 /// Which message to compose.
 #[derive(Clone, Copy, Debug, PartialEq, Eq)]
-pub enum Kind {
+pub enum MessageKind {
     /// All pending steps, for the log.
     Submit,
     /// A request for what is in the log past the client's version.

@@ -42,7 +42,7 @@ impl<C: Change> Client<C> {
         // To what log the client stood, it stands.
         ensures kin { (first : C.Doc) (log : List (Named C)) → Kin C.means rules.now first log self.old
             → Kin C.means rules.now first log self.new }
-        // A cursor with side 1 that stood before a token stands before it, where that is still there.
+        // A cursor with side `After` that stood before a token stands before it, where that is still there.
         ensures tokens { OnOk result ((first : C.Doc) (log : List (Named C)) → Kin C.means rules.now first log self.old
             → KeepsTokens C.means log self.old self.new (C.means.size self.old.base)) }
         // Of the answer of this number, each thing is told exactly where its cause holds.

@@ -1,5 +1,6 @@
 -- What a step on a document of one paragraph means. The document is seen as the list of the paragraph's units.
-use Rattle.std.specs.Prelude.{ℕ, pos, negsuc, ◌+◌, ◌-◌, ◌≤◌, ◌==◌, ◌&&◌, ◌||◌, Bool, true, false, nat_lt, nat_le, not, if◌then◌else◌, List, [], ◌∷◌, ◌++◌, length, take, drop, Option, Some, None, Result, Ok, Err}
+use Rattle.std.specs.Prelude.{ℕ, ◌+◌, ◌-◌, ◌≤◌, ◌==◌, ◌&&◌, ◌||◌, Bool, true, false, nat_lt, nat_le, not, if◌then◌else◌, List, [], ◌∷◌, ◌++◌, length, take, drop, Option, Some, None, Result, Ok, Err}
+use Rattle.pm_map.specs.declared.side.Side.TheVariants.{Before, After}
 use Rattle.pm_map.specs.declared.step_map.Span.{Span}
 use Rattle.pm_map.specs.declared.step_map.Moved.{Moved}
 use Rattle.pm_map.specs.declared.mapping.Mirrored.{Mirrored}
@@ -59,9 +60,9 @@ abbrev pub between : Replace → Moved → Moved → Option Replace
 between step from to =
     if from.across && to.across then None else Some (record { from = from.pos; to = raised from.pos to.pos; text = step.text })
 
--- A step over maps: its first position goes by 1 and its second by -1.
+-- A step over maps: its first position goes by `After` and its second by `Before`.
 abbrev pub carried : Replace → List Mirrored → Option Replace
-carried step maps = between step (through maps step.from (pos 1)) (through maps step.to (negsuc 0))
+carried step maps = between step (through maps step.from After) (through maps step.to Before)
 
 -- a step between two positions of a document of this size, which puts in no more than a document may hold
 abbrev pub is_within : Replace → ℕ → Type 0

@@ -1,10 +1,11 @@
 -- The laws of a step on one paragraph.
-use Rattle.std.specs.Prelude.{◌≡◌, ◌⊎◌, ℕ, zero, suc, pos, negsuc, ◌+◌, ◌-◌, ◌≤◌, ◌<◌, Bool, true, false, nat_lt, not, ◌&&◌, ◌||◌, ◌==◌, if◌then◌else◌, List, [], ◌∷◌, ◌++◌, length, map, take, drop, Some, None, Ok, Err, refl}
+use Rattle.std.specs.Prelude.{◌≡◌, ◌⊎◌, ℕ, zero, suc, ◌+◌, ◌-◌, ◌≤◌, ◌<◌, Bool, true, false, nat_lt, not, ◌&&◌, ◌||◌, ◌==◌, if◌then◌else◌, List, [], ◌∷◌, ◌++◌, length, map, take, drop, Some, None, Ok, Err, refl}
 use Rattle.std.proofs.Common.{arith, sym, ap, ◌∙◌, inl, inr, length-append, length-take, length-drop, append_assoc}
 use Rattle.std.proofs.Math.Seq.{drop-append_seam}
 use Rattle.std.proofs.lemmas.List.{take-append-drop}
 use Rattle.std.proofs.lemmas.List.Elements.{All-from_recursion}
 use Rattle.std.proofs.lemmas.Bool.Decides.{nat_tests}
+use Rattle.pm_map.specs.declared.side.Side.TheVariants.{Before, After}
 use Rattle.pm_map.specs.declared.mapping.Mirrored.{Mirrored}
 use Rattle.pm_map.specs.Through.{through}
 use Rattle.pm_map.specs.Fits.{FitsSizes, new_size_of}
@@ -176,10 +177,10 @@ still step n ms w h = rw (h.ahead step.from, h.back step.to) (ap (λ to. Some (r
     as-it-is false e = refl
 
 carried_sizes : (c d : Replace) (ms : List Mirrored) → carried c ms ≡ Some d → map new_size_of (range_of d ∷ []) ≡ map new_size_of (range_of c ∷ [])
-carried_sizes c d ms h = from ((through ms c.from (pos 1)).across && (through ms c.to (negsuc 0)).across) h
+carried_sizes c d ms h = from ((through ms c.from After).across && (through ms c.to Before).across) h
   where
     moved : Replace
-    moved = record { from = (through ms c.from (pos 1)).pos; to = raised (through ms c.from (pos 1)).pos (through ms c.to (negsuc 0)).pos; text = c.text }
+    moved = record { from = (through ms c.from After).pos; to = raised (through ms c.from After).pos (through ms c.to Before).pos; text = c.text }
 
     from : (gone : Bool) → (if gone then None else Some moved) ≡ Some d → map new_size_of (range_of d ∷ []) ≡ map new_size_of (range_of c ∷ [])
     from true h = absurd (cc)

@@ -1,7 +1,7 @@
 //! A document of one paragraph, and its steps.
 use crate::letters::Letters;
 use pm_change::{Change, Failed};
-use pm_map::{Mapping, Span, StepMap};
+use pm_map::{Mapping, Side, Span, StepMap};
 use std::alloc::{AllocError, Global};
 
 /// The greatest content size of a document, in tokens.
@@ -89,8 +89,8 @@ impl Change for Replace {
 
     fn carry(&self, alloc: Global, mapping: &Mapping) -> Result<Option<Replace>, AllocError> {
         mapping.paired();
-        let from = mapping.map(u64::from(self.from), 1);
-        let to = mapping.map(u64::from(self.to), -1);
+        let from = mapping.map(u64::from(self.from), Side::After);
+        let to = mapping.map(u64::from(self.to), Side::Before);
         if from.across && to.across {
             return Ok(None);
         }

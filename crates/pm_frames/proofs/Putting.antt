@@ -1,13 +1,12 @@
 -- Maps put around blocks.
 use Rattle.std.specs.Prelude.{◌≡◌, ℕ, ◌+◌, ◌||◌, ◌∷◌, ◌-◌, ◌≤◌, ◌<◌, ◌^◌, Bool, true, false, List, [], Option, Some, None, IfSome, refl}
-use Rattle.std.specs.Prelude.{ℤ, pos, negsuc}
-use lib.Signed.{lt_z}
-use Rattle.std.proofs.Common.{arith, ap, sym, ◌∙◌, ⊎_elim, subst, to_z, of_z, w8}
+use Rattle.std.proofs.Common.{arith, ap, sym, ◌∙◌}
+use Rattle.pm_map.specs.declared.side.Side.{Side}
 use Rattle.pm_map.specs.declared.step_map.Span.{Span}
 use Rattle.pm_map.specs.declared.step_map.Moved.{Moved}
 use Rattle.pm_map.specs.declared.step_map.Recover.{Recover}
 use Rattle.pm_map.specs.declared.mapping.Mirrored.{Mirrored}
-use Rattle.pm_map.specs.Moves.{moved_from, kept_at, IsSide, is_before}
+use Rattle.pm_map.specs.Moves.{moved_from, kept_at, is_before}
 use Rattle.pm_map.specs.Through.{SameShape, IsIn, through_from, through, range_at}
 use Rattle.pm_map.proofs.Joins.{through-none}
 use Rattle.pm_map.specs.Mirrors.{pushed, fronted, enclosed, entry}
@@ -126,21 +125,8 @@ module _ (old new : List Block) (front behind : List Span) (b : Bool) (ms : List
 pub holds-none : (b : Bool) (n : ℕ) → n < 2 ^ 32 → Holds [] [] b n n
 holds-none b n h = record { fit = (h, refl); paired = tt; same = λ x u. refl }
 
--- sides
-pub side-same : (z : ℤ) → IsSide z → to_z w8 (of_z w8 z) ≡ z
-side-same z h = ⊎_elim
-    (λ (e : z ≡ pos 1). subst (λ y. to_z w8 (of_z w8 y) ≡ y) (sym e) refl)
-    (λ (e : z ≡ negsuc 0). subst (λ y. to_z w8 (of_z w8 y) ≡ y) (sym e) refl)
-    h
-
-pub side-before : (z : ℤ) (t : Bool) → IsSide z → lt_z (to_z w8 (of_z w8 z)) (pos 0) ≡ t → is_before z ≡ t
-side-before z t h = ⊎_elim
-    (λ (e : z ≡ pos 1). subst (λ y. lt_z (to_z w8 (of_z w8 y)) (pos 0) ≡ t → is_before y ≡ t) (sym e) (λ f. f))
-    (λ (e : z ≡ negsuc 0). subst (λ y. lt_z (to_z w8 (of_z w8 y)) (pos 0) ≡ t → is_before y ≡ t) (sym e) (λ f. f))
-    h
-
 -- the place as a mapping gives it
-pub answered : (ms : List Mirrored) (p : ℕ) (z : ℤ) (b : Bool) (v : Place) → is_before z ≡ b → v ≡ over_all ms b p
+pub answered : (ms : List Mirrored) (p : ℕ) (z : Side) (b : Bool) (v : Place) → is_before z ≡ b → v ≡ over_all ms b p
     → record { pos = v.pos; deleted = v.flags.deleted; across = v.flags.across; after = v.flags.after; recover = None } ≡ through ms p z
 answered ms p z b v e h =
     let t : Moved = through_from ms 0 (is_before z) (kept_at p) in

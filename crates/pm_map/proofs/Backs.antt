@@ -32,7 +32,7 @@ swapped r to = record { start = to; old_size = r.new_size; new_size = r.old_size
 eqb-same : (a : ℕ) → (a == a) ≡ true
 eqb-same a = eq-eqb a a refl
 
--- at the start, by side -1
+-- at the start, by `Before`
 pub at-start-pos : (r : Span) (i to : ℕ) → (at_range r i to r.start true).pos ≡ to
 at-start-pos r i to = from (r.old_size == 0)
   where
@@ -52,7 +52,7 @@ at-start r i to = record {
   back_after = λ e. absurd (true≢false e);
 }
 
--- at the end, by side 1
+-- at the end, by `After`
 at-end-pos : (r : Span) (i to p : ℕ) → p ≡ r.start + r.old_size → (at_range r i to p false).pos ≡ to + r.new_size
 at-end-pos r i to p e = from (r.old_size == 0) refl
   where

@@ -5,15 +5,15 @@ use Rattle.std.proofs.lemmas.Bool.{eqb-true, eq-eqb, and_parts, and_from, true�
 use Rattle.pm_map.specs.declared.step_map.Span.{Span}
 use Rattle.pm_map.specs.declared.mapping.Mirrored.{Mirrored}
 use Rattle.pm_map.specs.Through.{partner, IsPairedAt, ArePaired, SameShape}
-use Rattle.pm_map.specs.Mirrors.{fit_all, entry, gap_for, fronted, enclosed, pushed, awaiting, paired_with}
+use Rattle.pm_map.specs.Mirrors.{has_shape, entry, gap_for, fronted, enclosed, pushed, awaiting, paired_with}
 
-pub fit-shape : (rs ss : List Span) → fit_all rs ss ≡ true → SameShape rs ss
+pub fit-shape : (rs ss : List Span) → has_shape rs ss ≡ true → SameShape rs ss
 fit-shape [] [] h = tt
 fit-shape [] (s ∷ ss) h = absurd (true≢false (cc))
 fit-shape (r ∷ rs) [] h = absurd (true≢false (cc))
-fit-shape (r ∷ rs) (s ∷ ss) h = let p = and_parts (s.new_size == r.old_size) (fit_all rs ss) h in (eqb-true s.new_size r.old_size p.0, fit-shape rs ss p.1)
+fit-shape (r ∷ rs) (s ∷ ss) h = let p = and_parts (s.new_size == r.old_size) (has_shape rs ss) h in (eqb-true s.new_size r.old_size p.0, fit-shape rs ss p.1)
 
-pub shape-fit : (rs ss : List Span) → SameShape rs ss → fit_all rs ss ≡ true
+pub shape-fit : (rs ss : List Span) → SameShape rs ss → has_shape rs ss ≡ true
 shape-fit [] [] h = refl
 shape-fit [] (s ∷ ss) h = absurd h
 shape-fit (r ∷ rs) [] h = absurd h

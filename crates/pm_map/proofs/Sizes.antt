@@ -1,6 +1,7 @@
 -- Mappings that fit sizes: how they grow, how they turn round, and that positions have room in them.
-use Rattle.std.specs.Prelude.{◌≡◌, ℕ, ℤ, ◌+◌, ◌-◌, ◌≤◌, ◌<◌, ◌^◌, List, [], ◌∷◌, ◌++◌, map, Option, None, refl}
+use Rattle.std.specs.Prelude.{◌≡◌, ℕ, ◌+◌, ◌-◌, ◌≤◌, ◌<◌, ◌^◌, List, [], ◌∷◌, ◌++◌, map, Option, None, refl}
 use Rattle.std.proofs.Common.{arith, sym, subst}
+use Rattle.pm_map.specs.declared.side.Side.{Side}
 use Rattle.pm_map.specs.declared.step_map.Span.{Span}
 use Rattle.pm_map.specs.declared.mapping.Mirrored.{Mirrored}
 use Rattle.pm_map.specs.Moves.{inverted_from, inverted_ranges, is_before, kept_at}
@@ -43,7 +44,7 @@ sizes-fit (e ∷ es) n [] h = absurd h
 sizes-fit (e ∷ es) n (k ∷ ns) h = (k, (h.0, h.1, sizes-fit es k ns h.2))
 
 -- a position within the first size has room, and comes out within the last
-pub all-fit : (ms : List Mirrored) (sizes : List ℕ) (p : ℕ) (side : ℤ) → ArePaired ms → FitAll ms sizes → p ≤ first_size sizes
+pub all-fit : (ms : List Mirrored) (sizes : List ℕ) (p : ℕ) (side : Side) → ArePaired ms → FitAll ms sizes → p ≤ first_size sizes
     → HasRoom ms 0 (is_before side) (kept_at p) × ((through ms p side).pos ≤ last_size sizes)
 all-fit ms [] p side paired h l = from ms h
   where
@@ -53,7 +54,7 @@ all-fit ms [] p side paired h l = from ms h
 all-fit ms (n ∷ ns) p side paired h l =
     (room ms (n ∷ ns) 0 (is_before side) (kept_at p) paired h l, ends-within ms (n ∷ ns) 0 (is_before side) (kept_at p) paired h l)
 
-pub position-fits : (ms : List Mirrored) (n k p : ℕ) (side : ℤ) → ArePaired ms → FitBetween ms n k → p ≤ n
+pub position-fits : (ms : List Mirrored) (n k p : ℕ) (side : Side) → ArePaired ms → FitBetween ms n k → p ≤ n
     → HasRoom ms 0 (is_before side) (kept_at p) × ((through ms p side).pos ≤ k)
 position-fits ms n k p side paired h l =
     let r = fit-sizes ms n k h in

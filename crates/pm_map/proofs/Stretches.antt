@@ -13,7 +13,7 @@ use Rattle.pm_map.proofs.Growths.{last-partner}
 use Rattle.pm_map.proofs.Backs.{GoesBack, IsBack, goes-back}
 use Rattle.pm_map.proofs.Joins.{through-append, through-joined, through-none, goes-on, one-behind, one-in-front}
 
--- it stays where it is, without a flag but `after` by side -1
+-- it stays where it is, without a flag but `after` by `Before`
 pub record Stays (x : Moved) (p : ℕ) (before : Bool) : Type 0 where
   pub pos : x.pos ≡ p
   pub deleted : x.deleted ≡ false

@@ -1,5 +1,6 @@
 -- The rule of a step map in words: which range decides, and how far the other positions shift.
-use Rattle.std.specs.Prelude.{◌≡◌, ℕ, ℤ, zero, suc, ◌+◌, ◌-◌, ◌≤◌, if◌then◌else◌, nat_lt, List, [], ◌∷◌}
+use Rattle.std.specs.Prelude.{◌≡◌, ℕ, zero, suc, ◌+◌, ◌-◌, ◌≤◌, if◌then◌else◌, nat_lt, List, [], ◌∷◌}
+use Rattle.pm_map.specs.declared.side.Side.{Side}
 use Rattle.pm_map.specs.declared.step_map.Span.{Span}
 use Rattle.pm_map.specs.Moves.{moved, at_range, kept_at, is_before}
 use Rattle.pm_map.specs.Through.{result_start}
@@ -27,6 +28,6 @@ taken_before (r ∷ rs) p = (if nat_lt (r.start + r.old_size) p then r.old_size 
 -- The first range that holds the position within or at its ends decides, by its start in the result. A position that none
 -- holds shifts by the differences of the ranges before it, without a flag.
 abbrev pub FirstDecides : List Span → Type 0
-FirstDecides rs = (p : ℕ) (side : ℤ)
+FirstDecides rs = (p : ℕ) (side : Side)
     → ((i : ℕ) (r : Span) → FirstHolds rs i r p → moved rs p side ≡ at_range r i (result_start rs i) p (is_before side))
     × (IsOutside rs p → moved rs p side ≡ kept_at ((p + put_before rs p) - taken_before rs p))

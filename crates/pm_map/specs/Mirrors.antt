@@ -9,15 +9,15 @@ abbrev pub AreMirrors : List Span → List Span → Type 0
 AreMirrors earlier later = (0 < length earlier) × SameShape earlier later
 
 -- the same as a test, first of the shapes alone
-abbrev pub fit_all : List Span → List Span → Bool
-fit_all [] [] = true
-fit_all [] (s ∷ ss) = false
-fit_all (r ∷ rs) [] = false
-fit_all (r ∷ rs) (s ∷ ss) = (s.new_size == r.old_size) && fit_all rs ss
+abbrev pub has_shape : List Span → List Span → Bool
+has_shape [] [] = true
+has_shape [] (s ∷ ss) = false
+has_shape (r ∷ rs) [] = false
+has_shape (r ∷ rs) (s ∷ ss) = (s.new_size == r.old_size) && has_shape rs ss
 
-abbrev pub fit : List Span → List Span → Bool
-fit [] ss = false
-fit (r ∷ rs) ss = fit_all (r ∷ rs) ss
+abbrev pub may_mirror : List Span → List Span → Bool
+may_mirror [] ss = false
+may_mirror (r ∷ rs) ss = has_shape (r ∷ rs) ss
 
 -- A map without ranges stands unpaired.
 abbrev pub gap_for : List Span → ℕ → Option ℕ

@@ -1,15 +1,15 @@
 -- Step maps: how a position moves over the ranges of one step.
-use Rattle.std.specs.Prelude.{◌≡◌, ℕ, ℤ, pos, negsuc, ◌+◌, ◌-◌, ◌≤◌, ◌<◌, ◌^◌, Bool, true, false, ◌⊎◌, ◌&&◌, ◌||◌, not, ◌==◌, if◌then◌else◌, List, [], ◌∷◌, Option, Some, None, nat_lt}
+use Rattle.std.specs.Prelude.{◌≡◌, ℕ, ◌+◌, ◌-◌, ◌≤◌, ◌<◌, ◌^◌, Bool, true, false, ◌&&◌, ◌||◌, not, ◌==◌, if◌then◌else◌, List, [], ◌∷◌, Option, Some, None, nat_lt}
+use Rattle.pm_map.specs.declared.side.Side.{Side}
+use Rattle.pm_map.specs.declared.side.Side.TheVariants.{Before, After}
 use Rattle.pm_map.specs.declared.step_map.Span.{Span}
 use Rattle.pm_map.specs.declared.step_map.Moved.{Moved}
 
--- The side of a position, `assoc`: -1 keeps to what stands before it, and 1 to what stands after it.
-abbrev pub IsSide : ℤ → Type 0
-IsSide z = (z ≡ pos 1) ⊎ (z ≡ negsuc 0)
-
-abbrev pub is_before : ℤ → Bool
-is_before (pos _) = false
-is_before (negsuc _) = true
+-- The side of a position, ProseMirror's `assoc`: `Before`, -1 there, keeps to what stands before it, and `After`, 1 there,
+-- to what stands after it.
+abbrev pub is_before : Side → Bool
+is_before Before = true
+is_before After = false
 
 -- A position that no range holds goes here, and nothing around it is gone.
 abbrev pub kept_at : ℕ → Moved
@@ -24,7 +24,7 @@ goes_before r p before =
     if p == r.start + r.old_size then false else before
 
 -- A position within or at range number i, which starts at `to` in the result. It went across where it was strictly inside.
--- It is deleted by side -1 unless it was the range's start, and by side 1 unless it was the end. What stood after it is gone
+-- It is deleted by `Before` unless it was the range's start, and by `After` unless it was the end. What stood after it is gone
 -- where it was strictly inside, and at the start of a range that takes something out. A deleted one can be recovered by the
 -- range's number and the position's offset in it.
 abbrev pub at_range : Span → ℕ → ℕ → ℕ → Bool → Moved
@@ -61,7 +61,7 @@ moved_from (r ∷ rs) i gained lost p before =
     (moved_from rs (i + 1) (gained + r.new_size) (lost + r.old_size) p before)
 
 -- where a map with these ranges sends a position by its side
-abbrev pub moved : List Span → ℕ → ℤ → Moved
+abbrev pub moved : List Span → ℕ → Side → Moved
 moved rs p side = moved_from rs 0 0 0 p (is_before side)
 
 -- A range of the map back: it stands where the range came to stand, with its old and new size exchanged.

@@ -1,18 +1,19 @@
 -- Mappings that move nothing, and what keeps a map and the map back from moving anything.
-use Rattle.std.specs.Prelude.{◌≡◌, ℕ, pos, negsuc, ◌+◌, ◌≤◌, ◌<◌, ◌⊎◌, false, List, [], ◌∷◌, None}
+use Rattle.std.specs.Prelude.{◌≡◌, ℕ, ◌+◌, ◌≤◌, ◌<◌, ◌⊎◌, false, List, [], ◌∷◌, None}
+use Rattle.pm_map.specs.declared.side.Side.TheVariants.{Before, After}
 use Rattle.pm_map.specs.declared.step_map.Span.{Span}
 use Rattle.pm_map.specs.declared.mapping.Mirrored.{Mirrored}
 use Rattle.pm_map.specs.Moves.{kept_at, inverted_ranges}
 use Rattle.pm_map.specs.Through.{through}
 use Rattle.pm_map.specs.Mirrors.{entry, gap_for}
 
--- A mapping moves nothing where it leaves every position as it is by both sides, with no flag by 1, and with no flag but
--- `after` by -1.
+-- A mapping moves nothing where it leaves every position as it is by both sides, with no flag by `After`, and with no flag
+-- but `after` by `Before`.
 pub record MovesNothing (ms : List Mirrored) : Type 0 where
-  pub ahead : (p : ℕ) → through ms p (pos 1) ≡ kept_at p
-  pub back : (p : ℕ) → (through ms p (negsuc 0)).pos ≡ p
-  pub back_deleted : (p : ℕ) → (through ms p (negsuc 0)).deleted ≡ false
-  pub back_across : (p : ℕ) → (through ms p (negsuc 0)).across ≡ false
+  pub ahead : (p : ℕ) → through ms p After ≡ kept_at p
+  pub back : (p : ℕ) → (through ms p Before).pos ≡ p
+  pub back_deleted : (p : ℕ) → (through ms p Before).deleted ≡ false
+  pub back_across : (p : ℕ) → (through ms p Before).across ≡ false
 
 -- The ranges are in order from `from` on, and no two of them touch.
 abbrev pub AreApart : List Span → ℕ → Type 0

@@ -1,5 +1,6 @@
 -- Mappings: how a position moves over several maps, some of which are mirrors of earlier ones.
-use Rattle.std.specs.Prelude.{◌≡◌, ℕ, ℤ, zero, suc, ◌+◌, ◌-◌, ◌≤◌, ◌<◌, ◌^◌, Bool, ◌||◌, List, [], ◌∷◌, length, Option, Some, None}
+use Rattle.std.specs.Prelude.{◌≡◌, ℕ, zero, suc, ◌+◌, ◌-◌, ◌≤◌, ◌<◌, ◌^◌, Bool, ◌||◌, List, [], ◌∷◌, length, Option, Some, None}
+use Rattle.pm_map.specs.declared.side.Side.{Side}
 use Rattle.pm_map.specs.declared.step_map.Span.{Span}
 use Rattle.pm_map.specs.declared.step_map.Moved.{Moved}
 use Rattle.pm_map.specs.declared.step_map.Recover.{Recover}
@@ -79,7 +80,7 @@ through_from (e ∷ es) zero before so =
     through_from es (skipped e.later m.recover) before (stepped so m e.later m.recover es)
 
 -- where a mapping sends a position by its side
-abbrev pub through : List Mirrored → ℕ → ℤ → Moved
+abbrev pub through : List Mirrored → ℕ → Side → Moved
 through es p side = through_from es 0 (is_before side) (kept_at p)
 
 -- Each map on the way leads to a position below 2^64.

@@ -35,7 +35,7 @@ pub fn outside_comes_back(map: &StepMap)
 }
 
 /// Over a map whose ranges don't touch and its inverse as its mirror, each position stays as it is. No flag holds, except
-/// `after` for a position mapped by -1 that stands at the start of a range of either map with an old size above 0.
+/// `after` for a position mapped by `Before` that stands at the start of a range of either map with an old size above 0.
 pub fn pair_moves_nothing(map: &StepMap)
     ensures still { PairMovesNothing map.now }
     ensures after { PairAfter map.now }

@@ -5,7 +5,9 @@ pub mod laws;
 pub mod mapping;
 mod passing;
 mod ranges;
+pub mod side;
 pub mod step_map;
 
 pub use mapping::{Mapping, Mirrored};
+pub use side::Side;
 pub use step_map::{Moved, Recover, Span, StepMap};

@@ -1,10 +1,11 @@
 //! Several maps one after another, some of which undo others.
 ghost use Rattle.std.specs.Prelude.{◌≡◌, ◌<◌, [], None, length, drop, IfOk, OnOk, OnErr};
-ghost use Rattle.pm_map.specs.Moves.{IsSide, is_before, kept_at};
+ghost use Rattle.pm_map.specs.Moves.{is_before, kept_at};
 ghost use Rattle.pm_map.specs.Mirrors.{pushed, fronted, enclosed, later_of, paired_with};
 ghost use Rattle.pm_map.specs.Through.{SameShape, ArePaired, HasRoom, partner, through};
 
 use crate::passing::over;
+use crate::side::Side;
 use crate::step_map::{Moved, StepMap};
 use std::alloc::{AllocError, Global};
 use std::marker::Model;
@@ -133,13 +134,12 @@ impl Mapping {
         let _ = &self.maps;
     }
 
-    /// Where the position `pos`, in tokens, goes over all maps by its side `assoc`, -1 or 1. Where a map deletes it and has
+    /// Where the position `pos`, in tokens, goes over all maps by its side. Where a map deletes it and has
     /// a mirror, the position jumps to the same offset in the same range of that mirror's result, and this pair adds no
     /// flag. Else each map's flags are added. The position must stay below 2^64 all the way. `recover` is None.
-    pub fn map(&self, pos: u64, assoc: i8) -> Moved
-        requires side { IsSide assoc }
-        requires room { HasRoom self.now 0 (is_before assoc) (kept_at pos) }
-        ensures { result ≡ through self.now pos assoc }
+    pub fn map(&self, pos: u64, side: Side) -> Moved
+        requires { HasRoom self.now 0 (is_before side) (kept_at pos) }
+        ensures { result ≡ through self.now pos side }
     {
         let maps = self.maps.as_slice();
         let mut so = Moved {
@@ -151,7 +151,7 @@ impl Mapping {
         };
         let mut i = 0;
         while i < maps.len() {
-            let next = over(&maps[i], &maps[i + 1..], so, assoc);
+            let next = over(&maps[i], &maps[i + 1..], so, side);
             so = next.so;
             i += 1 + next.skip;
         }

@@ -1,9 +1,10 @@
 //! How one map of a mapping moves a position.
 ghost use Rattle.std.specs.Prelude.{◌≡◌, ◌+◌, ◌≤◌, ◌<◌, ◌^◌, length};
-ghost use Rattle.pm_map.specs.Moves.{IsSide, moved};
+ghost use Rattle.pm_map.specs.Moves.{moved};
 ghost use Rattle.pm_map.specs.Through.{joined, at_pos, stepped, skipped, IsPairedAt, partner, new_at, result_start};
 
 use crate::mapping::Mirrored;
+use crate::side::Side;
 use crate::step_map::{Moved, Recover};
 
 /// The position and its flags after a map, and how many maps a jump passes then.
@@ -14,15 +15,14 @@ pub struct After {
 }
 
 /// Over one map of a mapping, with the maps `rest` behind it.
-pub fn over(entry: &Mirrored, rest: &[Mirrored], so: Moved, assoc: i8) -> After
-    requires side { IsSide assoc }
-    requires room { (moved entry.now.map so.pos assoc).pos < 2 ^ 64 }
+pub fn over(entry: &Mirrored, rest: &[Mirrored], so: Moved, side: Side) -> After
+    requires room { (moved entry.now.map so.pos side).pos < 2 ^ 64 }
     requires paired { IsPairedAt entry.now.map entry.now.later rest.now }
-    ensures state { let m = moved entry.now.map so.pos assoc in result.so ≡ stepped so m entry.now.later m.recover rest.now }
-    ensures skip { let m = moved entry.now.map so.pos assoc in result.skip ≡ skipped entry.now.later m.recover }
+    ensures state { let m = moved entry.now.map so.pos side in result.so ≡ stepped so m entry.now.later m.recover rest.now }
+    ensures skip { let m = moved entry.now.map so.pos side in result.skip ≡ skipped entry.now.later m.recover }
     ensures within { result.skip ≤ length rest.now }
 {
-    let m = entry.map.map(so.pos, assoc);
+    let m = entry.map.map(so.pos, side);
     match (entry.later, m.recover) {
         (Some(gap), Some(r)) => After {
             so: at(so, place_after(rest, gap, r)),

@@ -1,10 +1,11 @@
 //! The map of one step: at most two ranges.
 ghost use Rattle.std.specs.Prelude.{◌≡◌, ◌+◌, ◌≤◌, ◌<◌, ◌^◌, ◌↔◌, length, IsTrue, IfSome, if◌then◌else◌};
-ghost use Rattle.pm_map.specs.Moves.{moved, inverted_ranges, ranges_of, AreInOrder, IsSide};
+ghost use Rattle.pm_map.specs.Moves.{moved, inverted_ranges, ranges_of, AreInOrder};
 ghost use Rattle.pm_map.specs.Through.{result_start, new_at, IsIn, range_at};
-ghost use Rattle.pm_map.specs.Mirrors.{fit, gap_for, AreMirrors};
+ghost use Rattle.pm_map.specs.Mirrors.{may_mirror, gap_for, AreMirrors};
 
 use crate::ranges::{back, decide, kept, last};
+use crate::side::Side;
 use std::marker::Model;
 
 /// A range of a map, in tokens: where it starts in the old document, its size there, and its size in the new one.
@@ -22,7 +23,7 @@ pub struct Recover {
     pub offset: u64,
 }
 
-/// Where a position went. `deleted`: the token on the side of `assoc` is gone. `across`: the tokens on both sides are gone.
+/// Where a position went. `deleted`: the token on its side is gone. `across`: the tokens on both sides are gone.
 /// `after`: the token behind it is gone. `recover`: from where it can come back, exactly where `deleted` holds.
 #[derive(Clone, Copy, Drop, Debug, PartialEq, Eq)]
 pub struct Moved {
@@ -134,7 +135,7 @@ impl StepMap {
     /// Whether this map can be the mirror of `earlier`: both have as many ranges, at least one, and the new size of each
     /// range here is its old size in `earlier`.
     pub fn mirrors(&self, earlier: &StepMap) -> bool
-        ensures value { result ≡ fit earlier.now self.now }
+        ensures value { result ≡ may_mirror earlier.now self.now }
         ensures cause { IsTrue result ↔ AreMirrors earlier.now self.now }
     {
         match (earlier.first, earlier.second, self.first, self.second) {
@@ -183,15 +184,14 @@ impl StepMap {
 
     /// Where the position `pos`, in tokens, goes, and what the step did around it. Before the ranges it stays; behind a range
     /// it shifts by the range's new size less its old size. Within or at a range it goes to the range's new start or new
-    /// end: by `assoc` (-1 before, 1 after) strictly inside and at a pure insertion, else to the side at which it stands.
+    /// end: by its side strictly inside and at a pure insertion, else to the end at which it stands.
     /// Where `deleted` holds, `recover` says from which place of which range it came.
-    pub fn map(&self, pos: u64, assoc: i8) -> Moved
-        requires side { IsSide assoc }
-        requires room { (moved self.now pos assoc).pos < 2 ^ 64 }
-        ensures moved { result ≡ moved self.now pos assoc }
+    pub fn map(&self, pos: u64, side: Side) -> Moved
+        requires { (moved self.now pos side).pos < 2 ^ 64 }
+        ensures moved { result ≡ moved self.now pos side }
         ensures back { IfSome result.recover (IsIn self.now) }
     {
-        let before = assoc < 0;
+        let before = side.is_before();
         match (self.first, self.second) {
             (Some(a), Some(b)) => match decide(a, 0, 0, 0, pos, before) {
                 Some(m) => m,

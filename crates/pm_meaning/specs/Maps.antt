@@ -1,5 +1,6 @@
 -- The maps of steps, and how steps are carried over mappings.
-use Rattle.std.specs.Prelude.{ℕ, pos, negsuc, ◌-◌, ◌≤◌, max, Bool, ◌&&◌, ◌||◌, if◌then◌else◌, nat_lt, nat_le, ◌==◌, List, [], ◌∷◌, Option, Some, None}
+use Rattle.std.specs.Prelude.{ℕ, ◌-◌, ◌≤◌, max, Bool, ◌&&◌, ◌||◌, if◌then◌else◌, nat_lt, nat_le, ◌==◌, List, [], ◌∷◌, Option, Some, None}
+use Rattle.pm_map.specs.declared.side.Side.TheVariants.{Before, After}
 use Rattle.pm_map.specs.declared.step_map.Span.{Span}
 use Rattle.pm_map.specs.declared.step_map.Moved.{Moved}
 use Rattle.pm_map.specs.declared.mapping.Mirrored.{Mirrored}
@@ -21,12 +22,12 @@ step_map (RemoveMark from to mark) = []
 step_map (AddNodeMark p mark) = []
 step_map (RemoveNodeMark p mark) = []
 
--- a position over a mapping by side 1, and by side -1
+-- a position over a mapping by `After`, and by `Before`
 abbrev pub ahead : List Mirrored → ℕ → Moved
-ahead ms p = through ms p (pos 1)
+ahead ms p = through ms p After
 
 abbrev pub back : List Mirrored → ℕ → Moved
-back ms p = through ms p (negsuc 0)
+back ms p = through ms p Before
 
 -- lost where both ends lie strictly inside of deleted ranges; `to` is raised to `from`
 abbrev pub carry_replace : Moved → Moved → Slice → Bool → Option Step

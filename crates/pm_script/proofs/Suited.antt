@@ -1,17 +1,14 @@
 -- The op lines that are read name one of the clients, forge exactly where it is raw, and name messages and answers that are
 -- there.
-use Rattle.std.proofs.Common.{◌≡◌, ◌<◌, ◌+◌, ℕ, ℤ, pos, Bool, true, false, List, [], ◌∷◌, ◌++◌, length, refl, ap, ◌∙◌, sym, subst, inl, arith, zero, suc, Result, Ok}
-use Rattle.std.specs.Prelude.{position, slice_get, nat_lt, nat_le, nat_eq, codes, if◌then◌else◌, Option, Some, None, IfSome, option_and_then}
+use Rattle.std.proofs.Common.{◌≡◌, ◌<◌, ◌+◌, ℕ, Bool, true, false, List, [], ◌∷◌, ◌++◌, length, refl, ap, ◌∙◌, sym, subst, arith, zero, suc, Result, Ok}
+use Rattle.std.specs.Prelude.{position, slice_get, nat_lt, nat_le, nat_eq, codes, Some, IfSome}
 use Rattle.std.specs.Cmp.Lexicographic.{pointwise}
 use Rattle.std.proofs.lemmas.Bool.{ltb-true, leb-true}
 use Rattle.serde_json.specs.Data.{Data}
-use Rattle.serde_json.specs.Find.{as_i64, as_number}
-use Rattle.pm_list.specs.Readings.{◌>>=◌, or_fault}
-use Rattle.pm_docjson.specs.Fields.{field}
+use Rattle.pm_list.specs.Readings.{◌>>=◌}
 use Rattle.pm_schema.specs.declared.spec.SchemaSpec.{SchemaSpec}
-use Rattle.pm_map.specs.Moves.{IsSide}
 use Rattle.pm_head.specs.declared.code.Code.{Code}
-use Rattle.pm_head.specs.declared.code.Code.TheVariants.{TooManyLines, WrongShape, UnknownName, NoSuchMessage, OpNotAllowed}
+use Rattle.pm_head.specs.declared.code.Code.TheVariants.{TooManyLines, UnknownName, NoSuchMessage, OpNotAllowed}
 use Rattle.pm_head.specs.declared.clients.ClientEntry.{ClientEntry}
 use Rattle.pm_head.specs.Clients.{raw_flags}
 use Rattle.pm_meaning.specs.Steps.{Step}
@@ -24,7 +21,7 @@ use Rattle.pm_session.specs.Suits.{is_forge, names_one, NamesOneOf, composed_by,
 use Rattle.pm_script.specs.declared.kinds.EditKind.{EditKind}
 use Rattle.pm_script.specs.declared.word.Word.{Word}
 use Rattle.pm_script.specs.declared.word.Word.TheVariants as word
-use Rattle.pm_script.specs.Fields.{text_in, number_in, lost_in, is_side, as_side, side_of, side_in, event_in}
+use Rattle.pm_script.specs.Fields.{text_in, number_in, lost_in, side_in, event_in}
 use Rattle.pm_script.specs.Words.{may_say}
 use Rattle.pm_script.specs.Ops.{op_of}
 use Rattle.pm_script.specs.Parts.{steps_in}
@@ -34,16 +31,15 @@ use Rattle.pm_script.specs.Lines.{client_in, word_in, cursors_by, is_raw, said, 
 use Rattle.pm_script.specs.Sessions.{at_line, ops_of}
 use Rattle.pm_script.proofs.Came.{then-ok, fault-ok, when-ok, unless-ok, line-ok, both-true}
 use Rattle.pm_script.proofs.Places.{position-within}
-use Rattle.pm_script.proofs.Sides.{side_is}
 
 -- ---- what the words make
 
--- the act forges or not, and a cursor's side is one
+-- whether the act forges
 abbrev IsMade : Bool → Act Op Step → Type 0
 IsMade forge (Edit op event) = false ≡ forge
 IsMade forge Undo = false ≡ forge
 IsMade forge Redo = false ≡ forge
-IsMade forge (Cursor at side) = (false ≡ forge) × IsSide side
+IsMade forge (Cursor at side) = false ≡ forge
 IsMade forge Submit = false ≡ forge
 IsMade forge Ask = false ≡ forge
 IsMade forge (Present j) = false ≡ forge
@@ -51,18 +47,6 @@ IsMade forge (Take n) = false ≡ forge
 IsMade forge (Push lost) = false ≡ forge
 IsMade forge (Pull lost) = false ≡ forge
 IsMade forge (Forge version steps) = true ≡ forge
-
-side-said : (o : Option ℤ) (z : ℤ) → or_fault WrongShape (option_and_then as_side o) ≡ Ok z → IsSide z
-side-said None z h = absurd (cc)
-side-said (Some y) z h = from (is_side y) refl h
-  where
-    from : (b : Bool) → is_side y ≡ b → or_fault WrongShape (if b then Some y else None) ≡ Ok z → IsSide z
-    from true is h = let same : y ≡ z = cc in subst IsSide same (side_is y is)
-    from false is h = absurd (cc)
-
-side-read : (o : Option Data) (z : ℤ) → side_of o ≡ Ok z → IsSide z
-side-read None z h = let same : pos 1 ≡ z = cc in subst IsSide same (inl refl)
-side-read (Some d) z h = side-said (option_and_then as_i64 (as_number d)) z h
 
 edit-made : (s : SchemaSpec) (kind : EditKind) (d : Data) (act : Act Op Step) → edit_in s kind d ≡ Ok act → IsMade false act
 unfolding edit_in
@@ -78,7 +62,7 @@ cursor-made d act h =
     let one = then-ok (number_in (codes "pos") d) _ act h in
     let two = then-ok (side_in d) _ act one.2 in
     let is : Cursor one.0 two.0 ≡ act = cc in
-    subst (IsMade false) is (refl, side-read (field (codes "side") d) two.0 two.1)
+    subst (IsMade false) is refl
 
 forge-made : (s : SchemaSpec) (d : Data) (act : Act Op Step) → forge_in s d ≡ Ok act → IsMade true act
 unfolding forge_in
@@ -158,7 +142,7 @@ names : (forge : Bool) (messages answers : ℕ) (act : Act Op Step) → IsMade f
 names forge messages answers (Edit op event) made h = tt
 names forge messages answers Undo made h = tt
 names forge messages answers Redo made h = tt
-names forge messages answers (Cursor at side) made h = made.1
+names forge messages answers (Cursor at side) made h = tt
 names forge messages answers Submit made h = tt
 names forge messages answers Ask made h = tt
 names forge messages answers (Present j) made h = let b = both-true (nat_lt 0 j) (nat_le j messages) h in (ltb-true 0 j b.0, leb-true j messages b.1)
@@ -171,7 +155,7 @@ kind : (forge : Bool) (act : Act Op Step) → IsMade forge act → is_forge act 
 kind forge (Edit op event) made = made
 kind forge Undo made = made
 kind forge Redo made = made
-kind forge (Cursor at side) made = made.0
+kind forge (Cursor at side) made = made
 kind forge Submit made = made
 kind forge Ask made = made
 kind forge (Present j) made = made

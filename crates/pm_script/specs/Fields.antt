@@ -3,6 +3,8 @@ use Rattle.std.specs.Prelude.{ℕ, ℤ, pos, negsuc, ◌==◌, Bool, false, List
 use Rattle.serde_json.specs.Data.{Data}
 use Rattle.serde_json.specs.Find.{get, as_bool, as_str, as_number, as_i64}
 use Rattle.pm_list.specs.Readings.{or_fault}
+use Rattle.pm_map.specs.declared.side.Side.{Side}
+use Rattle.pm_map.specs.declared.side.Side.TheVariants.{Before, After}
 use Rattle.pm_docjson.specs.Fields.{field}
 use Rattle.pm_slicejson.specs.Numbers.{as_count}
 use Rattle.pm_head.specs.declared.code.Code.{Code}
@@ -24,20 +26,17 @@ lost_of (Some d) = or_fault WrongShape (as_bool d)
 abbrev pub lost_in : Data → Result Bool Code
 lost_in d = lost_of (field (codes "lost") d)
 
--- 1 or -1
-abbrev pub is_side : ℤ → Bool
-is_side (pos n) = n == 1
-is_side (negsuc n) = n == 0
+-- 1 is `After`, and -1 is `Before`
+abbrev pub as_side : ℤ → Option Side
+as_side (pos n) = if n == 1 then Some After else None
+as_side (negsuc n) = if n == 0 then Some Before else None
 
-abbrev pub as_side : ℤ → Option ℤ
-as_side z = if is_side z then Some z else None
-
--- a cursor's side, 1 or -1; 1 where nothing is said
-abbrev pub side_of : Option Data → Result ℤ Code
-side_of None = Ok (pos 1)
+-- a cursor's side; `After` where nothing is said
+abbrev pub side_of : Option Data → Result Side Code
+side_of None = Ok After
 side_of (Some d) = or_fault WrongShape (option_and_then as_side (option_and_then as_i64 (as_number d)))
 
-abbrev pub side_in : Data → Result ℤ Code
+abbrev pub side_in : Data → Result Side Code
 side_in d = side_of (field (codes "side") d)
 
 -- how many nodes an edit splits or joins; 1 where nothing is said

@@ -9,6 +9,7 @@ ghost use Rattle.pm_script.specs.Fields.{text_in, number_in, depth_in, lost_in, 
 
 use pm_docjson::field;
 use pm_head::{Code, LineError};
+use pm_map::Side;
 use pm_slicejson::as_count;
 use serde_json::Value;
 
@@ -58,12 +59,12 @@ pub(crate) fn lost_in(json: &Value) -> Result<bool, LineError>
     }
 }
 
-/// A cursor's side: 1 or -1, which is 1 where it is absent or null.
-pub(crate) fn side_in(json: &Value) -> Result<i8, LineError>
+/// A cursor's side: 1 is `After` and -1 is `Before`. It is `After` where it is absent or null.
+pub(crate) fn side_in(json: &Value) -> Result<Side, LineError>
     ensures { Gives (λ s. s) result (side_in (view json.now)) }
 {
     match field(json, "side") {
-        None => Ok(1),
+        None => Ok(Side::After),
         Some(value) => match side_of(value) {
             Some(side) => Ok(side),
             None => Err(LineError::Code(Code::WrongShape)),
@@ -73,12 +74,12 @@ pub(crate) fn side_in(json: &Value) -> Result<i8, LineError>
 
 /// The value as a side.
 #[tactic(auto, using(crate::proofs::Sides::sides))]
-fn side_of(json: &Value) -> Option<i8>
+fn side_of(json: &Value) -> Option<Side>
     ensures { result ≡ option_and_then as_side (option_and_then as_i64 (as_number (view json.now))) }
 {
     match json.as_i64() {
-        Some(1) => Some(1),
-        Some(-1) => Some(-1),
+        Some(1) => Some(Side::After),
+        Some(-1) => Some(Side::Before),
         _ => None,
     }
 }

@@ -13,7 +13,7 @@ use Rattle.pm_selective.proofs.Corners.{clear-sym, clear-outside, shift-rigid, s
 use Rattle.pm_selective.proofs.Flips.{back-apart, twice, clear-back-all, comes-back, flip-back, flip-other, flip-clear}
 use Rattle.pm_selective.proofs.Grids.{column}
 
--- ---- an end that goes by 1 stays at or behind a start that goes by -1
+-- ---- an end that goes by `After` stays at or behind a start that goes by `Before`
 
 rising-in : (r : Span) (to x y : ℕ) → r.start ≤ x → x ≤ y → y ≤ r.start + r.old_size
     → (if goes_before r x true then to else to + r.new_size) ≤ (if goes_before r y false then to else to + r.new_size)

@@ -7,7 +7,7 @@ use Rattle.pm_map.specs.declared.step_map.Moved.{Moved}
 use Rattle.pm_map.specs.Moves.{moved_from, kept_at, inverted_from, inverted_ranges}
 use Rattle.pm_map.specs.Stills.{AreApart}
 use Rattle.pm_map.specs.Through.{through_from, joined, partner}
-use Rattle.pm_map.specs.Mirrors.{entry, fit, fit_all}
+use Rattle.pm_map.specs.Mirrors.{entry, may_mirror, has_shape}
 use Rattle.pm_change.specs.declared.name.Name.{Name}
 use Rattle.pm_history.specs.declared.item.Item.{Item}
 use Rattle.pm_history.specs.Items.{one_step}
@@ -21,21 +21,21 @@ use Rattle.pm_selective.proofs.Steps.{LeadsAs}
 
 -- ---- a carried map fits the map back
 
-fit-back : (rs : List Span) (g l : ℕ) → fit_all (inverted_from rs g l) rs ≡ true
+fit-back : (rs : List Span) (g l : ℕ) → has_shape (inverted_from rs g l) rs ≡ true
 fit-back [] g l = refl
 fit-back (r ∷ rs) g l = and_from _ _ (eq-eqb r.new_size r.new_size refl) (fit-back rs (g + r.new_size) (l + r.old_size))
 
-fit-shifted : (rs g f : List Span) → fit_all rs (shifted g f) ≡ fit_all rs f
+fit-shifted : (rs g f : List Span) → has_shape rs (shifted g f) ≡ has_shape rs f
 fit-shifted [] g [] = refl
 fit-shifted [] g (q ∷ qs) = refl
 fit-shifted (r ∷ rs) g [] = refl
 fit-shifted (r ∷ rs) g (q ∷ qs) = ap (λ t. (q.new_size == r.old_size) && t) (fit-shifted rs g qs)
 
-fit-over : (gs : List (List Span)) (rs f : List Span) → fit_all rs (over gs f) ≡ fit_all rs f
+fit-over : (gs : List (List Span)) (rs f : List Span) → has_shape rs (over gs f) ≡ has_shape rs f
 fit-over [] rs f = refl
 fit-over (g ∷ gs) rs f = fit-over gs rs (shifted g f) ∙ fit-shifted rs g f
 
-pub fits-over : (gs : List (List Span)) (f : List Span) → 0 < length f → fit (inverted_ranges f) (over gs f) ≡ true
+pub fits-over : (gs : List (List Span)) (f : List Span) → 0 < length f → may_mirror (inverted_ranges f) (over gs f) ≡ true
 fits-over gs [] h = absurd (omega arith)
 fits-over gs (r ∷ rs) h = fit-over gs (inverted_ranges (r ∷ rs)) (r ∷ rs) ∙ fit-back (r ∷ rs) 0 0
 
@@ -55,12 +55,12 @@ module _ {C : Type 0} where
       from false = refl
   later-none n (r ∷ rs) i is f = from (one_step n i.undoes) refl
     where
-      from : (t : Bool) → one_step n i.undoes ≡ t → (if t && fit (r ∷ rs) i.map then Some 0 else one_more (later_in n (r ∷ rs) is)) ≡ one_more (later_in n (r ∷ rs) is)
-      from true e = ap (λ map. if fit (r ∷ rs) map then Some 0 else one_more (later_in n (r ∷ rs) is)) (f e)
+      from : (t : Bool) → one_step n i.undoes ≡ t → (if t && may_mirror (r ∷ rs) i.map then Some 0 else one_more (later_in n (r ∷ rs) is)) ≡ one_more (later_in n (r ∷ rs) is)
+      from true e = ap (λ map. if may_mirror (r ∷ rs) map then Some 0 else one_more (later_in n (r ∷ rs) is)) (f e)
       from false e = refl
 
   found : (n : Option Name) (rs : List Span) (xs : List (Item C)) (u : Item C) (rest : List (Item C)) → NoRangeUndoes n xs
-      → one_step n u.undoes ≡ true → fit rs u.map ≡ true → later_in n rs (xs ++ u ∷ rest) ≡ Some (length xs)
+      → one_step n u.undoes ≡ true → may_mirror rs u.map ≡ true → later_in n rs (xs ++ u ∷ rest) ≡ Some (length xs)
   found n rs [] u rest h e f = ap (λ t. if t then Some 0 else one_more (later_in n rs rest)) (and_from _ _ e f)
   found n rs (x ∷ xs) u rest h e f = later-none n rs x (xs ++ u ∷ rest) h.0 ∙ ap one_more (found n rs xs u rest h.1 e f)
 
@@ -115,7 +115,7 @@ module _ {C : Type 0} where
       let h = inverted_ranges (over gs f) in
       let e : u.map ≡ inverted_ranges h = um ∙ sym (twice (over gs f) q) in
       let later = later_in i.name i.map (is ++ u ∷ rest) in
-      let fits : fit i.map u.map ≡ true = ap (λ x. fit x u.map) im ∙ ap (fit front) um ∙ fits-over gs f z in
+      let fits : may_mirror i.map u.map ≡ true = ap (λ x. may_mirror x u.map) im ∙ ap (may_mirror front) um ∙ fits-over gs f z in
       let gap = found i.name i.map is u rest none undoes fits in
       let way = goes-round gs front h u.map (back-apart (over gs f) q) e es (length is) later (later_in u.name u.map rest) (paired rest) b so
       (shift_all (beside f gs) so.pos) (λ x k. s (u ∷ rest) b x k) (partner-of is u rest) (λ x. skip-over is u rest b x) (λ r t. gap) w.outside w.moves in (

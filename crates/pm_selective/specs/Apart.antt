@@ -1,12 +1,13 @@
 -- The ranges of an event in a later document, and steps that lie apart from them.
-use Rattle.std.specs.Prelude.{pos, negsuc, ◌+◌, ◌<◌, ◌⊎◌, List, [], ◌∷◌, ◌++◌}
+use Rattle.std.specs.Prelude.{◌+◌, ◌<◌, ◌⊎◌, List, [], ◌∷◌, ◌++◌}
+use Rattle.pm_map.specs.declared.side.Side.TheVariants.{Before, After}
 use Rattle.pm_map.specs.declared.step_map.Span.{Span}
 use Rattle.pm_map.specs.Moves.{moved, inverted_ranges}
 use Rattle.pm_selective.specs.declared.apart.Reach.{Reach}
 
--- a stretch over a map: its start by side -1, and its end by side 1
+-- a stretch over a map: its start by `Before`, and its end by `After`
 abbrev pub moved_reach : List Span → Reach → Reach
-moved_reach m x = record { from = (moved m x.from (negsuc 0)).pos; to = (moved m x.to (pos 1)).pos }
+moved_reach m x = record { from = (moved m x.from Before).pos; to = (moved m x.to After).pos }
 
 abbrev pub moved_reaches : List Span → List Reach → List Reach
 moved_reaches m [] = []

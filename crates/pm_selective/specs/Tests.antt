@@ -1,5 +1,6 @@
 -- Whether the items tell that the later steps lie apart from an event, as a test.
-use Rattle.std.specs.Prelude.{ℕ, zero, suc, pos, negsuc, ◌+◌, ◌≤◌, ◌<◌, ◌^◌, Bool, true, false, ◌&&◌, ◌||◌, if◌then◌else◌, nat_lt, List, [], ◌∷◌, ◌++◌, length, Some}
+use Rattle.std.specs.Prelude.{ℕ, zero, suc, ◌+◌, ◌≤◌, ◌<◌, ◌^◌, Bool, true, false, ◌&&◌, ◌||◌, if◌then◌else◌, nat_lt, List, [], ◌∷◌, ◌++◌, length, Some}
+use Rattle.pm_map.specs.declared.side.Side.TheVariants.{Before, After}
 use Rattle.pm_map.specs.declared.step_map.Span.{Span}
 use Rattle.pm_map.specs.Moves.{moved, inverted_ranges}
 use Rattle.pm_map.specs.Fits.{FitsSizes}
@@ -67,7 +68,7 @@ FitItems is = (n : ℕ) × FitChain (item_maps is) n
 
 -- the stretches go by a map to positions below 2^64
 abbrev pub HasRoomAt : List Span → Reach → Type 0
-HasRoomAt m x = ((moved m x.from (negsuc 0)).pos < 2 ^ 64) × ((moved m x.to (pos 1)).pos < 2 ^ 64)
+HasRoomAt m x = ((moved m x.from Before).pos < 2 ^ 64) × ((moved m x.to After).pos < 2 ^ 64)
 
 abbrev pub HasRoomAll : List Span → List Reach → Type 0
 HasRoomAll m [] = Unit {0}

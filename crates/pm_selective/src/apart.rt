@@ -8,7 +8,7 @@ ghost use Rattle.pm_history.specs.Tidy.{NamesDiffer};
 
 use pm_change::Name;
 use pm_history::Item;
-use pm_map::{Span, StepMap};
+use pm_map::{Side, Span, StepMap};
 use std::alloc::{AllocError, Global};
 
 /// From one position to another.
@@ -76,15 +76,15 @@ fn is_splice_map(map: &StepMap) -> bool
     }
 }
 
-/// Where the stretches go over the map: each start by side -1, and each end by side 1.
+/// Where the stretches go over the map: each start by `Before`, and each end by `After`.
 fn moved_reaches(alloc: Global, map: &StepMap, found: &[Reach]) -> Result<Vec<Reach>, AllocError>
     requires { HasRoomAll map.now found.now }
     ensures { IfOk result (λ v. v.items ≡ moved_reaches map.now found.now) }
 {
     let mut moved = Vec::new(alloc);
     for reach in found {
-        let from = map.map(reach.from, -1).pos;
-        let to = map.map(reach.to, 1).pos;
+        let from = map.map(reach.from, Side::Before).pos;
+        let to = map.map(reach.to, Side::After).pos;
         moved.push(Reach { from, to })?;
     }
     Ok(moved)

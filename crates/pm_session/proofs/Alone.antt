@@ -1,7 +1,7 @@
 -- An editor that did an act of its own, which presents no message, stands as before.
-use Rattle.std.specs.Prelude.{◌≡◌, ℕ, ℤ, Bool, List, Result, Ok, Err, IfOk, OnErr}
+use Rattle.std.specs.Prelude.{◌≡◌, ℕ, Bool, List, Result, Ok, Err, IfOk, OnErr}
 use Rattle.std.proofs.Common.{sym, ap, subst}
-use Rattle.pm_map.specs.Moves.{IsSide}
+use Rattle.pm_map.specs.declared.side.Side.{Side}
 use Rattle.pm_change.specs.Changes.{Meaning, Laws}
 use Rattle.pm_authority.specs.declared.named.Named.{Named}
 use Rattle.pm_client.specs.declared.client.Client.{Client}
@@ -26,9 +26,9 @@ module _ {Rules Doc Reason C : Type 0} (m : Meaning Rules Doc Reason C) (rules :
   either-stands (Err e) p new h is err = subst (EditorStands m rules first log) (sym err) stands
 
   -- a cursor was set, or it was not
-  pub cursor-stands : {E : Type 0} (laws : Laws m) (p : ℕ) (side : ℤ) (r : Result (Outcome C Rules Doc Reason) E) (new : Client C Rules Doc Reason)
-      → IfOk r (λ o. (o, new) ≡ sets m c p side) → OnErr r (new ≡ c) → IsSide side → EditorStands m rules first log new
-  cursor-stands laws p side r new is err is_side =
+  pub cursor-stands : {E : Type 0} (laws : Laws m) (p : ℕ) (side : Side) (r : Result (Outcome C Rules Doc Reason) E) (new : Client C Rules Doc Reason)
+      → IfOk r (λ o. (o, new) ≡ sets m c p side) → OnErr r (new ≡ c) → EditorStands m rules first log new
+  cursor-stands laws p side r new is err =
       either-stands r (sets m c p side) new
       (alone-stands laws (sets m c p side).1
-      (sets-moved m rules laws (holder m rules laws first log c stands log_is) (holder-kept m rules laws first log c stands log_is) c stands.kin p side is_side)) is err
+      (sets-moved m rules laws (holder m rules laws first log c stands log_is) (holder-kept m rules laws first log c stands log_is) c stands.kin p side)) is err

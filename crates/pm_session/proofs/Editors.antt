@@ -9,8 +9,8 @@ use Rattle.pm_authority.specs.declared.message.Answer.{Answer}
 use Rattle.pm_authority.specs.declared.authority.Authority.{Authority}
 use Rattle.pm_authority.specs.Presents.{presented}
 use Rattle.pm_client.specs.declared.client.Client.{Client}
-use Rattle.pm_client.specs.declared.taken.Kind.{Kind}
-use Rattle.pm_client.specs.declared.taken.Kind.TheVariants.{Submit as Submission, Ask as Asking}
+use Rattle.pm_client.specs.declared.taken.MessageKind.{MessageKind}
+use Rattle.pm_client.specs.declared.taken.MessageKind.TheVariants.{Submit as Submission, Ask as Asking}
 use Rattle.pm_client.specs.Clients.{undone_last, redone_last, message_of, message_at, composed, kept}
 use Rattle.pm_session.specs.declared.line.Act.{Act}
 use Rattle.pm_session.specs.declared.line.Act.TheVariants.{Edit, Undo, Redo, Cursor, Submit, Ask, Present, Take, Push, Pull, Forge}
@@ -40,7 +40,7 @@ module _ {Rules Doc Reason C : Type 0} (m : Meaning Rules Doc Reason C) (rules :
   presents a c (Some message) = let p = presented m rules a message in ((keeps c (Some p.0)).0, p.1, kept c p.0)
 
   -- an editor composes a message, presents it and keeps the answer, and takes it unless it is lost
-  abbrev pub exchanges_at : Authority C Rules Doc Reason → Client C Rules Doc Reason → Kind → Bool
+  abbrev pub exchanges_at : Authority C Rules Doc Reason → Client C Rules Doc Reason → MessageKind → Bool
       → Outcome C Rules Doc Reason × Authority C Rules Doc Reason × Client C Rules Doc Reason
   exchanges_at a c kind lost =
       let p = presented m rules a (message_of c kind) in
@@ -91,7 +91,7 @@ module _ {Rules Doc Reason C : Type 0} (m : Meaning Rules Doc Reason C) (rules :
   abbrev pub WasPresenting : Authority C Rules Doc Reason → Client C Rules Doc Reason → Message C → Authority C Rules Doc Reason × Client C Rules Doc Reason → Type 0
   WasPresenting a c message p = (p ≡ (a, c)) ⊎ (p ≡ ((presented m rules a message).1, c))
 
-  abbrev pub WasExchanging : Authority C Rules Doc Reason → Client C Rules Doc Reason → Kind → Authority C Rules Doc Reason × Client C Rules Doc Reason → Type 0
+  abbrev pub WasExchanging : Authority C Rules Doc Reason → Client C Rules Doc Reason → MessageKind → Authority C Rules Doc Reason × Client C Rules Doc Reason → Type 0
   WasExchanging a c kind p =
       let q = presented m rules a (message_of c kind) in
       (p ≡ (a, c)) ⊎ ((p ≡ (a, composed c kind)) ⊎ ((p ≡ (q.1, composed c kind)) ⊎ (p ≡ (q.1, kept (composed c kind) q.0))))
@@ -132,7 +132,7 @@ module _ {Rules Doc Reason C : Type 0} (m : Meaning Rules Doc Reason C) (rules :
     presenting message (inl h) = (c, h.1, inl (pair a c h.0))
     presenting message (inr h) = (c, h.2, inr (pair (presented m rules a message).1 c (answered message h.0 h.1).0))
 
-    pub exchanging : (kind : Kind) → LeftExchanging (new ≡ a) (AuthorityTells m rules a new) kind c next
+    pub exchanging : (kind : MessageKind) → LeftExchanging (new ≡ a) (AuthorityTells m rules a new) kind c next
         → (d : Client C Rules Doc Reason) × (next ≡ Editor d) × WasExchanging a c kind (new, d)
     exchanging kind (inl h) = (c, h.1, inl (pair a c h.0))
     exchanging kind (inr (inl h)) = (composed c kind, h.1, inr (inl (pair a (composed c kind) h.0)))

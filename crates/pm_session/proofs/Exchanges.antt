@@ -9,12 +9,12 @@ use Rattle.pm_authority.specs.declared.message.Answer.TheVariants.{Accepted, Wro
 use Rattle.pm_authority.specs.Kept.{IsKept}
 use Rattle.pm_authority.specs.Presents.{presented}
 use Rattle.pm_client.specs.declared.client.Client.{Client}
-use Rattle.pm_client.specs.declared.taken.Kind.{Kind}
+use Rattle.pm_client.specs.declared.taken.MessageKind.{MessageKind}
 use Rattle.pm_client.specs.declared.taken.Taken.{Taken}
 use Rattle.pm_client.specs.Clients.{message_of, message_at, composed, kept, taken, taken_at}
 use Rattle.pm_client.specs.Kins.{MessageStands, Kin}
 use Rattle.pm_client.proofs.Answering.{never-refused}
-use Rattle.pm_session.specs.declared.outcome.Told.{Told}
+use Rattle.pm_session.specs.declared.outcome.AnswerSummary.{AnswerSummary}
 use Rattle.pm_session.specs.declared.outcome.Outcome.TheVariants.{Exchanged}
 use Rattle.pm_session.specs.Events.{told, exchanges}
 use Rattle.pm_session.specs.Refusals.{RefusesNoStep}
@@ -42,7 +42,7 @@ module _ {Rules Doc Reason C : Type 0} (m : Meaning Rules Doc Reason C) (rules :
       from (Entries since entries) e = tt
 
 -- the message just composed is the one of the last number
-pub last-message : {Rules Doc Reason C : Type 0} (c composer : Client C Rules Doc Reason) (kind : Kind) (n : ℕ) (x : Message C) → composer ≡ composed c kind
+pub last-message : {Rules Doc Reason C : Type 0} (c composer : Client C Rules Doc Reason) (kind : MessageKind) (n : ℕ) (x : Message C) → composer ≡ composed c kind
     → n ≡ length c.messages + 1 → message_at composer n ≡ Some x → x ≡ message_of c kind
 last-message c composer kind n x is number at =
     let place : n - 1 ≡ length c.messages = omega (arith, number) in
@@ -50,7 +50,7 @@ last-message c composer kind n x is number at =
     let here : slice_get (c.messages ++ message_of c kind ∷ []) (length c.messages) ≡ Some x = rw (is, place) at at in
     cc
 
-module _ {Rules Doc Reason C : Type 0} (m : Meaning Rules Doc Reason C) (rules : Rules) (a : Authority C Rules Doc Reason) (c : Client C Rules Doc Reason) (kind : Kind)
+module _ {Rules Doc Reason C : Type 0} (m : Meaning Rules Doc Reason C) (rules : Rules) (a : Authority C Rules Doc Reason) (c : Client C Rules Doc Reason) (kind : MessageKind)
     (new : Authority C Rules Doc Reason) (answer : Answer C Rules Doc Reason) where
   -- the message of this kind was composed and presented
   pub record Sent : Type 0 where
@@ -66,8 +66,8 @@ module _ {Rules Doc Reason C : Type 0} (m : Meaning Rules Doc Reason C) (rules :
   stands-after s keeper keeps laws stood kin = rw (keeps, s.answer_is, s.authority_is) (given-moved m rules laws a stood c kin kind).after.own
 
 -- how an exchange ends
-module _ {Rules Doc Reason C : Type 0} (m : Meaning Rules Doc Reason C) (rules : Rules) (c : Client C Rules Doc Reason) (kind : Kind) (answer : Answer C Rules Doc Reason)
-    (t : Told C Rules Doc Reason) (is : t ≡ told answer) (keeper : Client C Rules Doc Reason) (keeps : keeper ≡ kept (composed c kind) answer) where
+module _ {Rules Doc Reason C : Type 0} (m : Meaning Rules Doc Reason C) (rules : Rules) (c : Client C Rules Doc Reason) (kind : MessageKind) (answer : Answer C Rules Doc Reason)
+    (t : AnswerSummary C Rules Doc Reason) (is : t ≡ told answer) (keeper : Client C Rules Doc Reason) (keeps : keeper ≡ kept (composed c kind) answer) where
   pub lost-ends : (lost : Bool) → lost ≡ true → (Exchanged t None, keeper) ≡ exchanges m rules c kind lost (Some answer)
   lost-ends lost l = rw (l, is, keeps) refl
 

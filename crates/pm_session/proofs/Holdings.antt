@@ -14,8 +14,8 @@ use Rattle.pm_authority.specs.declared.message.Message.TheVariants.{Submit as Su
 use Rattle.pm_authority.specs.declared.message.Answer.{Answer}
 use Rattle.pm_authority.proofs.Presented.{present-causes, present-next}
 use Rattle.pm_client.specs.declared.client.Client.{Client}
-use Rattle.pm_client.specs.declared.taken.Kind.{Kind}
-use Rattle.pm_client.specs.declared.taken.Kind.TheVariants.{Submit as Submission, Ask as Asking}
+use Rattle.pm_client.specs.declared.taken.MessageKind.{MessageKind}
+use Rattle.pm_client.specs.declared.taken.MessageKind.TheVariants.{Submit as Submission, Ask as Asking}
 use Rattle.pm_client.specs.Clients.{named, message_of, message_at, composed, kept, taken}
 use Rattle.pm_client.proofs.Keeps.{kin-composed}
 use Rattle.pm_client.specs.Kins.{Kin}
@@ -148,7 +148,7 @@ module _ {Rules Doc Reason C : Type 0} (m : Meaning Rules Doc Reason C) (rules :
   member-answered makes a (Editor c) act suits =
       subst (λ p. AnsweredBy m rules act a c p.0 p.1) (sym (acted-editor m rules makes a act c)) (acted-answered a c makes act suits.1)
 
-  exchanged-stays : (kind : Kind) (i : ℕ) (s : State C Rules Doc Reason) → Sound m rules s → CursorsStay m s (exchanged m rules kind i s)
+  exchanged-stays : (kind : MessageKind) (i : ℕ) (s : State C Rules Doc Reason) → Sound m rules s → CursorsStay m s (exchanged m rules kind i s)
   exchanged-stays kind i s sound = from (slice_get s.members i) refl
     where
       from : (o : Option (Member C Rules Doc Reason)) → slice_get s.members i ≡ o → CursorsStay m s (exchanged m rules kind i s)
@@ -168,12 +168,12 @@ module _ {Rules Doc Reason C : Type 0} (m : Meaning Rules Doc Reason C) (rules :
   set-same (y ∷ ys) (suc i) x e = ap (λ l. y ∷ l) (set-same ys i x e)
 
   -- a raw client is passed by
-  passed : (kind : Kind) (i : ℕ) (s : State C Rules Doc Reason) (name serial : ℕ) → slice_get s.members i ≡ Some (Raw name serial) → exchanged m rules kind i s ≡ s
+  passed : (kind : MessageKind) (i : ℕ) (s : State C Rules Doc Reason) (name serial : ℕ) → slice_get s.members i ≡ Some (Raw name serial) → exchanged m rules kind i s ≡ s
   passed kind i s name serial at =
       let same : placed s i s.authority (Raw name serial) ≡ s = ap (λ l. record { authority = s.authority; members = l }) (set-same s.members i (Raw name serial) at) in
       rw (exchanged, at) same
 
-  pub exchange-holds : (kind : Kind) (i : ℕ) (s : State C Rules Doc Reason) → Sound m rules s → ExchangeHolds m rules kind i s (exchanged m rules kind i s)
+  pub exchange-holds : (kind : MessageKind) (i : ℕ) (s : State C Rules Doc Reason) → Sound m rules s → ExchangeHolds m rules kind i s (exchanged m rules kind i s)
   exchange-holds kind i s sound = record {
     answered = λ c at.
         let message = message_of c kind in

@@ -13,7 +13,7 @@ use Rattle.pm_authority.specs.Presents.{presented}
 use Rattle.pm_authority.specs.Requests.{NamedBy}
 use Rattle.pm_authority.specs.Runs.{changes_of}
 use Rattle.pm_client.specs.declared.client.Client.{Client}
-use Rattle.pm_client.specs.declared.taken.Kind.{Kind}
+use Rattle.pm_client.specs.declared.taken.MessageKind.{MessageKind}
 use Rattle.pm_client.specs.Clients.{message_of, message_at, composed, kept, taken_at}
 use Rattle.pm_client.proofs.Keeps.{kin-foreign, kin-composed}
 use Rattle.pm_client.proofs.Lists.{Each-append}
@@ -101,7 +101,7 @@ module _ {Rules Doc Reason C : Type 0} (m : Meaning Rules Doc Reason C) (rules :
   same-host first_of log_of old new e c d f h = rw (e, f) h
 
   -- a client that composed a message stands
-  pub composer-stands : (first : Doc) (log : List (Named C)) (c : Client C Rules Doc Reason) → EditorStands m rules first log c → (kind : Kind)
+  pub composer-stands : (first : Doc) (log : List (Named C)) (c : Client C Rules Doc Reason) → EditorStands m rules first log c → (kind : MessageKind)
       → EditorStands m rules first log (composed c kind)
   composer-stands first log c stands kind = record {
     kin = kin-composed m rules first log c stands.kin kind;
@@ -120,7 +120,7 @@ module _ {Rules Doc Reason C : Type 0} (m : Meaning Rules Doc Reason C) (rules :
       (hosted m rules laws first log c stands x (message-stands m rules laws first log c stands.kin j x at) answer new one)
 
   -- so it is with a message just composed
-  pub sending : Laws m → (first : Doc) (log : List (Named C)) (c : Client C Rules Doc Reason) → EditorStands m rules first log c → (kind : Kind)
+  pub sending : Laws m → (first : Doc) (log : List (Named C)) (c : Client C Rules Doc Reason) → EditorStands m rules first log c → (kind : MessageKind)
       → (composer : Client C Rules Doc Reason) → composer ≡ composed c kind → (j : ℕ) (x : Message C) → message_at composer j ≡ Some x
       → (name : ℕ) → name ≡ composer.name
       → (answer : Answer C Rules Doc Reason) (new : List (Named C)) → IsAnswered m rules name first log x answer new

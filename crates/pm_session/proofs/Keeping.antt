@@ -10,7 +10,7 @@ use Rattle.pm_authority.specs.Runs.{run}
 use Rattle.pm_history.specs.declared.branch.Event.{Event}
 use Rattle.pm_history.specs.declared.direction.Direction.{Direction}
 use Rattle.pm_history.specs.declared.branches.Branches.{Branches}
-use Rattle.pm_history.specs.declared.branches.Side.TheVariants.{Edit}
+use Rattle.pm_history.specs.declared.branches.MadeBy.TheVariants.{Edit}
 use Rattle.pm_history.specs.Histories.{noted_all}
 use Rattle.pm_history.specs.Timelines.{items_from}
 use Rattle.pm_client.specs.declared.client.Client.{Client}

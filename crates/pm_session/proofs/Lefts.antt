@@ -6,8 +6,8 @@ use Rattle.pm_authority.specs.declared.authority.Authority.{Authority}
 use Rattle.pm_authority.specs.declared.message.Message.{Message}
 use Rattle.pm_authority.specs.Kept.{IsKept}
 use Rattle.pm_client.specs.declared.client.Client.{Client}
-use Rattle.pm_client.specs.declared.taken.Kind.{Kind}
-use Rattle.pm_client.specs.declared.taken.Kind.TheVariants.{Submit as Submission, Ask as Asking}
+use Rattle.pm_client.specs.declared.taken.MessageKind.{MessageKind}
+use Rattle.pm_client.specs.declared.taken.MessageKind.TheVariants.{Submit as Submission, Ask as Asking}
 use Rattle.pm_client.specs.Clients.{message_at}
 use Rattle.pm_client.specs.Kins.{Kin}
 use Rattle.pm_session.specs.declared.line.Act.{Act}
@@ -26,7 +26,7 @@ left-err (Err e) p = p
 
 -- what was left of a room is what was left of an equal one
 module _ {Rules Doc Reason C : Type 0} (m : Meaning Rules Doc Reason C) (rules : Rules) where
-  pub exchange-at : (kind : Kind) (i : ℕ) (r s t : State C Rules Doc Reason) → r ≡ s → LeftByExchange m rules kind i r t → LeftByExchange m rules kind i s t
+  pub exchange-at : (kind : MessageKind) (i : ℕ) (r s t : State C Rules Doc Reason) → r ≡ s → LeftByExchange m rules kind i r t → LeftByExchange m rules kind i s t
   exchange-at kind i r s t e h = subst (λ (x : State C Rules Doc Reason). LeftByExchange m rules kind i x t) e h
 
   pub pulling-at : (r s t : State C Rules Doc Reason) → r ≡ s → LeftPulling m rules r t → LeftPulling m rules s t
@@ -49,7 +49,7 @@ module _ {Rules Doc Reason C : Type 0} (m : Meaning Rules Doc Reason C) (rules :
     presenting j x at p (inr e) =
         subst Moves (sym e) (false, false, presented-moved m rules laws a stood c kin x (message-stands m rules laws a.first a.log c kin j x at))
 
-    pub exchanging : (kind : Kind) (p : Authority C Rules Doc Reason × Client C Rules Doc Reason) → WasExchanging m rules a c kind p → Moves p
+    pub exchanging : (kind : MessageKind) (p : Authority C Rules Doc Reason × Client C Rules Doc Reason) → WasExchanging m rules a c kind p → Moves p
     exchanging kind p (inl e) = as-was p e
     exchanging kind p (inr (inl e)) = subst Moves (sym e) (true, false, composes-moved m rules laws a stood c kin kind)
     exchanging kind p (inr (inr (inl e))) = subst Moves (sym e) (true, false, sent-moved m rules laws a stood c kin kind)

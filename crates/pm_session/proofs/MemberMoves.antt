@@ -9,7 +9,7 @@ use Rattle.pm_authority.specs.declared.named.Named.{Named}
 use Rattle.pm_authority.specs.declared.authority.Authority.{Authority}
 use Rattle.pm_authority.specs.Kept.{IsKept}
 use Rattle.pm_client.specs.declared.client.Client.{Client}
-use Rattle.pm_client.specs.declared.taken.Kind.{Kind}
+use Rattle.pm_client.specs.declared.taken.MessageKind.{MessageKind}
 use Rattle.pm_client.specs.Kins.{IsOwn, Kin}
 use Rattle.pm_client.proofs.Lists.{Each-append}
 use Rattle.pm_client.proofs.LogNames.{LogOf, kin-log}
@@ -121,7 +121,7 @@ module _ {Rules Doc Reason C : Type 0} (m : Meaning Rules Doc Reason C) (rules :
         rw l.1 (editor-moved a c stands moves.0 moves.1 new l.0 moves.2)
 
     -- an exchange
-    pub member-exchanged : (kind : Kind) (x : Member C Rules Doc Reason) → MemberStands m rules a.first a.log x
+    pub member-exchanged : (kind : MessageKind) (x : Member C Rules Doc Reason) → MemberStands m rules a.first a.log x
         → MemberMoved m rules a x (member_exchanges m rules a kind x).1 (member_exchanges m rules a kind x).2
     member-exchanged kind (Raw name serial) stands = raw-rests name serial stands
     member-exchanged kind (Editor c) stands =
@@ -129,7 +129,7 @@ module _ {Rules Doc Reason C : Type 0} (m : Meaning Rules Doc Reason C) (rules :
         (exchanges-moved m rules laws a stood c stands.kin kind false)
 
     -- and one that ran out of memory
-    pub member-exchanging : (kind : Kind) (x : Member C Rules Doc Reason) → MemberStands m rules a.first a.log x
+    pub member-exchanging : (kind : MessageKind) (x : Member C Rules Doc Reason) → MemberStands m rules a.first a.log x
         → (new : Authority C Rules Doc Reason) (next : Member C Rules Doc Reason) → LeftByMember (new ≡ a) (AuthorityTells m rules a new) kind x next → MemberMoved m rules a x new next
     member-exchanging kind (Raw name serial) stands new next h = rw (h.0, h.1) (raw-rests name serial stands)
     member-exchanging kind (Editor c) stands new next h =

@@ -1,13 +1,13 @@
 -- What an act of a client makes of it and of the authority: both stand as before, and the log grows by the client's own.
 use Rattle.std.specs.List.{AllByRecursion as Each}
-use Rattle.std.specs.Prelude.{if◌then◌else◌, nat_lt, ◌≡◌, ℕ, ℤ, zero, suc, ◌+◌, ◌-◌, ◌<◌, Bool, true, false, List, [], ◌∷◌, ◌++◌, length, slice_get, Option, Some, None, Result, Ok, Err, refl}
+use Rattle.std.specs.Prelude.{if◌then◌else◌, nat_lt, ◌≡◌, ℕ, zero, suc, ◌+◌, ◌-◌, ◌<◌, Bool, true, false, List, [], ◌∷◌, ◌++◌, length, slice_get, Option, Some, None, Result, Ok, Err, refl}
 use Rattle.std.proofs.Common.{cond, sym, ap, ◌∙◌, subst, arith, append-nil, length-append}
 use Rattle.std.proofs.lemmas.Bool.{ltb-false}
 use Rattle.std.proofs.lemmas.List.Elements.{All-from_recursion}
 use Rattle.pm_change.specs.declared.no_step.NoStep.{NoStep}
 use Rattle.pm_change.specs.declared.no_step.NoStep.TheVariants.{Range}
 use Rattle.pm_client.proofs.Lists.{Each-append}
-use Rattle.pm_map.specs.Moves.{IsSide}
+use Rattle.pm_map.specs.declared.side.Side.{Side}
 use Rattle.pm_change.specs.Changes.{Meaning, Laws}
 use Rattle.pm_history.specs.declared.branch.Event.{Event}
 use Rattle.pm_history.specs.declared.direction.Direction.{Direction}
@@ -21,8 +21,8 @@ use Rattle.pm_authority.specs.Kept.{IsKept}
 use Rattle.pm_authority.specs.Requests.{NamedBy}
 use Rattle.pm_authority.specs.Presents.{presented}
 use Rattle.pm_client.specs.declared.client.Client.{Client}
-use Rattle.pm_client.specs.declared.taken.Kind.{Kind}
-use Rattle.pm_client.specs.declared.taken.Kind.TheVariants.{Submit as Submission, Ask as Asking}
+use Rattle.pm_client.specs.declared.taken.MessageKind.{MessageKind}
+use Rattle.pm_client.specs.declared.taken.MessageKind.TheVariants.{Submit as Submission, Ask as Asking}
 use Rattle.pm_client.specs.Clients.{edited, event_turned, last_turned, cursor_set, message_of, composed, kept, taken, taken_at, message_at}
 use Rattle.pm_client.specs.Kins.{IsOwn, MessageStands, Kin}
 use Rattle.pm_client.proofs.Takings.{kin-taken_at}
@@ -55,7 +55,7 @@ module _ {Rules Doc Reason C : Type 0} (m : Meaning Rules Doc Reason C) (rules :
     pub named : Each (NamedBy c.name) c.messages → Each (NamedBy next.name) next.messages
 
 -- each step of a message just composed has the client's name
-pub message-named : {Rules Doc Reason C : Type 0} (c : Client C Rules Doc Reason) (kind : Kind) → Each (IsOwn c.name) c.pending → NamedBy c.name (message_of c kind)
+pub message-named : {Rules Doc Reason C : Type 0} (c : Client C Rules Doc Reason) (kind : MessageKind) → Each (IsOwn c.name) c.pending → NamedBy c.name (message_of c kind)
 message-named c Submission own = All-from_recursion (IsOwn c.name) c.pending own
 message-named c Asking own = tt
 
@@ -100,8 +100,8 @@ module _ {Rules Doc Reason C : Type 0} (m : Meaning Rules Doc Reason C) (rules :
       from (Some event) e =
           moved-box (event_turned m rules c way event).1 (turned-keeps m rules c way event) (kin-turned m rules laws a.first a.log c kin way event e)
 
-  pub sets-moved : (p : ℕ) (side : ℤ) → IsSide side → Moved m rules a c false false a (sets m c p side).1
-  sets-moved p side is_side = from (nat_lt (m.size c.doc) p) refl
+  pub sets-moved : (p : ℕ) (side : Side) → Moved m rules a c false false a (sets m c p side).1
+  sets-moved p side = from (nat_lt (m.size c.doc) p) refl
     where
       chosen : Bool → Outcome C Rules Doc Reason × Client C Rules Doc Reason
       chosen b = if b then (NoneMade Range, c) else (CursorAt p, cursor_set c p side)
@@ -110,12 +110,12 @@ module _ {Rules Doc Reason C : Type 0} (m : Meaning Rules Doc Reason C) (rules :
       from true e = unmoved
       from false e =
           moved-box (cursor_set c p side) (record { name = refl; messages = refl; answers = refl })
-          (kin-cursor m rules a.first a.log c kin p side (ltb-false (m.size c.doc) p e) is_side)
+          (kin-cursor m rules a.first a.log c kin p side (ltb-false (m.size c.doc) p e))
 
   pub takes-moved : (n : ℕ) → Moved m rules a c false false a (taken_at m rules c n).1
   takes-moved n = moved-box (taken_at m rules c n).1 (taken_at-keeps m rules c n) (kin-taken_at m rules a.first a.log c kin laws n)
 
-  pub composes-moved : (kind : Kind) → Moved m rules a c true false a (composed c kind)
+  pub composes-moved : (kind : MessageKind) → Moved m rules a c true false a (composed c kind)
   composes-moved kind =
       moved-alone true false (composed c kind) refl (length-append c.messages (message_of c kind ∷ [])) (omega arith) (kin-composed m rules a.first a.log c kin kind)
       (λ h. Each-append (NamedBy c.name) c.messages (message_of c kind ∷ []) h (message-named c kind kin.own, tt))
@@ -173,14 +173,14 @@ moved-twice m rules a c mid gets new next one two = record {
 module _ {Rules Doc Reason C : Type 0} (m : Meaning Rules Doc Reason C) (rules : Rules) (laws : Laws m) (a : Authority C Rules Doc Reason) (stood : IsKept m rules a)
     (c : Client C Rules Doc Reason) (kin : Kin m rules a.first a.log c) where
   -- the client composed a message and presented it
-  pub sent-moved : (kind : Kind) → Moved m rules a c true false (presented m rules a (message_of c kind)).1 (composed c kind)
+  pub sent-moved : (kind : MessageKind) → Moved m rules a c true false (presented m rules a (message_of c kind)).1 (composed c kind)
   sent-moved kind =
       let k = kin-composed m rules a.first a.log c kin kind in
       moved-twice m rules a c (composed c kind) false (presented m rules a (message_of c kind)).1 (composed c kind) (composes-moved m rules laws a stood c kin kind)
       (presented-moved m rules laws a stood (composed c kind) k (message_of c kind) (new-stands m rules laws c kind))
 
   -- and kept the answer
-  pub given-moved : (kind : Kind)
+  pub given-moved : (kind : MessageKind)
       → Moved m rules a c true true (presented m rules a (message_of c kind)).1 (kept (composed c kind) (presented m rules a (message_of c kind)).0)
   given-moved kind =
       let k = kin-composed m rules a.first a.log c kin kind in
@@ -188,7 +188,7 @@ module _ {Rules Doc Reason C : Type 0} (m : Meaning Rules Doc Reason C) (rules :
       moved-twice m rules a c (composed c kind) true p.1 (kept (composed c kind) p.0) (composes-moved m rules laws a stood c kin kind)
       (kept-moved m rules laws a stood (composed c kind) k (message_of c kind) (new-stands m rules laws c kind))
 
-  pub exchanges-moved : (kind : Kind) (lost : Bool) → Moved m rules a c true true (exchanges_at m rules a c kind lost).1 (exchanges_at m rules a c kind lost).2
+  pub exchanges-moved : (kind : MessageKind) (lost : Bool) → Moved m rules a c true true (exchanges_at m rules a c kind lost).1 (exchanges_at m rules a c kind lost).2
   exchanges-moved kind true = given-moved kind
   exchanges-moved kind false =
       let p = presented m rules a (message_of c kind) in
@@ -216,7 +216,7 @@ module _ {Rules Doc Reason C : Type 0} (m : Meaning Rules Doc Reason C) (rules :
     acted-moved (Edit op event) h = edits-moved m rules laws a stood c kin event (makes c.doc op)
     acted-moved Undo h = turns-moved m rules laws a stood c kin direction.Undo
     acted-moved Redo h = turns-moved m rules laws a stood c kin direction.Redo
-    acted-moved (Cursor p side) h = sets-moved m rules laws a stood c kin p side h
+    acted-moved (Cursor p side) h = sets-moved m rules laws a stood c kin p side
     acted-moved Submit h = composes-moved m rules laws a stood c kin Submission
     acted-moved Ask h = composes-moved m rules laws a stood c kin Asking
     acted-moved (Take n) h = takes-moved m rules laws a stood c kin n

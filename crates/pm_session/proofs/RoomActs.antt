@@ -4,7 +4,7 @@ use Rattle.std.proofs.Common.{sym, ap, ◌∙◌, subst}
 use Rattle.pm_change.specs.Changes.{Meaning, Laws}
 use Rattle.pm_change.specs.declared.no_step.NoStep.{NoStep}
 use Rattle.pm_authority.specs.declared.authority.Authority.{Authority}
-use Rattle.pm_client.specs.declared.taken.Kind.{Kind}
+use Rattle.pm_client.specs.declared.taken.MessageKind.{MessageKind}
 use Rattle.pm_session.specs.declared.line.Line.{Line}
 use Rattle.pm_session.specs.declared.member.Member.{Member}
 use Rattle.pm_session.specs.declared.outcome.Outcome.{Outcome}
@@ -107,7 +107,7 @@ module _ {Rules Doc Reason C : Type 0} (m : Meaning Rules Doc Reason C) (rules :
 
   -- ---- exchanges
 
-  module _ (s : State C Rules Doc Reason) (kind : Kind) (i : ℕ) (x : Member C Rules Doc Reason) (at : slice_get s.members i ≡ Some x) where
+  module _ (s : State C Rules Doc Reason) (kind : MessageKind) (i : ℕ) (x : Member C Rules Doc Reason) (at : slice_get s.members i ≡ Some x) where
     pub exchange-is : {E : Type 0} (r : Result (Outcome C Rules Doc Reason) E) (new : Authority C Rules Doc Reason) (next : Member C Rules Doc Reason)
         → IfOk r (λ o. (o, new, next) ≡ member_exchanges m rules s.authority kind x)
         → IfOk r (λ o. (o, placed s i new next) ≡ by_member s i (member_exchanges m rules s.authority kind))

@@ -1,6 +1,7 @@
 -- From each room to the next cursors stay before their tokens.
-use Rattle.std.specs.Prelude.{◌≡◌, ◌⊎◌, ℕ, zero, suc, ◌+◌, ◌≤◌, pos, false, List, [], ◌∷◌, ◌++◌, take, slice_get, Option, Some, None, Result, refl}
+use Rattle.std.specs.Prelude.{◌≡◌, ◌⊎◌, ℕ, zero, suc, ◌+◌, ◌≤◌, false, List, [], ◌∷◌, ◌++◌, take, slice_get, Option, Some, None, Result, refl}
 use Rattle.std.proofs.Common.{sym, ap, ◌∙◌, subst, inl, inr, arith, add-one, append-nil}
+use Rattle.pm_map.specs.declared.side.Side.TheVariants.{After}
 use Rattle.pm_change.specs.Changes.{Meaning, Laws}
 use Rattle.pm_change.specs.declared.no_step.NoStep.{NoStep}
 use Rattle.pm_authority.specs.declared.authority.Authority.{Authority}
@@ -9,7 +10,7 @@ use Rattle.pm_authority.specs.declared.message.Answer.{Answer}
 use Rattle.pm_authority.specs.declared.named.Named.{Named}
 use Rattle.pm_authority.specs.Kept.{IsKept}
 use Rattle.pm_client.specs.declared.client.Client.{Client}
-use Rattle.pm_client.specs.declared.taken.Kind.{Kind}
+use Rattle.pm_client.specs.declared.taken.MessageKind.{MessageKind}
 use Rattle.pm_client.specs.TokenNames.{Token, Has, AllDiffer, KeepsTokens}
 use Rattle.pm_client.specs.Cursors.{cursor}
 use Rattle.pm_session.specs.declared.line.Line.{Line}
@@ -78,7 +79,7 @@ module _ {Rules Doc Reason C : Type 0} (m : Meaning Rules Doc Reason C) (rules :
       let l = left-editor m rules a new c next act h in
       rw l.1 (editor-rested c stands new l.0 (left-stayed m rules laws a stood c stands.kin act (new, l.0) l.2))
 
-  pub exchanged-rested : (kind : Kind) (x : Member C Rules Doc Reason) → MemberStands m rules a.first a.log x
+  pub exchanged-rested : (kind : MessageKind) (x : Member C Rules Doc Reason) → MemberStands m rules a.first a.log x
       → Rested m rules a x (member_exchanges m rules a kind x).1 (member_exchanges m rules a kind x).2
   exchanged-rested kind (Raw name serial) stands = raw-rested name serial a (Raw name serial) refl
   exchanged-rested kind (Editor c) stands =
@@ -97,8 +98,8 @@ module _ {Rules Doc Reason C : Type 0} (m : Meaning Rules Doc Reason C) (rules :
       (log_is : new.log ≡ s.authority.log ++ more) where
     abbrev Stays : Client C Rules Doc Reason → Client C Rules Doc Reason → Type 0
     Stays d e =
-        NonePinched m new d e → (j p : ℕ) (t : Token) → slice_get d.cursors j ≡ Some (cursor p (pos 1)) → slice_get (tokens_of m s.authority d) p ≡ Some t → Has (tokens_of m new e) t
-        → (q : ℕ) × (slice_get e.cursors j ≡ Some (cursor q (pos 1))) × (slice_get (tokens_of m new e) q ≡ Some t)
+        NonePinched m new d e → (j p : ℕ) (t : Token) → slice_get d.cursors j ≡ Some (cursor p After) → slice_get (tokens_of m s.authority d) p ≡ Some t → Has (tokens_of m new e) t
+        → (q : ℕ) × (slice_get e.cursors j ≡ Some (cursor q After)) × (slice_get (tokens_of m new e) q ≡ Some t)
 
     -- member i became the next one
     pub placed-stays : Rested m rules s.authority x new next → CursorsStay m s (placed s i new next)

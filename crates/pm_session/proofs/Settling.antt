@@ -12,8 +12,8 @@ use Rattle.pm_authority.specs.Kept.{IsKept}
 use Rattle.pm_authority.specs.Runs.{changes_of, AllApply}
 use Rattle.pm_authority.proofs.RunFolds.{changes-append, fold-run}
 use Rattle.pm_client.specs.declared.client.Client.{Client}
-use Rattle.pm_client.specs.declared.taken.Kind.{Kind}
-use Rattle.pm_client.specs.declared.taken.Kind.TheVariants.{Submit as Submission, Ask as Asking}
+use Rattle.pm_client.specs.declared.taken.MessageKind.{MessageKind}
+use Rattle.pm_client.specs.declared.taken.MessageKind.TheVariants.{Submit as Submission, Ask as Asking}
 use Rattle.pm_client.specs.declared.taken.Taken.TheVariants.{Stale}
 use Rattle.pm_client.specs.Clients.{own_run, composed, kept, confirmed_first, others_taken, rest_taken, taken}
 use Rattle.pm_client.specs.Kins.{Kin}
@@ -129,7 +129,7 @@ module _ {Rules Doc Reason C : Type 0} (m : Meaning Rules Doc Reason C) (rules :
 
 module _ {Rules Doc Reason C : Type 0} (m : Meaning Rules Doc Reason C) (rules : Rules) (laws : Laws m) where
   -- the others stay as they are in a member's turn
-  others-stay : (kind : Kind) (i k : ℕ) (s : State C Rules Doc Reason) (d : Client C Rules Doc Reason) → (k ≡ i → ⊥)
+  others-stay : (kind : MessageKind) (i k : ℕ) (s : State C Rules Doc Reason) (d : Client C Rules Doc Reason) → (k ≡ i → ⊥)
       → slice_get (exchanged m rules kind i s).members k ≡ Some (Editor d) → slice_get s.members k ≡ Some (Editor d)
   others-stay kind i k s d apart h = from (slice_get s.members i) h
     where
@@ -143,7 +143,7 @@ module _ {Rules Doc Reason C : Type 0} (m : Meaning Rules Doc Reason C) (rules :
           other (inl p) = absurd (apart p.0)
           other (inr p) = p.1
 
-  pub members-stay : (kind : Kind) (i : ℕ) (s : State C Rules Doc Reason) → length (exchanged m rules kind i s).members ≡ length s.members
+  pub members-stay : (kind : MessageKind) (i : ℕ) (s : State C Rules Doc Reason) → length (exchanged m rules kind i s).members ≡ length s.members
   members-stay kind i s = from (slice_get s.members i)
     where
       from : (o : Option (Member C Rules Doc Reason)) → length (by_some s i o (member_exchanges m rules s.authority kind)).1.members ≡ length s.members
@@ -160,12 +160,12 @@ module _ {Rules Doc Reason C : Type 0} (m : Meaning Rules Doc Reason C) (rules :
       from (Some (Raw name serial)) = refl
 
   -- what the editor whose turn it was is, and what it was
-  pub record Turned (kind : Kind) (i : ℕ) (s : State C Rules Doc Reason) (d : Client C Rules Doc Reason) : Type 0 where
+  pub record Turned (kind : MessageKind) (i : ℕ) (s : State C Rules Doc Reason) (d : Client C Rules Doc Reason) : Type 0 where
     pub was : Client C Rules Doc Reason
     pub at : slice_get s.members i ≡ Some (Editor was)
     pub is : d ≡ (exchanges_at m rules s.authority was kind false).2
 
-  turned : (kind : Kind) (i : ℕ) (s : State C Rules Doc Reason) (d : Client C Rules Doc Reason) → slice_get (exchanged m rules kind i s).members i ≡ Some (Editor d)
+  turned : (kind : MessageKind) (i : ℕ) (s : State C Rules Doc Reason) (d : Client C Rules Doc Reason) → slice_get (exchanged m rules kind i s).members i ≡ Some (Editor d)
       → Turned kind i s d
   turned kind i s d h = from (slice_get s.members i) refl h
     where

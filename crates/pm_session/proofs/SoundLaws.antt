@@ -13,8 +13,8 @@ use Rattle.pm_authority.specs.declared.authority.Authority.{Authority}
 use Rattle.pm_authority.specs.Runs.{run}
 use Rattle.pm_authority.specs.Presents.{tried, presented}
 use Rattle.pm_client.specs.declared.client.Client.{Client}
-use Rattle.pm_client.specs.declared.taken.Kind.{Kind}
-use Rattle.pm_client.specs.declared.taken.Kind.TheVariants.{Submit as Submission, Ask as Asking}
+use Rattle.pm_client.specs.declared.taken.MessageKind.{MessageKind}
+use Rattle.pm_client.specs.declared.taken.MessageKind.TheVariants.{Submit as Submission, Ask as Asking}
 use Rattle.pm_client.specs.Clients.{message_of, message_at}
 use Rattle.pm_client.specs.Kins.{IsOwn, MessageStands, Kin}
 use Rattle.pm_client.proofs.Lists.{Each-front}
@@ -58,7 +58,7 @@ module _ {Rules Doc Reason C : Type 0} (m : Meaning Rules Doc Reason C) (rules :
       subst (λ y. MessageStands c.version c.pending y) (g.1 x) (kin.messages (j - 1) x g.0)
 
   -- a message just composed stands
-  pub new-stands : (c : Client C Rules Doc Reason) (kind : Kind) → MessageStands c.version c.pending (message_of c kind)
+  pub new-stands : (c : Client C Rules Doc Reason) (kind : MessageKind) → MessageStands c.version c.pending (message_of c kind)
   new-stands c Submission = (omega arith, λ e. ([], append-end c.pending))
     where
       append-end : (xs : List (Named C)) → xs ++ [] ≡ xs

@@ -1,8 +1,10 @@
 -- Each line keeps cursors before their tokens.
-use Rattle.std.specs.Prelude.{◌≡◌, ℕ, ℤ, zero, suc, pos, ◌+◌, ◌-◌, ◌≤◌, ◌==◌, nat_lt, if◌then◌else◌, Bool, true, false, List, [], ◌∷◌, ◌++◌, length, take, drop, slice_get, Option, Some, None, Result, Ok, Err, refl}
+use Rattle.std.specs.Prelude.{◌≡◌, ℕ, zero, suc, ◌+◌, ◌-◌, ◌≤◌, ◌==◌, nat_lt, if◌then◌else◌, Bool, true, false, List, [], ◌∷◌, ◌++◌, length, take, drop, slice_get, Option, Some, None, Result, Ok, Err, refl}
 use Rattle.std.proofs.Common.{sym, ap, ◌∙◌, subst, inl, inr, arith, append_assoc, append-nil}
 use Rattle.std.proofs.Math.Seq.{take-append-add, take-append_seam}
 use Rattle.std.proofs.lemmas.List.{take-append-drop}
+use Rattle.pm_map.specs.declared.side.Side.{Side}
+use Rattle.pm_map.specs.declared.side.Side.TheVariants.{After}
 use Rattle.pm_change.specs.Changes.{Meaning, Laws}
 use Rattle.pm_change.specs.declared.no_step.NoStep.{NoStep}
 use Rattle.pm_change.specs.declared.no_step.NoStep.TheVariants.{Range}
@@ -22,8 +24,8 @@ use Rattle.pm_authority.specs.Kept.{IsKept}
 use Rattle.pm_authority.specs.Runs.{run, changes_of}
 use Rattle.pm_authority.specs.Presents.{tried, presented}
 use Rattle.pm_client.specs.declared.client.Client.{Client}
-use Rattle.pm_client.specs.declared.taken.Kind.{Kind}
-use Rattle.pm_client.specs.declared.taken.Kind.TheVariants.{Submit as Submission, Ask as Asking}
+use Rattle.pm_client.specs.declared.taken.MessageKind.{MessageKind}
+use Rattle.pm_client.specs.declared.taken.MessageKind.TheVariants.{Submit as Submission, Ask as Asking}
 use Rattle.pm_client.specs.Clients.{edited, last_turned, cursor_set, message_of, message_at, composed, kept, taken, taken_at, taken_if, answer_at}
 use Rattle.pm_client.specs.Kins.{Kin}
 use Rattle.pm_client.specs.Serials.{serials_of, own_serials}
@@ -102,8 +104,8 @@ module _ {Rules Doc Reason C : Type 0} (m : Meaning Rules Doc Reason C) (rules :
         ∙ ap (λ l. take d.version l) whole ∙ ap (λ k. take k (kin.before ++ drop c.version new.log)) n
         ∙ take-append-add kin.before (drop c.version new.log) (d.version - c.version)
 
-    pub stays-before : KeepsTokens m new.log c d (m.size c.base) → NonePinched m new c d → (j p : ℕ) (x : Token) → slice_get c.cursors j ≡ Some (cursor p (pos 1))
-        → slice_get (tokens_of m a c) p ≡ Some x → Has (tokens_of m new d) x → (q : ℕ) × (slice_get d.cursors j ≡ Some (cursor q (pos 1))) × (slice_get (tokens_of m new d) q ≡ Some x)
+    pub stays-before : KeepsTokens m new.log c d (m.size c.base) → NonePinched m new c d → (j p : ℕ) (x : Token) → slice_get c.cursors j ≡ Some (cursor p After)
+        → slice_get (tokens_of m a c) p ≡ Some x → Has (tokens_of m new d) x → (q : ℕ) × (slice_get d.cursors j ≡ Some (cursor q After)) × (slice_get (tokens_of m new d) q ≡ Some x)
     stays-before keeps unpinched j p x at was has =
         let start : List Token = first_names (m.size a.first) in
         let base : List Token = names_after m start kin.before in
@@ -137,7 +139,7 @@ module _ {Rules Doc Reason C : Type 0} (m : Meaning Rules Doc Reason C) (log : L
   pub record Same : Type 0 where
     pub version : d.version ≡ c.version
     pub pending : d.pending ≡ c.pending
-    pub cursors : (i p : ℕ) → slice_get c.cursors i ≡ Some (cursor p (pos 1)) → slice_get d.cursors i ≡ Some (cursor p (pos 1))
+    pub cursors : (i p : ℕ) → slice_get c.cursors i ≡ Some (cursor p After) → slice_get d.cursors i ≡ Some (cursor p After)
 
   pub same-keeps : Same → (n : ℕ) → KeepsTokens m log c d n
   same-keeps same n names may i p t at before after = (p, same.cursors i p at, rw (none, same.pending) before)
@@ -202,7 +204,7 @@ module _ {Rules Doc Reason C : Type 0} (m : Meaning Rules Doc Reason C) (rules :
         from None e = unmoved
         from (Some event) e = record { keeps = turned-keeps m rules laws a.first a.log c kin way event e; rises = omega arith; first = refl }
 
-    sets-stayed : (p : ℕ) (side : ℤ) → Stayed a (sets m c p side).1
+    sets-stayed : (p : ℕ) (side : Side) → Stayed a (sets m c p side).1
     sets-stayed p side = from (nat_lt (m.size c.doc) p)
       where
         chosen : Bool → Outcome C Rules Doc Reason × Client C Rules Doc Reason
@@ -210,9 +212,9 @@ module _ {Rules Doc Reason C : Type 0} (m : Meaning Rules Doc Reason C) (rules :
 
         from : (b : Bool) → Stayed a (chosen b).1
         from true = unmoved
-        from false = same-stayed a (cursor_set c p side) (record { version = refl; pending = refl; cursors = λ i q h. get-front c.cursors (cursor p side ∷ []) i (cursor q (pos 1)) h }) refl
+        from false = same-stayed a (cursor_set c p side) (record { version = refl; pending = refl; cursors = λ i q h. get-front c.cursors (cursor p side ∷ []) i (cursor q After) h }) refl
 
-    composed-stayed : (kind : Kind) → Stayed a (composed c kind)
+    composed-stayed : (kind : MessageKind) → Stayed a (composed c kind)
     composed-stayed kind = same-stayed a (composed c kind) (record { version = refl; pending = refl; cursors = λ i p h. h }) refl
 
     presented-stayed : (message : Message C) → Stayed (presented m rules a message).1 c
@@ -224,12 +226,12 @@ module _ {Rules Doc Reason C : Type 0} (m : Meaning Rules Doc Reason C) (rules :
         let p = presented m rules a message in
         same-stayed p.1 (kept c p.0) (record { version = refl; pending = refl; cursors = λ i q h. h }) (presented-first a message)
 
-    sent-stayed : (kind : Kind) → Stayed (presented m rules a (message_of c kind)).1 (composed c kind)
+    sent-stayed : (kind : MessageKind) → Stayed (presented m rules a (message_of c kind)).1 (composed c kind)
     sent-stayed kind =
         let p = presented m rules a (message_of c kind) in
         same-stayed p.1 (composed c kind) (record { version = refl; pending = refl; cursors = λ i q h. h }) (presented-first a (message_of c kind))
 
-    given-stayed : (kind : Kind) → Stayed (presented m rules a (message_of c kind)).1 (kept (composed c kind) (presented m rules a (message_of c kind)).0)
+    given-stayed : (kind : MessageKind) → Stayed (presented m rules a (message_of c kind)).1 (kept (composed c kind) (presented m rules a (message_of c kind)).0)
     given-stayed kind =
         let p = presented m rules a (message_of c kind) in
         same-stayed p.1 (kept (composed c kind) p.0) (record { version = refl; pending = refl; cursors = λ i q h. h }) (presented-first a (message_of c kind))
@@ -246,7 +248,7 @@ module _ {Rules Doc Reason C : Type 0} (m : Meaning Rules Doc Reason C) (rules :
         from None = omega arith
         from (Some x) = taken-rises c x
 
-    pub exchanges-stayed : (kind : Kind) (lost : Bool) → Stayed (exchanges_at m rules a c kind lost).1 (exchanges_at m rules a c kind lost).2
+    pub exchanges-stayed : (kind : MessageKind) (lost : Bool) → Stayed (exchanges_at m rules a c kind lost).1 (exchanges_at m rules a c kind lost).2
     exchanges-stayed kind true = given-stayed kind
     exchanges-stayed kind false =
         let p = presented m rules a (message_of c kind) in
@@ -277,7 +279,7 @@ module _ {Rules Doc Reason C : Type 0} (m : Meaning Rules Doc Reason C) (rules :
     as-was : (p : Authority C Rules Doc Reason × Client C Rules Doc Reason) → AsWas m rules a c p → Stayed p.0 p.1
     as-was p e = subst (λ (q : Authority C Rules Doc Reason × Client C Rules Doc Reason). Stayed q.0 q.1) (sym e) unmoved
 
-    exchanging : (kind : Kind) (p : Authority C Rules Doc Reason × Client C Rules Doc Reason) → WasExchanging m rules a c kind p → Stayed p.0 p.1
+    exchanging : (kind : MessageKind) (p : Authority C Rules Doc Reason × Client C Rules Doc Reason) → WasExchanging m rules a c kind p → Stayed p.0 p.1
     exchanging kind p (inl e) = as-was p e
     exchanging kind p (inr (inl e)) = subst (λ (q : Authority C Rules Doc Reason × Client C Rules Doc Reason). Stayed q.0 q.1) (sym e) (composed-stayed kind)
     exchanging kind p (inr (inr (inl e))) = subst (λ (q : Authority C Rules Doc Reason × Client C Rules Doc Reason). Stayed q.0 q.1) (sym e) (sent-stayed kind)

@@ -2,8 +2,8 @@
 use Rattle.std.specs.Prelude.{◌≡◌, ℕ, zero, suc, ◌+◌, ◌-◌, ◌<◌, length, slice_get, Option, Some, None, refl}
 use Rattle.std.proofs.Common.{sym, ap, ◌∙◌, arith, add-one}
 use Rattle.pm_change.specs.Changes.{Meaning, Laws}
-use Rattle.pm_client.specs.declared.taken.Kind.{Kind}
-use Rattle.pm_client.specs.declared.taken.Kind.TheVariants.{Submit, Ask}
+use Rattle.pm_client.specs.declared.taken.MessageKind.{MessageKind}
+use Rattle.pm_client.specs.declared.taken.MessageKind.TheVariants.{Submit, Ask}
 use Rattle.pm_session.specs.declared.member.Member.{Member}
 use Rattle.pm_session.specs.Events.{State, by_some, member_exchanges}
 use Rattle.pm_session.specs.Sessions.{exchanged, brought_up, in_turn, settled}
@@ -27,7 +27,7 @@ turn-last {Rules = Rules} {Doc = Doc} {Reason = Reason} {C = C} does k s = let s
         last (j + 1) n (does j s) ∙ ap (λ i. does i (in_turn does (j + 1) n (does j s))) same
 
 module _ {Rules Doc Reason C : Type 0} (m : Meaning Rules Doc Reason C) (rules : Rules) (laws : Laws m) where
-  pub exchanged-sound : (kind : Kind) (i : ℕ) (s : State C Rules Doc Reason) → Sound m rules s → Sound m rules (exchanged m rules kind i s)
+  pub exchanged-sound : (kind : MessageKind) (i : ℕ) (s : State C Rules Doc Reason) → Sound m rules s → Sound m rules (exchanged m rules kind i s)
   exchanged-sound kind i s sound = from (slice_get s.members i) refl
     where
       from : (o : Option (Member C Rules Doc Reason)) → slice_get s.members i ≡ o → Sound m rules (by_some s i o (member_exchanges m rules s.authority kind)).1

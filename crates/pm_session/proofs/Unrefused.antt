@@ -1,6 +1,7 @@
 -- No message that a client composed is refused for a step.
-use Rattle.std.specs.Prelude.{◌≡◌, ℕ, zero, suc, ℤ, nat_lt, if◌then◌else◌, Bool, true, false, List, [], ◌∷◌, Option, Some, None, Result, Ok, Err, refl}
+use Rattle.std.specs.Prelude.{◌≡◌, ℕ, zero, suc, nat_lt, if◌then◌else◌, Bool, true, false, List, [], ◌∷◌, Option, Some, None, Result, Ok, Err, refl}
 use Rattle.std.proofs.Common.{sym, ap, ◌∙◌, subst}
+use Rattle.pm_map.specs.declared.side.Side.{Side}
 use Rattle.pm_change.specs.Changes.{Meaning, Laws}
 use Rattle.pm_change.specs.declared.no_step.NoStep.{NoStep}
 use Rattle.pm_change.specs.declared.no_step.NoStep.TheVariants.{Range}
@@ -11,8 +12,8 @@ use Rattle.pm_authority.specs.declared.message.Answer.{Answer}
 use Rattle.pm_authority.specs.Kept.{IsKept}
 use Rattle.pm_authority.specs.Presents.{presented}
 use Rattle.pm_client.specs.declared.client.Client.{Client}
-use Rattle.pm_client.specs.declared.taken.Kind.{Kind}
-use Rattle.pm_client.specs.declared.taken.Kind.TheVariants.{Submit as Submission, Ask as Asking}
+use Rattle.pm_client.specs.declared.taken.MessageKind.{MessageKind}
+use Rattle.pm_client.specs.declared.taken.MessageKind.TheVariants.{Submit as Submission, Ask as Asking}
 use Rattle.pm_client.specs.Clients.{edited, undone_last, redone_last, cursor_set, message_of, message_at, composed, kept}
 use Rattle.pm_client.specs.Kins.{Kin}
 use Rattle.pm_client.proofs.Keeps.{kin-composed}
@@ -53,7 +54,7 @@ module _ {Rules Doc Reason C : Type 0} (m : Meaning Rules Doc Reason C) (rules :
   edits-none event (Ok steps) = made-none c steps (edited m rules c steps event)
   edits-none event (Err reason) = tt
 
-  sets-none : (p : ℕ) (side : ℤ) → GetsNoRefusal (sets m c p side).0
+  sets-none : (p : ℕ) (side : Side) → GetsNoRefusal (sets m c p side).0
   sets-none p side = from (nat_lt (m.size c.doc) p)
     where
       chosen : Bool → Outcome C Rules Doc Reason × Client C Rules Doc Reason
@@ -67,7 +68,7 @@ module _ {Rules Doc Reason C : Type 0} (m : Meaning Rules Doc Reason C) (rules :
   ends-none true d answer h = tells answer h
   ends-none false d answer h = tells answer h
 
-  pub exchanges-none : (kind : Kind) (lost : Bool) → GetsNoRefusal (exchanges_at m rules a c kind lost).0
+  pub exchanges-none : (kind : MessageKind) (lost : Bool) → GetsNoRefusal (exchanges_at m rules a c kind lost).0
   exchanges-none kind lost =
       let p = presented m rules a (message_of c kind) in
       ends-none lost (kept (composed c kind) p.0) p.0

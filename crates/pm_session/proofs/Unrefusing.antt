@@ -3,7 +3,7 @@ use Rattle.std.specs.Prelude.{◌≡◌}
 use Rattle.std.proofs.Common.{sym, subst}
 use Rattle.pm_authority.specs.declared.message.Answer.{Answer}
 use Rattle.pm_authority.specs.declared.message.Answer.TheVariants.{Accepted, WrongVersion, StepRefused, Entries}
-use Rattle.pm_session.specs.declared.outcome.Told.{Told}
+use Rattle.pm_session.specs.declared.outcome.AnswerSummary.{AnswerSummary}
 use Rattle.pm_session.specs.Events.{told}
 use Rattle.pm_session.specs.Refusals.{RefusesNoStep, TellsNoRefusal}
 
@@ -14,5 +14,5 @@ module _ {Rules Doc Reason C : Type 0} where
   tells-none (StepRefused index reason) h = h
   tells-none (Entries since entries) h = tt
 
-  pub told-none : (a : Answer C Rules Doc Reason) (t : Told C Rules Doc Reason) → t ≡ told a → RefusesNoStep a → TellsNoRefusal t
+  pub told-none : (a : Answer C Rules Doc Reason) (t : AnswerSummary C Rules Doc Reason) → t ≡ told a → RefusesNoStep a → TellsNoRefusal t
   told-none a t is h = subst TellsNoRefusal (sym is) (tells-none a h)

@@ -7,8 +7,8 @@ use Rattle.pm_authority.specs.declared.message.Message.{Message}
 use Rattle.pm_authority.specs.declared.message.Message.TheVariants.{Submit as SubmitMessage}
 use Rattle.pm_authority.specs.declared.message.Answer.{Answer}
 use Rattle.pm_client.specs.declared.client.Client.{Client}
-use Rattle.pm_client.specs.declared.taken.Kind.{Kind}
-use Rattle.pm_client.specs.declared.taken.Kind.TheVariants.{Submit as Submission, Ask as Asking}
+use Rattle.pm_client.specs.declared.taken.MessageKind.{MessageKind}
+use Rattle.pm_client.specs.declared.taken.MessageKind.TheVariants.{Submit as Submission, Ask as Asking}
 use Rattle.pm_client.specs.declared.taken.Taken.{Taken}
 use Rattle.pm_client.specs.Clients.{named, message_of, message_at}
 use Rattle.pm_session.specs.declared.line.Act.{Act}
@@ -86,14 +86,14 @@ module _ {Rules Doc Reason C : Type 0} (m : Meaning Rules Doc Reason C) (rules :
     pub restores : Restores m rules s line t
 
   -- What an editor's message got in an exchange of this kind: an answer, for its cause, which refuses no step.
-  pub record IsExchanged (kind : Kind) (a : Authority C Rules Doc Reason) (c : Client C Rules Doc Reason) (new : Authority C Rules Doc Reason) : Type 0 where
+  pub record IsExchanged (kind : MessageKind) (a : Authority C Rules Doc Reason) (c : Client C Rules Doc Reason) (new : Authority C Rules Doc Reason) : Type 0 where
     pub answer : Answer C Rules Doc Reason
     pub gets : Gets a (message_of c kind) answer new
     pub unrefused : RefusesNoStep answer
 
   -- An exchange of this kind by member i, from one room to the next, of which all holds that holds of a room. A raw client
   -- exchanges nothing, and the room stays as it is.
-  pub record ExchangeHolds (kind : Kind) (i : ℕ) (s t : State C Rules Doc Reason) : Type 0 where
+  pub record ExchangeHolds (kind : MessageKind) (i : ℕ) (s t : State C Rules Doc Reason) : Type 0 where
     pub answered : (c : Client C Rules Doc Reason) → slice_get s.members i ≡ Some (Editor c) → IsExchanged kind s.authority c t.authority
     pub passed_by : (name serial : ℕ) → slice_get s.members i ≡ Some (Raw name serial) → t ≡ s
     pub cursors : CursorsStay m s t

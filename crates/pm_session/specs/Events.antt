@@ -1,5 +1,6 @@
 -- What a line makes of a room.
-use Rattle.std.specs.Prelude.{ℕ, ℤ, ◌+◌, nat_lt, if◌then◌else◌, Bool, true, false, List, length, slice_get, slice_set, Option, Some, None, Result, Ok, Err}
+use Rattle.std.specs.Prelude.{ℕ, ◌+◌, nat_lt, if◌then◌else◌, Bool, true, false, List, length, slice_get, slice_set, Option, Some, None, Result, Ok, Err}
+use Rattle.pm_map.specs.declared.side.Side.{Side}
 use Rattle.pm_change.specs.Changes.{Meaning}
 use Rattle.pm_change.specs.declared.no_step.NoStep.{NoStep}
 use Rattle.pm_change.specs.declared.no_step.NoStep.TheVariants.{Range, NotThere}
@@ -11,16 +12,16 @@ use Rattle.pm_authority.specs.declared.authority.Authority.{Authority}
 use Rattle.pm_authority.specs.declared.running.Refusal.{Refusal}
 use Rattle.pm_authority.specs.Presents.{presented}
 use Rattle.pm_client.specs.declared.client.Client.{Client}
-use Rattle.pm_client.specs.declared.taken.Kind.{Kind}
-use Rattle.pm_client.specs.declared.taken.Kind.TheVariants.{Submit as Submission, Ask as Asking}
+use Rattle.pm_client.specs.declared.taken.MessageKind.{MessageKind}
+use Rattle.pm_client.specs.declared.taken.MessageKind.TheVariants.{Submit as Submission, Ask as Asking}
 use Rattle.pm_client.specs.Clients.{edited, undone_last, redone_last, cursor_set, named, message_of, message_at, composed, kept, taken, taken_at}
 use Rattle.pm_session.specs.declared.line.Line.{Line}
 use Rattle.pm_session.specs.declared.line.Act.{Act}
 use Rattle.pm_session.specs.declared.line.Act.TheVariants.{Edit, Undo, Redo, Cursor, Submit, Ask, Present, Take, Push, Pull, Forge}
 use Rattle.pm_session.specs.declared.member.Member.{Member}
 use Rattle.pm_session.specs.declared.member.Member.TheVariants.{Editor, Raw}
-use Rattle.pm_session.specs.declared.outcome.Told.{Told}
-use Rattle.pm_session.specs.declared.outcome.Told.TheVariants.{Accepted as ToldAccepted, Version, Refused as ToldRefused, Entries as ToldEntries}
+use Rattle.pm_session.specs.declared.outcome.AnswerSummary.{AnswerSummary}
+use Rattle.pm_session.specs.declared.outcome.AnswerSummary.TheVariants.{Accepted as ToldAccepted, Version, Refused as ToldRefused, Entries as ToldEntries}
 use Rattle.pm_session.specs.declared.outcome.Outcome.{Outcome}
 use Rattle.pm_session.specs.declared.outcome.Outcome.TheVariants.{Made, Nothing, NoStep as NoneMade, Refused, CursorAt, Composed, Answered, Took, Exchanged}
 use Rattle.pm_session.specs.declared.room.Room.{Room}
@@ -67,7 +68,7 @@ module _ {Rules Doc Reason C : Type 0} where
   by_member s i does = by_some s i (slice_get s.members i) does
 
   -- the answer, as an outcome tells it
-  abbrev pub told : Answer C Rules Doc Reason → Told C Rules Doc Reason
+  abbrev pub told : Answer C Rules Doc Reason → AnswerSummary C Rules Doc Reason
   told (Accepted from count) = ToldAccepted from count
   told (WrongVersion n) = Version n
   told (StepRefused index reason) = ToldRefused index reason
@@ -108,7 +109,7 @@ module _ {Rules Doc Reason C : Type 0} where
   turns c (Some p) = (Made p.0, p.1)
 
   -- a message is composed
-  abbrev pub composes : Client C Rules Doc Reason → Kind → Outcome C Rules Doc Reason × Client C Rules Doc Reason
+  abbrev pub composes : Client C Rules Doc Reason → MessageKind → Outcome C Rules Doc Reason × Client C Rules Doc Reason
   composes c kind = (Composed (length c.messages + 1), composed c kind)
 
   -- the answer to a message that was presented is kept
@@ -141,7 +142,7 @@ module _ {Rules Doc Reason C : Type 0} where
 
 module _ {Rules Doc Reason C : Type 0} (m : Meaning Rules Doc Reason C) where
   -- a cursor is set, unless its position passes the document's size
-  abbrev pub sets : Client C Rules Doc Reason → ℕ → ℤ → Outcome C Rules Doc Reason × Client C Rules Doc Reason
+  abbrev pub sets : Client C Rules Doc Reason → ℕ → Side → Outcome C Rules Doc Reason × Client C Rules Doc Reason
   sets c p side = if nat_lt (m.size c.doc) p then (NoneMade Range, c) else (CursorAt p, cursor_set c p side)
 
 module _ {Rules Doc Reason C : Type 0} (m : Meaning Rules Doc Reason C) (rules : Rules) where
@@ -160,7 +161,7 @@ module _ {Rules Doc Reason C : Type 0} (m : Meaning Rules Doc Reason C) (rules :
   ends false c answer = (Exchanged (told answer) (Some (taken m rules c answer).0), (taken m rules c answer).1)
 
   -- an editor composed a message of this kind and presented it: it keeps the answer, and takes it unless it is lost
-  abbrev pub exchanges : Client C Rules Doc Reason → Kind → Bool → Option (Answer C Rules Doc Reason) → Outcome C Rules Doc Reason × Client C Rules Doc Reason
+  abbrev pub exchanges : Client C Rules Doc Reason → MessageKind → Bool → Option (Answer C Rules Doc Reason) → Outcome C Rules Doc Reason × Client C Rules Doc Reason
   exchanges c kind lost (Some answer) = ends lost (kept (composed c kind) answer) answer
   exchanges c kind lost None = (NoneMade NotThere, c)
 
@@ -175,7 +176,7 @@ module _ {Rules Doc Reason C : Type 0} (m : Meaning Rules Doc Reason C) (rules :
 
   -- A member exchanges a message of this kind: it composes and presents it, and keeps and takes the answer. A raw client does
   -- nothing.
-  abbrev pub member_exchanges : Authority C Rules Doc Reason → Kind → Member C Rules Doc Reason
+  abbrev pub member_exchanges : Authority C Rules Doc Reason → MessageKind → Member C Rules Doc Reason
       → Outcome C Rules Doc Reason × Authority C Rules Doc Reason × Member C Rules Doc Reason
   member_exchanges a kind (Editor c) = by_answer a (Some (message_of c kind)) (λ answer. as_member (exchanges c kind false answer))
   member_exchanges a kind (Raw name serial) = (NoneMade NotThere, a, Raw name serial)

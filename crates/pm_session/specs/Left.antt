@@ -7,8 +7,8 @@ use Rattle.pm_authority.specs.declared.message.Message.{Message}
 use Rattle.pm_authority.specs.declared.message.Answer.{Answer}
 use Rattle.pm_authority.specs.Presents.{presented}
 use Rattle.pm_client.specs.declared.client.Client.{Client}
-use Rattle.pm_client.specs.declared.taken.Kind.{Kind}
-use Rattle.pm_client.specs.declared.taken.Kind.TheVariants.{Submit as Submission, Ask as Asking}
+use Rattle.pm_client.specs.declared.taken.MessageKind.{MessageKind}
+use Rattle.pm_client.specs.declared.taken.MessageKind.TheVariants.{Submit as Submission, Ask as Asking}
 use Rattle.pm_client.specs.Clients.{composed, kept, message_of, message_at}
 use Rattle.pm_session.specs.declared.line.Act.{Act}
 use Rattle.pm_session.specs.declared.line.Act.TheVariants.{Edit, Undo, Redo, Cursor, Submit, Ask, Present, Take, Push, Pull, Forge}
@@ -30,7 +30,7 @@ module _ {Rules Doc Reason C : Type 0} (same : Type 0) (tells : Message C → An
   LeftPresenting message c next = (same × (next ≡ Editor c)) ⊎ ((answer : Answer C Rules Doc Reason) × tells message answer × (next ≡ Editor c))
 
   -- a message was to be exchanged: nothing was done, or it was composed, or presented too, or its answer kept too
-  abbrev pub LeftExchanging : Kind → Client C Rules Doc Reason → Member C Rules Doc Reason → Type 0
+  abbrev pub LeftExchanging : MessageKind → Client C Rules Doc Reason → Member C Rules Doc Reason → Type 0
   LeftExchanging kind c next =
       (same × (next ≡ Editor c))
       ⊎ ((same × (next ≡ Editor (composed c kind)))
@@ -56,7 +56,7 @@ module _ {Rules Doc Reason C : Type 0} (same : Type 0) (tells : Message C → An
   LeftBy act (Raw name serial) next = LeftAsWas (Raw name serial) next
 
   -- a member that was to exchange a message of this kind left this; a raw client does nothing
-  abbrev pub LeftByMember : Kind → Member C Rules Doc Reason → Member C Rules Doc Reason → Type 0
+  abbrev pub LeftByMember : MessageKind → Member C Rules Doc Reason → Member C Rules Doc Reason → Type 0
   LeftByMember kind (Editor c) next = LeftExchanging kind c next
   LeftByMember kind (Raw name serial) next = LeftAsWas (Raw name serial) next
 
@@ -83,7 +83,7 @@ pub record LeftByLines {Rules Doc Reason C Op : Type 0} (m : Meaning Rules Doc R
       ⊎ ((line : Line Op C) × (slice_get lines played ≡ Some line) × LeftByLine m rules (session m rules makes s (take played lines)).1 line t)
 
 -- a room that member i left so, which was to exchange a message of this kind
-pub record LeftByExchange {Rules Doc Reason C : Type 0} (m : Meaning Rules Doc Reason C) (rules : Rules) (kind : Kind) (i : ℕ) (s t : State C Rules Doc Reason) : Type 0 where
+pub record LeftByExchange {Rules Doc Reason C : Type 0} (m : Meaning Rules Doc Reason C) (rules : Rules) (kind : MessageKind) (i : ℕ) (s t : State C Rules Doc Reason) : Type 0 where
   pub member : Member C Rules Doc Reason
   pub authority : Authority C Rules Doc Reason
   pub next : Member C Rules Doc Reason

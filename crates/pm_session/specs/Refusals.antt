@@ -9,8 +9,8 @@ use Rattle.pm_client.specs.declared.client.Client.{Client}
 use Rattle.pm_client.specs.Clients.{message_at}
 use Rattle.pm_session.specs.declared.line.Act.{Act}
 use Rattle.pm_session.specs.declared.line.Line.{Line}
-use Rattle.pm_session.specs.declared.outcome.Told.{Told}
-use Rattle.pm_session.specs.declared.outcome.Told.TheVariants.{Accepted as ToldAccepted, Version, Refused as ToldRefused, Entries as ToldEntries}
+use Rattle.pm_session.specs.declared.outcome.AnswerSummary.{AnswerSummary}
+use Rattle.pm_session.specs.declared.outcome.AnswerSummary.TheVariants.{Accepted as ToldAccepted, Version, Refused as ToldRefused, Entries as ToldEntries}
 use Rattle.pm_session.specs.declared.outcome.Outcome.{Outcome}
 use Rattle.pm_session.specs.declared.outcome.Outcome.TheVariants.{Made, Nothing, NoStep, Refused, CursorAt, Composed, Answered, Took, Exchanged}
 use Rattle.pm_session.specs.declared.member.Member.TheVariants.{Editor}
@@ -26,7 +26,7 @@ module _ {Rules Doc Reason C : Type 0} where
   RefusesNoStep (Entries since entries) = Unit {0}
 
   -- what is told of an answer tells of no refused step
-  abbrev pub TellsNoRefusal : Told C Rules Doc Reason → Type 0
+  abbrev pub TellsNoRefusal : AnswerSummary C Rules Doc Reason → Type 0
   TellsNoRefusal (ToldAccepted from count) = Unit {0}
   TellsNoRefusal (Version n) = Unit {0}
   TellsNoRefusal (ToldRefused index reason) = ⊥

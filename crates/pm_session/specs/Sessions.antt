@@ -2,8 +2,8 @@
 use Rattle.std.specs.Prelude.{ℕ, zero, suc, ◌+◌, Bool, true, false, Result, List, [], ◌∷◌, length}
 use Rattle.pm_change.specs.Changes.{Meaning}
 use Rattle.pm_change.specs.declared.no_step.NoStep.{NoStep}
-use Rattle.pm_client.specs.declared.taken.Kind.{Kind}
-use Rattle.pm_client.specs.declared.taken.Kind.TheVariants.{Submit, Ask}
+use Rattle.pm_client.specs.declared.taken.MessageKind.{MessageKind}
+use Rattle.pm_client.specs.declared.taken.MessageKind.TheVariants.{Submit, Ask}
 use Rattle.pm_client.specs.Clients.{new_client}
 use Rattle.pm_session.specs.declared.line.Line.{Line}
 use Rattle.pm_session.specs.declared.member.Member.{Member}
@@ -42,7 +42,7 @@ module _ {Rules Doc Reason C : Type 0} (m : Meaning Rules Doc Reason C) (rules :
         (p.0 ∷ rest.0, rest.1)
 
   -- member i exchanges a message of this kind, and takes the answer; a raw client does nothing
-  abbrev pub exchanged : Kind → ℕ → State C Rules Doc Reason → State C Rules Doc Reason
+  abbrev pub exchanged : MessageKind → ℕ → State C Rules Doc Reason → State C Rules Doc Reason
   exchanged kind i s = (by_member s i (member_exchanges m rules s.authority kind)).1
 
   -- editor i asks for what is past its version, and then submits what is pending; a raw client is passed by

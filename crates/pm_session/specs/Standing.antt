@@ -1,5 +1,6 @@
 -- Cursors that stand before a token stay before it from one room to the next.
-use Rattle.std.specs.Prelude.{◌≡◌, ℕ, ◌++◌, List, length, slice_get, take, Some, pos}
+use Rattle.std.specs.Prelude.{◌≡◌, ℕ, ◌++◌, List, length, slice_get, take, Some}
+use Rattle.pm_map.specs.declared.side.Side.TheVariants.{After}
 use Rattle.pm_change.specs.Changes.{Meaning}
 use Rattle.pm_authority.specs.declared.authority.Authority.{Authority}
 use Rattle.pm_client.specs.declared.client.Client.{Client}
@@ -30,12 +31,12 @@ module _ {Rules Doc Reason C : Type 0} (m : Meaning Rules Doc Reason C) where
   abbrev pub NonePinched : Authority C Rules Doc Reason → Client C Rules Doc Reason → Client C Rules Doc Reason → Type 0
   NonePinched new c d = AllUnpinched m (gone_over c.name (passed new.log c.version d.version) c.pending d.pending)
 
-  -- One room comes after another. Where a cursor with side 1 of an editor stands before a token of the editor's document in
+  -- One room comes after another. Where a cursor with side `After` of an editor stands before a token of the editor's document in
   -- the first, it stands before that token in the second too, if the editor's document still has it and no step that the
   -- editor's cursors were mapped over is pinched. A cursor keeps its number.
   abbrev pub CursorsStay : State C Rules Doc Reason → State C Rules Doc Reason → Type 0
   CursorsStay s t =
       (i : ℕ) (c d : Client C Rules Doc Reason) → slice_get s.members i ≡ Some (Editor c) → slice_get t.members i ≡ Some (Editor d) → NonePinched t.authority c d
-      → (j p : ℕ) (x : Token) → slice_get c.cursors j ≡ Some (cursor p (pos 1))
+      → (j p : ℕ) (x : Token) → slice_get c.cursors j ≡ Some (cursor p After)
       → slice_get (tokens_of s.authority c) p ≡ Some x → Has (tokens_of t.authority d) x
-      → (q : ℕ) × (slice_get d.cursors j ≡ Some (cursor q (pos 1))) × (slice_get (tokens_of t.authority d) q ≡ Some x)
+      → (q : ℕ) × (slice_get d.cursors j ≡ Some (cursor q After)) × (slice_get (tokens_of t.authority d) q ≡ Some x)

@@ -1,5 +1,4 @@
 -- Which lines may be played: those that name what was composed or kept by then.
-use Rattle.pm_map.specs.Moves.{IsSide}
 use Rattle.std.specs.Prelude.{◌≡◌, ℕ, ◌≤◌, ◌<◌, ◌==◌, ◌&&◌, nat_lt, nat_le, Bool, true, false, List, [], ◌∷◌, ◌++◌, length, count_by, slice_get, Some}
 use Rattle.pm_client.specs.declared.client.Client.{Client}
 use Rattle.pm_session.specs.declared.member.Member.{Member}
@@ -93,14 +92,14 @@ module _ {Op C : Type 0} where
   abbrev pub answered_by : ℕ → List (Line Op C) → ℕ
   answered_by i lines = done_by gets_one i lines
 
-  -- an act that names a message or an answer names one of so many, and a cursor's side is 1 or -1
+  -- an act that names a message or an answer names one of so many
   abbrev pub NamesOneOf : ℕ → ℕ → Act Op C → Type 0
   NamesOneOf messages answers (Present j) = (0 < j) × (j ≤ messages)
   NamesOneOf messages answers (Take n) = (0 < n) × (n ≤ answers)
   NamesOneOf messages answers (Edit op event) = Unit {0}
   NamesOneOf messages answers Undo = Unit {0}
   NamesOneOf messages answers Redo = Unit {0}
-  NamesOneOf messages answers (Cursor p side) = IsSide side
+  NamesOneOf messages answers (Cursor p side) = Unit {0}
   NamesOneOf messages answers Submit = Unit {0}
   NamesOneOf messages answers Ask = Unit {0}
   NamesOneOf messages answers (Push lost) = Unit {0}

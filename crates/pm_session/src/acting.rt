@@ -20,12 +20,12 @@ use crate::member::Member;
 use crate::outcome::Outcome;
 use pm_authority::Authority;
 use pm_change::Change;
-use pm_client::{Client, Kind};
+use pm_client::{Client, MessageKind};
 use std::alloc::{AllocError, Global};
 
 /// The member does what the line says, and presents its messages to the host. The line must be the member's: the message or
-/// the answer that it names must be there, a cursor's side must be 1 or -1, and a raw client does nothing but forge. Want of
-/// memory leaves the first parts of the act done and the others not.
+/// the answer that it names must be there, and a raw client does nothing but forge. Want of memory leaves the first parts of
+/// the act done and the others not.
 pub fn act<C: Change, K: Maker<C>, H: Host<C>>(
     alloc: Global,
     member: &mut Member<C>,
@@ -83,12 +83,12 @@ fn act_editor<C: Change, K: Maker<C>, H: Host<C>>(
         Act::Undo => undo(alloc, rules, client),
         Act::Redo => redo(alloc, rules, client),
         Act::Cursor { pos, side } => set_cursor(client, *pos, *side),
-        Act::Submit => compose(alloc, client, Kind::Submit),
-        Act::Ask => compose(alloc, client, Kind::Ask),
+        Act::Submit => compose(alloc, client, MessageKind::Submit),
+        Act::Ask => compose(alloc, client, MessageKind::Ask),
         Act::Present { message } => present(alloc, rules, host, client, *message),
         Act::Take { answer } => take(alloc, rules, client, *answer),
-        Act::Push { lost } => exchange(alloc, rules, host, client, Kind::Submit, *lost),
-        Act::Pull { lost } => exchange(alloc, rules, host, client, Kind::Ask, *lost),
+        Act::Push { lost } => exchange(alloc, rules, host, client, MessageKind::Submit, *lost),
+        Act::Pull { lost } => exchange(alloc, rules, host, client, MessageKind::Ask, *lost),
         Act::Forge {
             version: _,
             steps: _,

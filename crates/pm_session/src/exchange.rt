@@ -12,10 +12,10 @@ ghost use Rattle.pm_session.specs.declared.member.Member.TheVariants.{Editor};
 
 use crate::host::Host;
 use crate::member::Member;
-use crate::outcome::{Outcome, Told};
+use crate::outcome::{AnswerSummary, Outcome};
 use pm_authority::{Answer, Authority};
 use pm_change::{Change, NoStep};
-use pm_client::{Client, Kind};
+use pm_client::{Client, MessageKind};
 use std::alloc::{AllocError, Global};
 
 /// The client presents its message of this number, and keeps the answer. Want of memory leaves all as it was, or the
@@ -55,7 +55,7 @@ pub fn exchange<C: Change, H: Host<C>>(
     rules: &C::Rules,
     host: &mut H,
     client: &mut Client<C>,
-    kind: Kind,
+    kind: MessageKind,
     lost: bool,
 ) -> Result<Outcome<C>, AllocError>
     requires served { H.serves host.old rules.now client.old.name }
@@ -85,21 +85,21 @@ pub fn exchange<C: Change, H: Host<C>>(
 }
 
 /// The answer, as an outcome tells it. No editor's submission is refused for a step.
-fn told<C: Change>(answer: &Answer<C>) -> Told<C>
+fn told<C: Change>(answer: &Answer<C>) -> AnswerSummary<C>
     requires { RefusesNoStep answer.now }
     ensures { result ≡ told answer.now }
 {
     match answer {
-        Answer::Accepted { from, count } => Told::Accepted {
+        Answer::Accepted { from, count } => AnswerSummary::Accepted {
             from: *from,
             count: *count,
         },
-        Answer::WrongVersion { length } => Told::Version { length: *length },
+        Answer::WrongVersion { length } => AnswerSummary::Version { length: *length },
         Answer::StepRefused {
             index: _,
             reason: _,
         } => unreachable!(),
-        Answer::Entries { since, entries } => Told::Entries {
+        Answer::Entries { since, entries } => AnswerSummary::Entries {
             since: *since,
             count: entries.len() as u64,
         },
@@ -112,7 +112,7 @@ pub fn exchange_at<C: Change>(
     rules: &C::Rules,
     authority: &mut Authority<C>,
     member: &mut Member<C>,
-    kind: Kind,
+    kind: MessageKind,
 ) -> Result<Outcome<C>, AllocError>
     requires kept { IsKept C.means rules.now authority.old }
     requires stands { MemberStands C.means rules.now authority.old.first authority.old.log member.old }

@@ -8,7 +8,7 @@ ghost use Rattle.pm_session.specs.Events.{told, draws};
 ghost use Rattle.pm_session.specs.declared.member.Member.TheVariants.{Raw};
 
 use crate::host::Host;
-use crate::outcome::{Outcome, Told};
+use crate::outcome::{AnswerSummary, Outcome};
 use pm_authority::{Answer, Message, Name, Named};
 use pm_change::Change;
 use pm_list::Listed;
@@ -72,14 +72,14 @@ fn named_copies<C: Change>(
 }
 
 /// The answer, as an outcome tells it.
-fn told<C: Change>(answer: Answer<C>) -> Told<C>
+fn told<C: Change>(answer: Answer<C>) -> AnswerSummary<C>
     ensures { result ≡ told answer }
 {
     match answer {
-        Answer::Accepted { from, count } => Told::Accepted { from, count },
-        Answer::WrongVersion { length } => Told::Version { length },
-        Answer::StepRefused { index, reason } => Told::Refused { index, reason },
-        Answer::Entries { since, entries } => Told::Entries {
+        Answer::Accepted { from, count } => AnswerSummary::Accepted { from, count },
+        Answer::WrongVersion { length } => AnswerSummary::Version { length },
+        Answer::StepRefused { index, reason } => AnswerSummary::Refused { index, reason },
+        Answer::Entries { since, entries } => AnswerSummary::Entries {
             since,
             count: entries.len() as u64,
         },

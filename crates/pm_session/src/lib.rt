@@ -17,5 +17,5 @@ pub use host::Host;
 pub use line::{Act, Line};
 pub use maker::Maker;
 pub use member::Member;
-pub use outcome::{Outcome, Told};
+pub use outcome::{AnswerSummary, Outcome};
 pub use room::Room;

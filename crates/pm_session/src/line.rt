@@ -3,6 +3,7 @@ ghost use Rattle.std.specs.Prelude.{◌≡◌};
 ghost use Rattle.pm_session.specs.Suits.{composes_one, gets_one, names_one, sets_one};
 
 use pm_list::Listed;
+use pm_map::Side;
 
 /// What a line does. All acts but `Forge` are an editor's, and `Forge` is a raw client's.
 #[derive(Debug, Drop)]
@@ -14,8 +15,8 @@ pub enum Act<O, C> {
     Undo,
     /// Redoes the client's last event that was undone.
     Redo,
-    /// Sets a cursor at this position of the client's document, in tokens, with this side, 1 or -1.
-    Cursor { pos: u64, side: i8 },
+    /// Sets a cursor at this position of the client's document, in tokens, with this side.
+    Cursor { pos: u64, side: Side },
     /// Composes a submission of all pending steps.
     Submit,
     /// Composes an ask for the entries from the client's version on.

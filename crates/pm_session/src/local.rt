@@ -1,6 +1,5 @@
 //! Acts that are local to a client.
 ghost use Rattle.std.specs.Prelude.{◌≡◌, ◌<◌, ◌≤◌, ◌^◌, length, IfOk, OnErr};
-ghost use Rattle.pm_map.specs.Moves.{IsSide};
 ghost use Rattle.pm_client.specs.Clients.{undone_last, redone_last};
 ghost use Rattle.pm_client.specs.Cursors.{AreWithin};
 ghost use Rattle.pm_client.specs.Kins.{Stands};
@@ -9,7 +8,8 @@ ghost use Rattle.pm_session.specs.Events.{edits, turns, sets, composes, takes};
 use crate::maker::Maker;
 use crate::outcome::Outcome;
 use pm_change::{Change, MakeError, NoStep};
-use pm_client::{Client, CursorError, EditError, Kind, UndoError};
+use pm_client::{Client, CursorError, EditError, MessageKind, UndoError};
+use pm_map::Side;
 use std::alloc::{AllocError, Global};
 
 /// The client makes the steps of an op, as part of an event of this number. Want of memory leaves it as it was.
@@ -76,10 +76,9 @@ pub fn redo<C: Change>(
 pub fn set_cursor<C: Change>(
     client: &mut Client<C>,
     pos: u64,
-    side: i8,
+    side: Side,
 ) -> Result<Outcome<C>, AllocError>
-    requires side { IsSide side }
-    requires small { C.means.size client.old.doc < 2 ^ 32 }
+    requires { C.means.size client.old.doc < 2 ^ 32 }
     ensures sets { IfOk result (λ o. (o, client.new) ≡ sets C.means client.old pos side) }
     ensures err { OnErr result (client.new ≡ client.old) }
 {
@@ -94,7 +93,7 @@ pub fn set_cursor<C: Change>(
 pub fn compose<C: Change>(
     alloc: Global,
     client: &mut Client<C>,
-    kind: Kind,
+    kind: MessageKind,
 ) -> Result<Outcome<C>, AllocError>
     ensures composes { IfOk result (λ o. (o, client.new) ≡ composes client.old kind) }
     ensures err { OnErr result (client.new ≡ client.old) }

@@ -2,9 +2,9 @@
 use pm_change::{Change, NoStep};
 use pm_client::Taken;
 
-/// The authority's answer, as an outcome tells it.
+/// The authority's answer in short, as an outcome tells it: how many entries came, and not which.
 #[derive(Drop)]
-pub enum Told<C: Change> {
+pub enum AnswerSummary<C: Change> {
     /// `count` steps stand in the log from place `from` on.
     Accepted { from: u64, count: u64 },
     /// The submission's version is not the log's length, which is `length`.
@@ -20,22 +20,38 @@ pub enum Told<C: Change> {
 pub enum Outcome<C: Change> {
     /// An op, an undo or a redo made `count` steps, which are pending. An undo or a redo made 0 where nothing was left to
     /// apply.
-    Made { count: u64 },
+    Made {
+        count: u64,
+    },
     /// There was no event to undo or to redo. Nothing changed.
     Nothing,
     /// The op made no step, for this reason; `Range` is also a cursor past the document's size, and `NotThere` what the member
     /// can't do. Nothing changed.
     NoStep(NoStep),
     /// Step `index`, counted from 0, does not apply, for this reason. Nothing changed.
-    Refused { index: u64, reason: C::Reason },
+    Refused {
+        index: u64,
+        reason: C::Reason,
+    },
     /// A cursor was set at this position.
-    CursorAt { pos: u64 },
+    CursorAt {
+        pos: u64,
+    },
     /// The message of this number was composed.
-    Composed { number: u64 },
+    Composed {
+        number: u64,
+    },
     /// A message was presented, and its answer kept.
-    Answered { told: Told<C> },
+    Answered {
+        told: AnswerSummary<C>,
+    },
     /// An answer was taken.
-    Took { taken: Taken },
+    Took {
+        taken: Taken,
+    },
     /// A message was composed and presented, and its answer kept, and taken unless it was lost.
-    Exchanged { told: Told<C>, taken: Option<Taken> },
+    Exchanged {
+        told: AnswerSummary<C>,
+        taken: Option<Taken>,
+    },
 }

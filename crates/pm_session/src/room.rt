@@ -1,6 +1,6 @@
 //! A room: an authority and its members.
 ghost use Rattle.std.specs.Prelude.{◌≡◌, ◌≤◌, ◌<◌, ◌+◌, ℕ, length, slice_get, take, vec_len, Some, IfOk, OnErr, OnOk};
-ghost use Rattle.pm_client.specs.declared.taken.Kind.TheVariants.{Ask};
+ghost use Rattle.pm_client.specs.declared.taken.MessageKind.TheVariants.{Ask};
 ghost use Rattle.pm_session.specs.Events.{state_of, by_member, member_exchanges, played};
 ghost use Rattle.pm_session.specs.Members.{name_of};
 ghost use Rattle.pm_session.specs.Left.{LeftByLine, LeftByLines, LeftByExchange, LeftBringing, LeftPulling, LeftBySettle};
@@ -22,7 +22,7 @@ use crate::member::Member;
 use crate::outcome::Outcome;
 use pm_authority::Authority;
 use pm_change::Change;
-use pm_client::{Client, Kind};
+use pm_client::{Client, MessageKind};
 use std::alloc::{AllocError, Global};
 
 /// An authority and its members, member i at place i.
@@ -99,7 +99,7 @@ impl<C: Change> Room<C> {
         ensures left { OnErr result (LeftByLine C.means rules.now (state_of self.old) line.now (state_of self.new)) }
         ensures sound { Sound C.means rules.now (state_of self.new) }
         ensures names { NamesDiffer self.new.authority.log }
-        // Each cursor with side 1 stays before its token.
+        // Each cursor with side `After` stays before its token.
         ensures cursors { CursorsStay C.means (state_of self.old) (state_of self.new) }
         // An undo or a redo with nothing changed since gives the earlier document back.
         ensures restores { OnOk result (Restores C.means rules.now (state_of self.old) line.now (state_of self.new)) }
@@ -166,8 +166,8 @@ impl<C: Change> Room<C> {
         ensures sound { Sound C.means rules.now (state_of self.new) }
     {
         for member in 0..self.members.len() {
-            let _outcome = self.exchange(alloc, rules, member, Kind::Ask)?;
-            let _outcome = self.exchange(alloc, rules, member, Kind::Submit)?;
+            let _outcome = self.exchange(alloc, rules, member, MessageKind::Ask)?;
+            let _outcome = self.exchange(alloc, rules, member, MessageKind::Submit)?;
         }
         Ok(())
     }
@@ -180,7 +180,7 @@ impl<C: Change> Room<C> {
         ensures sound { Sound C.means rules.now (state_of self.new) }
     {
         for member in 0..self.members.len() {
-            let _outcome = self.exchange(alloc, rules, member, Kind::Ask)?;
+            let _outcome = self.exchange(alloc, rules, member, MessageKind::Ask)?;
         }
         Ok(())
     }
@@ -192,7 +192,7 @@ impl<C: Change> Room<C> {
         alloc: Global,
         rules: &C::Rules,
         member: usize,
-        kind: Kind,
+        kind: MessageKind,
     ) -> Result<Outcome<C>, AllocError>
         requires sound { Sound C.means rules.now (state_of self.old) }
         requires within { member < length self.old.members.items }

@@ -4,6 +4,7 @@ use Rattle.std.specs.List.{All}
 use Rattle.std.proofs.Common.{sym, ap, subst, ◌∙◌, inl, arith}
 use Rattle.std.proofs.lemmas.List.Elements.{All-from_recursion}
 use Rattle.std.proofs.lemmas.Bool.{ltb-true, ltb-false, lt-ltb, le-ltb, and_parts, and_from}
+use Rattle.pm_map.specs.declared.side.Side.TheVariants.{After}
 use Rattle.pm_map.specs.declared.mapping.Mirrored.{Mirrored}
 use Rattle.pm_map.specs.Through.{through}
 use Rattle.pm_map.specs.Fits.{FitsSizes, new_size_of}
@@ -174,9 +175,9 @@ carried_sizes : (c d : Edit) (ms : List Mirrored) → carried c ms ≡ Some d �
 carried_sizes (Insert at value) (Insert p v) ms h = refl
 carried_sizes (Insert at value) (Delete p) ms h = absurd (cc)
 carried_sizes (Delete at) (Delete p) ms h = refl
-carried_sizes (Delete at) (Insert p v) ms h = from (through ms at (pos 1)).deleted h
+carried_sizes (Delete at) (Insert p v) ms h = from (through ms at After).deleted h
   where
-    from : (gone : Bool) → (if gone then None else Some (Delete (through ms at (pos 1)).pos)) ≡ Some (Insert p v) → map new_size_of (ranges (Insert p v)) ≡ map new_size_of (ranges (Delete at))
+    from : (gone : Bool) → (if gone then None else Some (Delete (through ms at After).pos)) ≡ Some (Insert p v) → map new_size_of (ranges (Insert p v)) ≡ map new_size_of (ranges (Delete at))
     from true h = absurd (cc)
     from false h = absurd (cc)
 

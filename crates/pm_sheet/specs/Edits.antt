@@ -1,5 +1,6 @@
 -- A list of numbers, and its two edits.
 use Rattle.std.specs.Prelude.{ℕ, pos, ◌+◌, ◌≤◌, ◌<◌, ◌^◌, ◌&&◌, Bool, true, false, if◌then◌else◌, nat_lt, List, [], ◌∷◌, length, slice_get, remove, insert, Option, Some, None, Result, Ok, Err}
+use Rattle.pm_map.specs.declared.side.Side.TheVariants.{After}
 use Rattle.pm_map.specs.declared.step_map.Span.{Span}
 use Rattle.pm_map.specs.declared.step_map.Moved.{Moved}
 use Rattle.pm_map.specs.declared.mapping.Mirrored.{Mirrored}
@@ -52,8 +53,8 @@ abbrev pub kept_delete : Moved → Option Edit
 kept_delete m = if m.deleted then None else Some (Delete m.pos)
 
 abbrev pub carried : Edit → List Mirrored → Option Edit
-carried (Insert at value) ms = Some (Insert (through ms at (pos 1)).pos value)
-carried (Delete at) ms = kept_delete (through ms at (pos 1))
+carried (Insert at value) ms = Some (Insert (through ms at After).pos value)
+carried (Delete at) ms = kept_delete (through ms at After)
 
 abbrev pub is_within : Edit → ℕ → Type 0
 is_within (Insert at value) n = at ≤ n

@@ -11,7 +11,7 @@ mod tests;
 
 use pm_change::{Change, Failed};
 use pm_list::Listed;
-use pm_map::{Mapping, Span, StepMap};
+use pm_map::{Mapping, Side, Span, StepMap};
 use std::alloc::{AllocError, Global};
 
 /// How many numbers a sheet may have.
@@ -114,7 +114,7 @@ impl Change for Edit {
         match *self {
             Edit::Insert { at, value } => {
                 mapping.paired();
-                let moved = mapping.map(at, 1);
+                let moved = mapping.map(at, Side::After);
                 Ok(Some(Edit::Insert {
                     at: moved.pos,
                     value,
@@ -122,7 +122,7 @@ impl Change for Edit {
             }
             Edit::Delete { at } => {
                 mapping.paired();
-                let moved = mapping.map(at, 1);
+                let moved = mapping.map(at, Side::After);
                 if moved.deleted {
                     Ok(None)
                 } else {

@@ -5,7 +5,7 @@ ghost use Rattle.pm_sheet.specs.Edits.{meaning, is_good};
 
 use crate::{Edit, Rules};
 use pm_change::{Change, Failed, Name};
-use pm_history::{Branches, Direction, Event, Item, Side, undo_event};
+use pm_history::{Branches, Direction, Event, Item, MadeBy, undo_event};
 use pm_list::Listed;
 use pm_map::{Span, StepMap};
 use std::alloc::{AllocError, Global};
@@ -192,15 +192,15 @@ fn item(alloc: Global, serial: u64, undoes: Option<u64>) -> Result<Item<u8>, All
     })
 }
 
-fn edit(event: Option<u32>, first: bool) -> Side {
-    Side::Edit { event, first }
+fn edit(event: Option<u32>, first: bool) -> MadeBy {
+    MadeBy::Edit { event, first }
 }
 
 /// A history of the own steps with these serials and calls.
-fn noted(alloc: Global, steps: &[(u64, Side)]) -> Result<Branches<u8>, AllocError> {
+fn noted(alloc: Global, steps: &[(u64, MadeBy)]) -> Result<Branches<u8>, AllocError> {
     let mut history = Branches::new(alloc);
-    for (serial, side) in steps {
-        history.note_own(alloc, item(alloc, *serial, None)?, *side)?;
+    for (serial, made_by) in steps {
+        history.note_own(alloc, item(alloc, *serial, None)?, *made_by)?;
     }
     Ok(history)
 }
@@ -258,7 +258,7 @@ fn an_undo_closes_the_event_and_an_edit_empties_redo(rt: HostRuntime) -> Result<
     let alloc = rt.alloc();
     let mut history = five(alloc)?;
     assert!(rt; history.pop(Direction::Undo).is_some());
-    let undo = Side::Undo {
+    let undo = MadeBy::Undo {
         event: None,
         first: true,
     };

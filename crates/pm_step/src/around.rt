@@ -58,9 +58,9 @@ impl ReplaceAroundStep {
         StepMap::new(Some(before), Some(behind), false)
     }
 
-    /// The step over a mapping: `from` by 1 and `to` by -1, and the ends of the gap outwards, or with an end of the step where
-    /// they are the same position. It is lost where both ends lie strictly inside of deleted ranges, and where the gap sticks
-    /// out at an end.
+    /// The step over a mapping: `from` by `After` and `to` by `Before`, and the ends of the gap outwards, or
+    /// with an end of the step where they are the same position. It is lost where both ends lie strictly inside of deleted
+    /// ranges, and where the gap sticks out at an end.
     pub fn carry(
         &self,
         alloc: Global,

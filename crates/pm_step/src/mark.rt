@@ -39,8 +39,8 @@ impl MarkStep {
         StepMap::new(None, None, false)
     }
 
-    /// The step over a mapping: `from` by 1 and `to` by -1. It is lost where both ends are deleted, or nothing is left between
-    /// them.
+    /// The step over a mapping: `from` by `After` and `to` by `Before`. It is lost where both ends are deleted,
+    /// or nothing is left between them.
     pub fn carry(&self, alloc: Global, mapping: &Mapping) -> Result<Option<MarkStep>, AllocError>
         requires { MayCarry is_within (step_of (Step.Mark self.now)) mapping.now }
         ensures { IfOk result (λ o. option_map (λ s. step_of (Step.Mark s)) o ≡ carry (step_of (Step.Mark self.now)) mapping.now) }

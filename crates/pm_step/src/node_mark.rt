@@ -36,7 +36,7 @@ impl NodeMarkStep {
         StepMap::new(None, None, false)
     }
 
-    /// The step over a mapping: `pos` by 1. It is lost where the token behind it is deleted.
+    /// The step over a mapping: `pos` by `After`. It is lost where the token behind it is deleted.
     pub fn carry(
         &self,
         alloc: Global,

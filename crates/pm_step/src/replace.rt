@@ -46,8 +46,8 @@ impl ReplaceStep {
         StepMap::new(Some(range), None, false)
     }
 
-    /// The step over a mapping: `from` by 1 and `to` by -1, raised to `from`. It is lost where both ends lie strictly inside of
-    /// deleted ranges.
+    /// The step over a mapping: `from` by `After` and `to` by `Before`, raised to `from`. It is lost where
+    /// both ends lie strictly inside of deleted ranges.
     pub fn carry(&self, alloc: Global, mapping: &Mapping) -> Result<Option<ReplaceStep>, AllocError>
         requires { MayCarry is_within (step_of (Step.Replace self.now)) mapping.now }
         ensures { IfOk result (λ o. option_map (λ s. step_of (Step.Replace s)) o ≡ carry (step_of (Step.Replace self.now)) mapping.now) }

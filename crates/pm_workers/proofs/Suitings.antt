@@ -1,6 +1,7 @@
 -- What an act makes of the number of messages and answers that a member has, and the lines that suit it then.
-use Rattle.std.proofs.Common.{◌≡◌, ℕ, ℤ, zero, suc, ◌+◌, ◌-◌, ◌<◌, Bool, true, false, List, [], ◌∷◌, length, cond, slice_get, Option, None, Some, Result, Ok, Err, refl, sym, ap, ◌∙◌, subst, arith, length-append}
+use Rattle.std.proofs.Common.{◌≡◌, ℕ, zero, suc, ◌+◌, ◌-◌, ◌<◌, Bool, true, false, List, [], ◌∷◌, length, cond, slice_get, Option, None, Some, Result, Ok, Err, refl, sym, ap, ◌∙◌, subst, arith, length-append}
 use Rattle.std.specs.Prelude.{nat_lt, if◌then◌else◌}
+use Rattle.pm_map.specs.declared.side.Side.{Side}
 use Rattle.pm_change.specs.Changes.{Meaning}
 use Rattle.pm_change.specs.declared.no_step.NoStep.{NoStep}
 use Rattle.pm_change.specs.declared.no_step.NoStep.TheVariants.{Range}
@@ -10,8 +11,8 @@ use Rattle.pm_authority.specs.declared.running.Refusal.{Refusal}
 use Rattle.pm_history.specs.declared.direction.Direction.{Direction}
 use Rattle.pm_history.specs.declared.direction.Direction.TheVariants as direction
 use Rattle.pm_client.specs.declared.client.Client.{Client}
-use Rattle.pm_client.specs.declared.taken.Kind.{Kind}
-use Rattle.pm_client.specs.declared.taken.Kind.TheVariants.{Submit as Submission, Ask as Asking}
+use Rattle.pm_client.specs.declared.taken.MessageKind.{MessageKind}
+use Rattle.pm_client.specs.declared.taken.MessageKind.TheVariants.{Submit as Submission, Ask as Asking}
 use Rattle.pm_client.specs.Clients.{edited, event_turned, last_turned, cursor_set, message_of, composed, kept, taken, taken_at}
 use Rattle.pm_session.specs.declared.line.Line.{Line}
 use Rattle.pm_session.specs.declared.line.Act.{Act}
@@ -46,13 +47,13 @@ module _ {Rules Doc Reason C : Type 0} where
     answers = omega (arith, ap length box.answers);
   }
 
-  counted-composed : (c : Client C Rules Doc Reason) (kind : Kind) → Counted true false (Editor c) (Editor (composed c kind))
+  counted-composed : (c : Client C Rules Doc Reason) (kind : MessageKind) → Counted true false (Editor c) (Editor (composed c kind))
   counted-composed c kind = record { name = refl; kind = refl; messages = length-append c.messages (message_of c kind ∷ []); answers = omega arith }
 
   counted-kept : (c : Client C Rules Doc Reason) (answer : Answer C Rules Doc Reason) → Counted false true (Editor c) (Editor (kept c answer))
   counted-kept c answer = record { name = refl; kind = refl; messages = omega arith; answers = length-append c.answers (answer ∷ []) }
 
-  counted-given : (c : Client C Rules Doc Reason) (kind : Kind) (answer : Answer C Rules Doc Reason) → Counted true true (Editor c) (Editor (kept (composed c kind) answer))
+  counted-given : (c : Client C Rules Doc Reason) (kind : MessageKind) (answer : Answer C Rules Doc Reason) → Counted true true (Editor c) (Editor (kept (composed c kind) answer))
   counted-given c kind answer = record {
     name = refl;
     kind = refl;
@@ -81,7 +82,7 @@ module _ {Rules Doc Reason C : Type 0} (m : Meaning Rules Doc Reason C) (rules :
   turns-counted way None = counted-same (Editor c)
   turns-counted way (Some event) = counted-box c (event_turned m rules c way event).1 (turned-keeps m rules c way event)
 
-  sets-counted : (p : ℕ) (side : ℤ) → Counted false false (Editor c) (Editor (sets m c p side).1)
+  sets-counted : (p : ℕ) (side : Side) → Counted false false (Editor c) (Editor (sets m c p side).1)
   sets-counted p side = from (nat_lt (m.size c.doc) p)
     where
       chosen : Bool → Outcome C Rules Doc Reason × Client C Rules Doc Reason
@@ -91,7 +92,7 @@ module _ {Rules Doc Reason C : Type 0} (m : Meaning Rules Doc Reason C) (rules :
       from true = counted-same (Editor c)
       from false = counted-box c (cursor_set c p side) (record { name = refl; messages = refl; answers = refl })
 
-  ends-counted : (kind : Kind) (lost : Bool) (answer : Answer C Rules Doc Reason) → Counted true true (Editor c) (Editor (ends m rules lost (kept (composed c kind) answer) answer).1)
+  ends-counted : (kind : MessageKind) (lost : Bool) (answer : Answer C Rules Doc Reason) → Counted true true (Editor c) (Editor (ends m rules lost (kept (composed c kind) answer) answer).1)
   ends-counted kind true answer = counted-given c kind answer
   ends-counted kind false answer =
       let keeper = kept (composed c kind) answer in

@@ -1,8 +1,9 @@
 -- Of lines that suit a member its acts tell which present a message.
 use Rattle.std.specs.List.{AllByRecursion as Each}
-use Rattle.std.specs.Prelude.{◌≡◌, ℕ, ℤ, zero, suc, ◌+◌, ◌-◌, ◌<◌, ◌≤◌, ◌&&◌, nat_lt, Bool, true, false, if◌then◌else◌, List, [], ◌∷◌, ◌++◌, length, cond, is_some, slice_get, Option, Some, None, Result, Ok, Err, refl}
+use Rattle.std.specs.Prelude.{◌≡◌, ℕ, zero, suc, ◌+◌, ◌-◌, ◌<◌, ◌≤◌, ◌&&◌, nat_lt, Bool, true, false, if◌then◌else◌, List, [], ◌∷◌, ◌++◌, length, cond, is_some, slice_get, Option, Some, None, Result, Ok, Err, refl}
 use Rattle.std.proofs.Common.{sym, ap, ◌∙◌, arith, length-append}
 use Rattle.std.proofs.lemmas.Bool.{eq-eqb}
+use Rattle.pm_map.specs.declared.side.Side.{Side}
 use Rattle.pm_change.specs.Changes.{Meaning}
 use Rattle.pm_change.specs.declared.no_step.NoStep.{NoStep}
 use Rattle.pm_change.specs.declared.no_step.NoStep.TheVariants.{Range}
@@ -12,8 +13,8 @@ use Rattle.pm_authority.specs.declared.message.Answer.{Answer}
 use Rattle.pm_history.specs.declared.direction.Direction.{Direction}
 use Rattle.pm_history.specs.declared.direction.Direction.TheVariants as direction
 use Rattle.pm_client.specs.declared.client.Client.{Client}
-use Rattle.pm_client.specs.declared.taken.Kind.{Kind}
-use Rattle.pm_client.specs.declared.taken.Kind.TheVariants.{Submit as Submission, Ask as Asking}
+use Rattle.pm_client.specs.declared.taken.MessageKind.{MessageKind}
+use Rattle.pm_client.specs.declared.taken.MessageKind.TheVariants.{Submit as Submission, Ask as Asking}
 use Rattle.pm_client.specs.Clients.{edited, last_turned, event_turned, cursor_set, message_of, composed, kept}
 use Rattle.pm_session.specs.declared.line.Line.{Line}
 use Rattle.pm_session.specs.declared.line.Act.{Act}
@@ -59,14 +60,14 @@ module _ {Rules Doc Reason C : Type 0} (m : Meaning Rules Doc Reason C) (rules :
   more-turns way None = no-more
   more-turns way (Some event) = as-many (event_turned m rules c way event).1 (turned-keeps m rules c way event)
 
-  abbrev chosen : ℕ → ℤ → Bool → Outcome C Rules Doc Reason × Client C Rules Doc Reason
+  abbrev chosen : ℕ → Side → Bool → Outcome C Rules Doc Reason × Client C Rules Doc Reason
   chosen p side b = if b then (NoneMade Range, c) else (CursorAt p, cursor_set c p side)
 
-  more-sets : (p : ℕ) (side : ℤ) (b : Bool) → More c 0 0 (chosen p side b).1
+  more-sets : (p : ℕ) (side : Side) (b : Bool) → More c 0 0 (chosen p side b).1
   more-sets p side true = no-more
   more-sets p side false = as-many (cursor_set c p side) (record { name = refl; messages = refl; answers = refl })
 
-  more-exchanges : (kind : Kind) (lost : Bool) (r : Option (Answer C Rules Doc Reason)) → is_some r ≡ true → More c 1 1 (exchanges m rules c kind lost r).1
+  more-exchanges : (kind : MessageKind) (lost : Bool) (r : Option (Answer C Rules Doc Reason)) → is_some r ≡ true → More c 1 1 (exchanges m rules c kind lost r).1
   more-exchanges kind lost None some = absurd (cc)
   more-exchanges kind true (Some answer) some = (length-append c.messages (message_of c kind ∷ []), length-append c.answers (answer ∷ []))
   more-exchanges kind false (Some answer) some =

@@ -2,7 +2,7 @@
 ghost use Rattle.std.specs.Prelude.{◌≡◌, [], ◌∷◌};
 ghost use Rattle.pm_map.specs.Moves.{AreInOrder};
 
-use pm_map::{Mapping, Mirrored, Moved, Recover, Span, StepMap, laws};
+use pm_map::{Mapping, Mirrored, Moved, Recover, Side, Span, StepMap, laws};
 use std::alloc::AllocError;
 
 /// The map with one range.
@@ -38,27 +38,27 @@ fn stays(pos: u64) -> (u64, bool, bool, bool) {
 #[test]
 fn an_insertion_goes_by_the_side(rt: HostRuntime) {
     let map = one(2, 0, 4);
-    assert_eq!(rt; told(map.map(0, 1)), stays(0));
-    assert_eq!(rt; told(map.map(2, 1)), stays(6));
-    assert_eq!(rt; told(map.map(2, -1)), stays(2));
-    assert_eq!(rt; told(map.map(3, 1)), stays(7));
+    assert_eq!(rt; told(map.map(0, Side::After)), stays(0));
+    assert_eq!(rt; told(map.map(2, Side::After)), stays(6));
+    assert_eq!(rt; told(map.map(2, Side::Before)), stays(2));
+    assert_eq!(rt; told(map.map(3, Side::After)), stays(7));
 }
 
 #[test]
 fn a_deletion_flags_and_recovers(rt: HostRuntime) {
     let map = one(2, 4, 0);
-    assert_eq!(rt; told(map.map(0, 1)), stays(0));
-    assert_eq!(rt; told(map.map(2, -1)), (2, false, false, true));
-    assert_eq!(rt; told(map.map(2, 1)), (2, true, false, true));
-    assert_eq!(rt; found(map.map(2, 1)), Some((0, 0)));
-    assert_eq!(rt; told(map.map(3, 1)), (2, true, true, true));
-    assert_eq!(rt; told(map.map(4, -1)), (2, true, true, true));
-    assert_eq!(rt; found(map.map(4, -1)), Some((0, 2)));
-    assert_eq!(rt; told(map.map(6, 1)), stays(2));
-    assert_eq!(rt; found(map.map(6, 1)), None);
-    assert_eq!(rt; told(map.map(6, -1)), (2, true, false, false));
-    assert_eq!(rt; found(map.map(6, -1)), Some((0, 4)));
-    assert_eq!(rt; told(map.map(7, 1)), stays(3));
+    assert_eq!(rt; told(map.map(0, Side::After)), stays(0));
+    assert_eq!(rt; told(map.map(2, Side::Before)), (2, false, false, true));
+    assert_eq!(rt; told(map.map(2, Side::After)), (2, true, false, true));
+    assert_eq!(rt; found(map.map(2, Side::After)), Some((0, 0)));
+    assert_eq!(rt; told(map.map(3, Side::After)), (2, true, true, true));
+    assert_eq!(rt; told(map.map(4, Side::Before)), (2, true, true, true));
+    assert_eq!(rt; found(map.map(4, Side::Before)), Some((0, 2)));
+    assert_eq!(rt; told(map.map(6, Side::After)), stays(2));
+    assert_eq!(rt; found(map.map(6, Side::After)), None);
+    assert_eq!(rt; told(map.map(6, Side::Before)), (2, true, false, false));
+    assert_eq!(rt; found(map.map(6, Side::Before)), Some((0, 4)));
+    assert_eq!(rt; told(map.map(7, Side::After)), stays(3));
 }
 
 #[test]
@@ -74,22 +74,22 @@ fn two_ranges_shift_one_after_the_other(rt: HostRuntime) {
         new_size: 3,
     };
     let map = StepMap::new(Some(first), Some(second), false);
-    assert_eq!(rt; told(map.map(3, 1)), stays(2));
-    assert_eq!(rt; told(map.map(4, 1)), stays(3));
-    assert_eq!(rt; told(map.map(5, -1)), (4, false, false, true));
-    assert_eq!(rt; told(map.map(5, 1)), (4, true, false, true));
-    assert_eq!(rt; found(map.map(5, 1)), Some((1, 0)));
-    assert_eq!(rt; told(map.map(6, 1)), stays(7));
-    assert_eq!(rt; told(map.map(7, 1)), stays(8));
+    assert_eq!(rt; told(map.map(3, Side::After)), stays(2));
+    assert_eq!(rt; told(map.map(4, Side::After)), stays(3));
+    assert_eq!(rt; told(map.map(5, Side::Before)), (4, false, false, true));
+    assert_eq!(rt; told(map.map(5, Side::After)), (4, true, false, true));
+    assert_eq!(rt; found(map.map(5, Side::After)), Some((1, 0)));
+    assert_eq!(rt; told(map.map(6, Side::After)), stays(7));
+    assert_eq!(rt; told(map.map(7, Side::After)), stays(8));
     let back = StepMap::new(Some(first), Some(second), true);
-    assert_eq!(rt; told(back.map(7, 1)), stays(6));
-    assert_eq!(rt; told(map.inverted().map(8, 1)), stays(7));
+    assert_eq!(rt; told(back.map(7, Side::After)), stays(6));
+    assert_eq!(rt; told(map.inverted().map(8, Side::After)), stays(7));
     assert!(rt; back.mirrors(&map) && map.copy().mirrors(&back));
     assert!(rt; !one(2, 0, 1).mirrors(&map) && !map.mirrors(&one(2, 0, 1)));
     assert!(rt; one(2, 3, 1).mirrors(&one(2, 1, 3)) && !one(2, 3, 2).mirrors(&one(2, 1, 3)));
     let none = StepMap::new(None, None, false);
     assert!(rt; !none.mirrors(&none));
-    assert_eq!(rt; told(none.map(3, -1)), stays(3));
+    assert_eq!(rt; told(none.map(3, Side::Before)), stays(3));
 }
 
 #[test]
@@ -99,10 +99,13 @@ fn maps_between_a_pair_are_jumped_over(rt: HostRuntime) -> Result<(), AllocError
     mapping.push(one(2, 4, 0))?;
     mapping.push(one(1, 0, 1))?;
     mapping.push_pair(one(3, 0, 4), 0)?;
-    assert_eq!(rt; told(mapping.map(1, 1)), stays(2));
-    assert_eq!(rt; told(mapping.map(4, 1)), stays(5));
-    assert_eq!(rt; told(mapping.map(7, 1)), stays(8));
-    assert_eq!(rt; told(mapping.slice(alloc, 1)?.map(4, 1)), stays(9));
+    assert_eq!(rt; told(mapping.map(1, Side::After)), stays(2));
+    assert_eq!(rt; told(mapping.map(4, Side::After)), stays(5));
+    assert_eq!(rt; told(mapping.map(7, Side::After)), stays(8));
+    assert_eq!(rt;
+        told(mapping.slice(alloc, 1)?.map(4, Side::After)),
+        stays(9)
+    );
     Ok(())
 }
 
@@ -120,7 +123,7 @@ fn entries_and_laws(rt: HostRuntime) -> Result<(), AllocError> {
         },
     ]?;
     let mapping = Mapping::from_entries(entries);
-    assert_eq!(rt; told(mapping.map(4, 1)), stays(4));
+    assert_eq!(rt; told(mapping.map(4, Side::After)), stays(4));
     mapping.paired();
     let map = one(2, 4, 0);
     map.ordered();

@@ -2,8 +2,8 @@ use Rattle.pm_map.proofs.Recovers.{shape-at}
 use Rattle.pm_frames.proofs.Small.{small-room}
 use Rattle.pm_frames.proofs.cut.piece_at.Goals as goal
 
-pub map-m-requires-clause-room : goal.map-m-requires-clause-room
-map-m-requires-clause-room c = small-room c.args.front.now c.args.from _ c.requires.small c.few.ensures c.requires.near
+pub map-m-requires : goal.map-m-requires
+map-m-requires c = small-room c.args.front.now c.args.from _ c.requires.small c.few.ensures c.requires.near
 
 pub result_place-requires-clause-range_in : goal.result_place-requires-clause-range_in
 result_place-requires-clause-range_in c =

@@ -1,6 +1,6 @@
 use Rattle.std.proofs.Common.{rules}
 use Rattle.pm_history.specs.declared.direction.Direction.TheVariants.{Undo, Redo}
-use Rattle.pm_client.specs.declared.taken.Kind.TheVariants.{Submit, Ask}
+use Rattle.pm_client.specs.declared.taken.MessageKind.TheVariants.{Submit, Ask}
 use Rattle.pm_client.specs.Clients.{undone_last, redone_last}
 use Rattle.pm_session.specs.Events.{edits, turns, composes, takes}
 use Rattle.pm_session.proofs.Alone.{alone-stands, either-stands, cursor-stands}
@@ -13,8 +13,8 @@ pub edit-requires-clause-good : goal.edit-requires-clause-good
 edit-requires-clause-good g c =
     kin-good g.C.Change.means c.args.rules.now g.met.C.Change.laws (g.H.Host.first c.args.host.now) (g.H.Host.log c.args.host.now) c.args.client.now c.requires.stands.kin
 
-pub set_cursor-requires-clause-small : goal.set_cursor-requires-clause-small
-set_cursor-requires-clause-small g c =
+pub set_cursor-requires : goal.set_cursor-requires
+set_cursor-requires g c =
     g.met.C.Change.laws.small c.args.rules.now c.args.client.now.doc
     (kin-good g.C.Change.means c.args.rules.now g.met.C.Change.laws (g.H.Host.first c.args.host.now) (g.H.Host.log c.args.host.now) c.args.client.now c.requires.stands.kin)
 
@@ -75,7 +75,7 @@ returns-in-Cursor-clause-stands g c =
     let rules_now = c.args.rules.now in
     let old = c.args.client.now in
     cursor-stands g.C.Change.means rules_now (g.H.Host.first host) (g.H.Host.log host) old c.requires.stands (g.met.H.Host.kept host rules_now old.name c.requires.served)
-    g.met.C.Change.laws _ _ c.set_cursor.result c.set_cursor.new.client c.set_cursor.ensures.sets c.set_cursor.ensures.err (search rules)
+    g.met.C.Change.laws _ _ c.set_cursor.result c.set_cursor.new.client c.set_cursor.ensures.sets c.set_cursor.ensures.err
 
 pub returns-in-Submit-clause-stands : goal.returns-in-Submit-clause-stands
 returns-in-Submit-clause-stands g c =

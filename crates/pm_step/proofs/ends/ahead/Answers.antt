@@ -1,8 +1,8 @@
-use Rattle.std.proofs.Common.{pos}
+use Rattle.pm_map.specs.declared.side.Side.TheVariants.{After}
 use Rattle.pm_map.proofs.Sizes.{position-fits}
 use Rattle.pm_step.proofs.ends.ahead.Goals as goal
 
-pub map-requires-clause-room : goal.map-requires-clause-room
-map-requires-clause-room c =
+pub map-requires : goal.map-requires
+map-requires c =
     let r = c.requires in
-    (position-fits c.args.mapping.now r.0 r.1 c.args.pos (pos 1) c.paired.ensures r.2.0 r.2.1).0
+    (position-fits c.args.mapping.now r.0 r.1 c.args.pos After c.paired.ensures r.2.0 r.2.1).0

@@ -1,5 +1,5 @@
 use Rattle.std.proofs.Common.{rules, inl, inr, ◌+◌, ◌-◌, ◌∙◌, ap, sym, length}
-use Rattle.pm_client.specs.declared.taken.Kind.TheVariants.{Submit, Ask}
+use Rattle.pm_client.specs.declared.taken.MessageKind.TheVariants.{Submit, Ask}
 use Rattle.pm_session.specs.Events.{state_of}
 use Rattle.pm_session.specs.Sessions.{exchanged, brought_up, in_turn}
 use Rattle.pm_session.proofs.Lefts.{left-err, exchange-at}

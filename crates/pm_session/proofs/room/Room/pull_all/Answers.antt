@@ -1,5 +1,5 @@
 use Rattle.std.proofs.Common.{rules, ◌+◌, ◌-◌, ◌∙◌, ap, sym, length}
-use Rattle.pm_client.specs.declared.taken.Kind.TheVariants.{Ask}
+use Rattle.pm_client.specs.declared.taken.MessageKind.TheVariants.{Ask}
 use Rattle.pm_session.specs.Events.{state_of}
 use Rattle.pm_session.specs.Sessions.{exchanged, in_turn}
 use Rattle.pm_session.proofs.Lefts.{left-err, exchange-at}

@@ -1,6 +1,6 @@
 use Rattle.std.proofs.Common.{inl, inr, length, sym, ap, ◌∙◌, subst}
 use Rattle.std.proofs.lemmas.Result.{on_ok_weaker, on_err_weaker}
-use Rattle.pm_client.specs.declared.taken.Kind.TheVariants.{Ask}
+use Rattle.pm_client.specs.declared.taken.MessageKind.TheVariants.{Ask}
 use Rattle.pm_session.specs.Events.{state_of}
 use Rattle.pm_session.specs.Sessions.{exchanged, brought_up, in_turn}
 use Rattle.pm_session.specs.Sounds.{AllCaughtUp}
