@@ -4,7 +4,7 @@ use Rattle.std.specs.List.{AllByRecursion as Each}
 use Rattle.std.proofs.Common.{sym, ap, ◌∙◌, ⊎_elim}
 use Rattle.std.proofs.lemmas.Bool.{true≢false}
 use Rattle.pm_map.specs.declared.step_map.Span.{Span}
-use Rattle.pm_map.specs.Mirrors.{fit}
+use Rattle.pm_map.specs.Mirrors.{may_mirror}
 use Rattle.pm_change.specs.declared.name.Name.{Name}
 use Rattle.pm_change.specs.Changes.{Meaning, Laws}
 use Rattle.pm_change.proofs.Folds.{fold-good}
@@ -60,9 +60,9 @@ module _ {C : Type 0} where
   later-agree n rs [] (j ∷ js) h = absurd h
   later-agree n rs (i ∷ is) [] h = absurd h
   later-agree n rs (i ∷ is) (j ∷ js) h =
-      ap (λ o. if one_step n o && fit rs i.map then Some 0 else one_more (later_in n rs is)) h.0.undoes_is
-      ∙ ap (λ map. if one_step n j.undoes && fit rs map then Some 0 else one_more (later_in n rs is)) h.0.map_is
-      ∙ ap (λ o. if one_step n j.undoes && fit rs j.map then Some 0 else one_more o) (later-agree n rs is js h.1)
+      ap (λ o. if one_step n o && may_mirror rs i.map then Some 0 else one_more (later_in n rs is)) h.0.undoes_is
+      ∙ ap (λ map. if one_step n j.undoes && may_mirror rs map then Some 0 else one_more (later_in n rs is)) h.0.map_is
+      ∙ ap (λ o. if one_step n j.undoes && may_mirror rs j.map then Some 0 else one_more o) (later-agree n rs is js h.1)
 
   paired-agree : (is js : List (Item C)) → Agree is js → paired is ≡ paired js
   paired-agree [] [] h = refl

@@ -6,7 +6,7 @@ use Rattle.pm_change.specs.Changes.{Meaning, fold}
 use Rattle.pm_change.proofs.Folds.{fold-cons, fold-append}
 use Rattle.pm_history.specs.declared.item.Item.{Item}
 use Rattle.pm_history.specs.declared.branch.Event.{Event}
-use Rattle.pm_history.specs.declared.branches.Side.TheVariants.{Edit}
+use Rattle.pm_history.specs.declared.branches.MadeBy.TheVariants.{Edit}
 use Rattle.pm_history.specs.declared.branches.Branches.{Branches}
 use Rattle.pm_history.specs.Histories.{event_of, extended, put_event, add_name, opens, names_in, recorded_where, noted_all, noted_own}
 use Rattle.pm_history.specs.Timelines.{Step, changes_of, item_at, next_items, items_from}

@@ -8,7 +8,7 @@ use Rattle.pm_change.specs.Changes.{Meaning, fold}
 use Rattle.pm_history.specs.declared.item.Item.{Item}
 use Rattle.pm_history.specs.declared.branch.Event.{Event}
 use Rattle.pm_history.specs.declared.branches.Branches.{Branches}
-use Rattle.pm_history.specs.declared.branches.Side.TheVariants.{Edit}
+use Rattle.pm_history.specs.declared.branches.MadeBy.TheVariants.{Edit}
 use Rattle.pm_history.specs.Items.{same_name, one_step, foreign_item}
 use Rattle.pm_history.specs.Histories.{event_of, extended, put_event, noted, noted_own, opens, holds}
 use Rattle.pm_history.specs.Timelines.{Step, changes_of, item_at, items_from}

@@ -6,7 +6,7 @@ use Rattle.pm_change.specs.declared.name.Name.{Name}
 use Rattle.pm_history.specs.declared.item.Item.{Item}
 use Rattle.pm_history.specs.declared.branch.Event.{Event}
 use Rattle.pm_history.specs.declared.branches.Branches.{Branches}
-use Rattle.pm_history.specs.declared.branches.Side.TheVariants.{Edit}
+use Rattle.pm_history.specs.declared.branches.MadeBy.TheVariants.{Edit}
 use Rattle.pm_history.specs.Histories.{event_of, extended, put_event, is_number, last_number, without_last, with_event, opens, recorded}
 use Rattle.pm_history.specs.EventLaws.{HasNumber, IsOpenFor, EditsEvents, MovesEvents}
 

@@ -5,7 +5,7 @@ use Rattle.std.proofs.lemmas.List.{take_all, drop_all, take_more, take_more_set,
 use Rattle.pm_change.specs.declared.name.Name.{Name}
 use Rattle.pm_map.specs.declared.step_map.Span.{Span}
 use Rattle.pm_map.specs.declared.mapping.Mirrored.{Mirrored}
-use Rattle.pm_map.specs.Mirrors.{fit}
+use Rattle.pm_map.specs.Mirrors.{may_mirror}
 use Rattle.pm_map.proofs.Growths.{fit-shape}
 use Rattle.pm_map.specs.Through.{ArePaired, IsPairedAt}
 use Rattle.pm_history.specs.declared.item.Item.{Item}
@@ -24,9 +24,9 @@ drop-next xs k x e l = drop-cons xs k x l ∙ ap (λ y. y ∷ drop (suc k) xs) (
 module _ {C : Type 0} where
   -- one item more behind: it is the mirror of a map that has none yet, where it can be
   later-more : (n : Option Name) (rs : List Span) (xs : List (Item C)) (i : Item C)
-      → later_in n rs (xs ++ i ∷ []) ≡ (if is_unpaired (later_in n rs xs) && one_step n i.undoes && fit rs i.map then Some (length (paired xs)) else later_in n rs xs)
+      → later_in n rs (xs ++ i ∷ []) ≡ (if is_unpaired (later_in n rs xs) && one_step n i.undoes && may_mirror rs i.map then Some (length (paired xs)) else later_in n rs xs)
   later-more n rs [] i = refl
-  later-more n rs (x ∷ xs) i = from (one_step n x.undoes && fit rs x.map) (later_in n rs xs) (one_step n i.undoes) (fit rs i.map) (later-more n rs xs i)
+  later-more n rs (x ∷ xs) i = from (one_step n x.undoes && may_mirror rs x.map) (later_in n rs xs) (one_step n i.undoes) (may_mirror rs i.map) (later-more n rs xs i)
     where
       from : (c : Bool) (o : Option ℕ) (a b : Bool) → later_in n rs (xs ++ i ∷ []) ≡ (if is_unpaired o && a && b then Some (length (paired xs)) else o)
           → (if c then Some 0 else one_more (later_in n rs (xs ++ i ∷ [])))
@@ -63,7 +63,7 @@ module _ {C : Type 0} where
       add rs x xs None h = tt
       add rs x xs (Some k) h = (omega (arith, h.0), h.1, h.2)
 
-      here : (rs : List Span) (x : Item C) (xs : List (Item C)) → fit rs x.map ≡ true → IsPairedAt rs (Some 0) (paired (x ∷ xs))
+      here : (rs : List Span) (x : Item C) (xs : List (Item C)) → may_mirror rs x.map ≡ true → IsPairedAt rs (Some 0) (paired (x ∷ xs))
       here [] x xs h = absurd (cc)
       here (r ∷ rs) x xs h = (omega arith, omega arith, fit-shape (r ∷ rs) x.map h)
 
@@ -75,7 +75,7 @@ module _ {C : Type 0} where
 
       at : (n : Option Name) (rs : List Span) (xs : List (Item C)) → IsPairedAt rs (later_in n rs xs) (paired xs)
       at n rs [] = tt
-      at n rs (x ∷ xs) = pick (one_step n x.undoes) (fit rs x.map) rs x xs (later_in n rs xs) (here rs x xs) (add rs x xs (later_in n rs xs) (at n rs xs))
+      at n rs (x ∷ xs) = pick (one_step n x.undoes) (may_mirror rs x.map) rs x xs (later_in n rs xs) (here rs x xs) (add rs x xs (later_in n rs xs) (at n rs xs))
 
 -- what was read at one place twice
 pub same-at : {A : Type 0} (xs : List A) (k : ℕ) (a b : A) → k < length xs → a ≡ get_or xs k a → b ≡ get_or xs k b → a ≡ b

@@ -21,4 +21,5 @@ pub mod Agrees
 pub mod Showing
 pub mod Mades
 pub mod Steps
+pub mod Trimmings
 mod EventProofs

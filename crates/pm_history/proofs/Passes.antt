@@ -9,7 +9,7 @@ use Rattle.pm_map.specs.declared.step_map.Recover.{Recover}
 use Rattle.pm_map.specs.declared.mapping.Mirrored.{Mirrored}
 use Rattle.pm_map.specs.Moves.{moved_from, kept_at, inverted_ranges, inverted_from}
 use Rattle.pm_map.specs.Through.{through_from, stepped, skipped, joined, at_pos, partner, result_start, start_from}
-use Rattle.pm_map.specs.Mirrors.{fit, fit_all}
+use Rattle.pm_map.specs.Mirrors.{may_mirror, has_shape}
 use Rattle.pm_history.specs.declared.item.Item.{Item}
 use Rattle.pm_change.specs.declared.name.Name.{Name}
 use Rattle.pm_map.specs.Stills.{AreApart}
@@ -34,7 +34,7 @@ module _ {C : Type 0} where
   MoveBack n (r ∷ rs) (u ∷ []) = (u.map ≡ inverted_ranges (r ∷ rs)) × (one_step n u.undoes ≡ true)
   MoveBack n (r ∷ rs) (u ∷ v ∷ us) = ⊥
 
--- the same place, and the same flags but `after` by side -1
+-- the same place, and the same flags but `after` by `Before`
 pub record Same (before : Bool) (so next : Moved) : Type 0 where
   pub pos : next.pos ≡ so.pos
   pub deleted : next.deleted ≡ so.deleted
@@ -88,7 +88,7 @@ same-joined b so m p d a f = record {
 same-kept : (b : Bool) (so : Moved) → Same b so (joined so (kept_at ((so.pos + 0) - 0)))
 same-kept b so = same-joined b so (kept_at ((so.pos + 0) - 0)) (omega arith) refl refl (λ _. refl)
 
-fit-back : (rs : List Span) (g l : ℕ) → fit_all rs (inverted_from rs g l) ≡ true
+fit-back : (rs : List Span) (g l : ℕ) → has_shape rs (inverted_from rs g l) ≡ true
 fit-back [] g l = refl
 fit-back (r ∷ rs) g l = and_from _ _ (eq-eqb r.old_size r.old_size refl) (fit-back rs (g + r.new_size) (l + r.old_size))
 
@@ -125,12 +125,12 @@ module _ {C : Type 0} where
       from false = refl
   later-none n (r ∷ rs) i is f = from (one_step n i.undoes) refl
     where
-      from : (t : Bool) → one_step n i.undoes ≡ t → (if t && fit (r ∷ rs) i.map then Some 0 else one_more (later_in n (r ∷ rs) is)) ≡ one_more (later_in n (r ∷ rs) is)
-      from true e = ap (λ map. if fit (r ∷ rs) map then Some 0 else one_more (later_in n (r ∷ rs) is)) (f e)
+      from : (t : Bool) → one_step n i.undoes ≡ t → (if t && may_mirror (r ∷ rs) i.map then Some 0 else one_more (later_in n (r ∷ rs) is)) ≡ one_more (later_in n (r ∷ rs) is)
+      from true e = ap (λ map. if may_mirror (r ∷ rs) map then Some 0 else one_more (later_in n (r ∷ rs) is)) (f e)
       from false e = refl
 
   found : (n : Option Name) (rs : List Span) (xs : List (Item C)) (u : Item C) (rest : List (Item C)) → NoRangeUndoes n xs
-      → one_step n u.undoes ≡ true → fit rs u.map ≡ true → later_in n rs (xs ++ u ∷ rest) ≡ Some (length xs)
+      → one_step n u.undoes ≡ true → may_mirror rs u.map ≡ true → later_in n rs (xs ++ u ∷ rest) ≡ Some (length xs)
   found n rs [] u rest h e f = ap (λ t. if t then Some 0 else one_more (later_in n rs rest)) (and_from _ _ e f)
   found n rs (x ∷ xs) u rest h e f = later-none n rs x (xs ++ u ∷ rest) h.0 ∙ ap one_more (found n rs xs u rest h.1 e f)
 
@@ -201,7 +201,7 @@ module _ {C : Type 0} where
   passes-undone n (r ∷ rs) xs (u ∷ v ∷ us) a f none back = absurd back
   passes-undone n (r ∷ rs) xs (u ∷ []) a f none back = λ rest b so e.
       let g = goes-back (r ∷ rs) 0 0 0 0 so.pos b a (omega arith) (omega arith) in
-      let later = found n (r ∷ rs) xs u rest none back.1 (ap (λ map. fit (r ∷ rs) map) back.0 ∙ fit-back (r ∷ rs) 0 0) in
+      let later = found n (r ∷ rs) xs u rest none back.1 (ap (λ map. may_mirror (r ∷ rs) map) back.0 ∙ fit-back (r ∷ rs) 0 0) in
       subst (λ is. Moves n (r ∷ rs) is b so rest) (sym (append_assoc xs (u ∷ []) rest))
       (elim (moved_from (r ∷ rs) 0 0 0 so.pos b).recover as (λ o. (moved_from (r ∷ rs) 0 0 0 so.pos b).recover ≡ o → Moves n (r ∷ rs) (xs ++ u ∷ rest) b so rest) [
         | None ↦ λ t. stays n (r ∷ rs) xs u rest b so f back.0 g t

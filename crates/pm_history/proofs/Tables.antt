@@ -5,7 +5,7 @@ use Rattle.std.proofs.lemmas.List.{get_or_append_left}
 use Rattle.std.proofs.Math.Seq.{get_or-append_seam}
 use Rattle.pm_change.specs.declared.name.Name.{Name}
 use Rattle.pm_map.specs.declared.step_map.Span.{Span}
-use Rattle.pm_map.specs.Mirrors.{fit}
+use Rattle.pm_map.specs.Mirrors.{may_mirror}
 use Rattle.pm_history.specs.declared.item.Item.{Item}
 use Rattle.pm_history.specs.Items.{one_step}
 use Rattle.pm_history.specs.Pairs.{later_in, one_more}
@@ -87,7 +87,7 @@ module _ {C : Type 0} where
     same = e ∙ ap one_more h.same ∙ past-one (length h.front) (later_in n rs (h.item ∷ h.rest));
   }
 
-  later-past : (name : Name) (rs : List Span) (i : Item C) (is : List (Item C)) → (one_step (Some name) i.undoes && fit rs i.map) ≡ false
+  later-past : (name : Name) (rs : List Span) (i : Item C) (is : List (Item C)) → (one_step (Some name) i.undoes && may_mirror rs i.map) ≡ false
       → later_in (Some name) rs (i ∷ is) ≡ one_more (later_in (Some name) rs is)
   later-past name rs i is h = ap (λ t. if t then Some 0 else one_more (later_in (Some name) rs is)) h
 
@@ -100,7 +100,7 @@ module _ {C : Type 0} where
       from true e h = record { front = []; item = i; rest = is; all_is = refl; left_is = refl; undoes = e; same = past-zero (later_in (Some name) rs (i ∷ is)) }
       from false e h =
           past-item (Some name) name.serial rs i is (nearest name.serial is)
-          (later-past name rs i is (and-first (one_step (Some name) i.undoes) (fit rs i.map) (not-named name i.undoes e))) h
+          (later-past name rs i is (and-first (one_step (Some name) i.undoes) (may_mirror rs i.map) (not-named name i.undoes e))) h
 
   behind-item : (n : Option Name) (s : ℕ) (rs : List Span) (all : List (Item C)) (left : ℕ) (h : Stands n s rs all left) (o : Option ℕ)
       → later_in n rs (h.item ∷ h.rest) ≡ one_more (later_in n rs h.rest) → Reaches n s rs h.rest o → Reaches n s rs all o
@@ -157,7 +157,7 @@ module _ {C : Type 0} where
 
   -- where the item is not the mirror, the search goes on
   pub reaches-next : (name : Name) (rs : List Span) (all : List (Item C)) (left : ℕ) (h : Stands (Some name) name.serial rs all left) (next : List (Option ℕ)) (d : Option ℕ) → next ≡ chain all
-      → (one_step (Some name) h.item.undoes && fit rs h.item.map) ≡ false → Reaches (Some name) name.serial rs all (get_or next left d)
+      → (one_step (Some name) h.item.undoes && may_mirror rs h.item.map) ≡ false → Reaches (Some name) name.serial rs all (get_or next left d)
   reaches-next name rs all left h next d n e =
       subst (Reaches (Some name) name.serial rs all) (next-is name rs all left h next d n)
       (behind-item (Some name) name.serial rs all left h (nearest name.serial h.rest) (later-past name rs h.item h.rest e) (reaches-first name rs h.rest))
@@ -181,7 +181,7 @@ module _ {C : Type 0} where
 
   -- where it is the mirror, that is found
   pub mirror-there : (name : Name) (rs : List Span) (all : List (Item C)) (left place : ℕ) (h : Stands (Some name) name.serial rs all left) → place ≡ (length all - 1) - left
-      → (one_step (Some name) h.item.undoes && fit rs h.item.map) ≡ true → Some place ≡ later_in (Some name) rs all
+      → (one_step (Some name) h.item.undoes && may_mirror rs h.item.map) ≡ true → Some place ≡ later_in (Some name) rs all
   mirror-there name rs all left place h p e =
       ap Some (p ∙ front-long (Some name) name.serial rs all left h ∙ plus (length h.front)) ∙ sym (h.same ∙ ap (λ t. past (length h.front) (if t then Some 0 else one_more (later_in (Some name) rs h.rest))) e)
     where

@@ -4,7 +4,7 @@ use Rattle.pm_change.specs.declared.name.Name.{Name}
 use Rattle.pm_history.specs.declared.item.Item.{Item}
 use Rattle.pm_history.specs.declared.branch.Event.{Event}
 use Rattle.pm_history.specs.declared.branches.Branches.{Branches}
-use Rattle.pm_history.specs.declared.branches.Side.TheVariants.{Edit}
+use Rattle.pm_history.specs.declared.branches.MadeBy.TheVariants.{Edit}
 use Rattle.pm_history.specs.declared.direction.Direction.TheVariants.{Undo, Redo}
 use Rattle.pm_history.specs.Histories.{event_of, names_in, recorded, undone}
 

@@ -5,8 +5,8 @@ use Rattle.pm_map.specs.declared.step_map.Span.{Span}
 use Rattle.pm_map.specs.declared.mapping.Mirrored.{Mirrored}
 use Rattle.pm_history.specs.declared.item.Item.{Item}
 use Rattle.pm_history.specs.declared.branch.Event.{Event}
-use Rattle.pm_history.specs.declared.branches.Side.{Side}
-use Rattle.pm_history.specs.declared.branches.Side.TheVariants as side
+use Rattle.pm_history.specs.declared.branches.MadeBy.{MadeBy}
+use Rattle.pm_history.specs.declared.branches.MadeBy.TheVariants as made_by
 use Rattle.pm_history.specs.declared.branches.Branches.{Branches}
 use Rattle.pm_history.specs.declared.direction.Direction.{Direction}
 use Rattle.pm_history.specs.declared.direction.Direction.TheVariants.{Undo, Redo}
@@ -99,10 +99,10 @@ module _ {C : Type 0} where
 
   -- Steps of an edit stand in the last event to undo, which is open then, and empty the redo branch. Steps of an undo stand
   -- in the last event to redo, and those of a redo in the last event to undo; both leave no event open.
-  abbrev pub recorded : Branches C → List Name → Side → Branches C
-  recorded h ns (side.Edit event first) = record h { undo = put_event (opens h event first) event h.undo ns; redo = []; is_open = true }
-  recorded h ns (side.Undo event first) = record h { redo = put_event first event h.redo ns; is_open = false }
-  recorded h ns (side.Redo event first) = record h { undo = put_event first event h.undo ns; is_open = false }
+  abbrev pub recorded : Branches C → List Name → MadeBy → Branches C
+  recorded h ns (made_by.Edit event first) = record h { undo = put_event (opens h event first) event h.undo ns; redo = []; is_open = true }
+  recorded h ns (made_by.Undo event first) = record h { redo = put_event first event h.redo ns; is_open = false }
+  recorded h ns (made_by.Redo event first) = record h { undo = put_event first event h.undo ns; is_open = false }
 
   -- the names of these items; a foreign step has none
   abbrev pub names_in : List (Item C) → List Name
@@ -110,16 +110,16 @@ module _ {C : Type 0} where
   names_in (i ∷ is) = add_name i.name (names_in is)
 
   -- no step, nothing new
-  abbrev pub recorded_where : Branches C → List Name → Side → Branches C
+  abbrev pub recorded_where : Branches C → List Name → MadeBy → Branches C
   recorded_where h [] call = h
   recorded_where h (n ∷ ns) call = recorded h (n ∷ ns) call
 
   -- own steps of one call
-  abbrev pub noted_all : Branches C → List (Item C) → Side → Branches C
+  abbrev pub noted_all : Branches C → List (Item C) → MadeBy → Branches C
   noted_all h is call = record (recorded_where h (names_in is) call) { items = h.items ++ is }
 
   -- one own step
-  abbrev pub noted_own : Branches C → Item C → Side → Branches C
+  abbrev pub noted_own : Branches C → Item C → MadeBy → Branches C
   noted_own h i call = noted_all h (i ∷ []) call
 
   -- the last items

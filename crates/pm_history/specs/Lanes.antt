@@ -3,7 +3,7 @@ use Rattle.std.specs.Prelude.{ℕ, zero, suc, ◌&&◌, Bool, true, false, if◌
 use Rattle.pm_change.specs.declared.name.Name.{Name}
 use Rattle.pm_map.specs.declared.step_map.Span.{Span}
 use Rattle.pm_map.specs.declared.mapping.Mirrored.{Mirrored}
-use Rattle.pm_map.specs.Mirrors.{fit}
+use Rattle.pm_map.specs.Mirrors.{may_mirror}
 use Rattle.pm_history.specs.declared.item.Item.{Item}
 use Rattle.pm_history.specs.declared.lane.Lane.{Lane}
 use Rattle.pm_history.specs.Items.{one_step}
@@ -28,7 +28,7 @@ is_unpaired (Some k) = false
 
 -- whether the map of the step of this name has no mirror yet, and these ranges, which undo the step `undoes`, can be it
 abbrev pub awaits : Option Name → List Span → Option Name → Mirrored → Bool
-awaits undoes rs name m = is_unpaired m.later && one_step name undoes && fit m.map rs
+awaits undoes rs name m = is_unpaired m.later && one_step name undoes && may_mirror m.map rs
 
 -- a map with `between` maps behind it, and then this one
 abbrev pub tied_to : Option Name → List Span → ℕ → Option Name → Mirrored → Mirrored

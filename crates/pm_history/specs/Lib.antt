@@ -17,3 +17,5 @@ pub mod Tries
 pub mod Drops
 pub mod Tied
 pub mod EventLaws
+pub mod Trims
+pub mod Live

@@ -3,7 +3,7 @@ use Rattle.std.specs.Prelude.{ℕ, suc, ◌&&◌, if◌then◌else◌, List, [],
 use Rattle.pm_change.specs.declared.name.Name.{Name}
 use Rattle.pm_map.specs.declared.step_map.Span.{Span}
 use Rattle.pm_map.specs.declared.mapping.Mirrored.{Mirrored}
-use Rattle.pm_map.specs.Mirrors.{fit}
+use Rattle.pm_map.specs.Mirrors.{may_mirror}
 use Rattle.pm_history.specs.declared.item.Item.{Item}
 use Rattle.pm_history.specs.Items.{one_step}
 
@@ -15,7 +15,7 @@ one_more (Some k) = Some (suc k)
 -- of these ranges.
 abbrev pub later_in : {C : Type 0} → Option Name → List Span → List (Item C) → Option ℕ
 later_in n rs [] = None
-later_in n rs (i ∷ is) = if one_step n i.undoes && fit rs i.map then Some 0 else one_more (later_in n rs is)
+later_in n rs (i ∷ is) = if one_step n i.undoes && may_mirror rs i.map then Some 0 else one_more (later_in n rs is)
 
 -- The items' maps, each with its mirror: an own step's map is paired with that of the own step that was made to undo it.
 abbrev pub paired : {C : Type 0} → List (Item C) → List Mirrored

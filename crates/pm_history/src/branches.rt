@@ -3,6 +3,8 @@ ghost use Rattle.std.specs.Prelude.{◌≡◌, ◌≤◌, ◌<◌, ◌+◌, ◌-
 ghost use Rattle.pm_history.specs.Histories.{new_history, noted, opens, recorded_where, noted_all, noted_own, names_in, rebased, last_of, IsPopped, turned, undone, later_of, inverse_of};
 ghost use Rattle.pm_history.specs.Drops.{replaced};
 ghost use Rattle.pm_history.specs.Pairs.{paired};
+ghost use Rattle.pm_history.specs.Remembers.{live_names};
+ghost use Rattle.pm_history.specs.Trims.{trimmed, inverses};
 ghost use Rattle.pm_history.specs.Undos.{find};
 
 use crate::branch::{Branch, Event};
@@ -10,15 +12,18 @@ use crate::direction::Direction;
 use crate::dropped::{any_dropped, foreign_items, without_dropped};
 use crate::item::Item;
 use crate::lane::paired;
+use crate::live::{Live, live_names};
+use crate::trimming::{Held, inverses, trim};
 use crate::undoing::place_of;
 use pm_change::Name;
 use pm_list::Listed;
 use pm_map::{Mapping, StepMap};
 use std::alloc::{AllocError, Global};
+use std::mem;
 
 /// The call that made a step. `event`: the number of the event. `first`: whether it is the first step of its call.
 #[derive(Clone, Copy, Drop, Debug)]
-pub enum Side {
+pub enum MadeBy {
     Edit { event: Option<u32>, first: bool },
     Undo { event: Option<u32>, first: bool },
     Redo { event: Option<u32>, first: bool },
@@ -83,37 +88,42 @@ impl<C> Branches<C> {
         })
     }
 
-    /// An own step, made by the call `side`, is behind the timeline. A step of an edit joins the open event where the edit has
+    /// An own step, made by the call `made_by`, is behind the timeline. A step of an edit joins the open event where the edit has
     /// that event's number, as do all further steps of the same call; else it opens a new event. It empties the redo branch.
     /// A step of an undo stands in an event to redo, one of a redo in an event to undo. For want of memory nothing changes.
-    pub fn note_own(&mut self, alloc: Global, item: Item<C>, side: Side) -> Result<(), AllocError>
+    pub fn note_own(
+        &mut self,
+        alloc: Global,
+        item: Item<C>,
+        made_by: MadeBy,
+    ) -> Result<(), AllocError>
     where
         C: Drop,
-        ensures ok { OnOk result (self.new ≡ noted_own self.old item side) }
+        ensures ok { OnOk result (self.new ≡ noted_own self.old item made_by) }
         ensures err { OnErr result (self.new ≡ self.old) }
     {
         let mut items = Listed::new(alloc);
         items.push(item)?;
-        self.note_all(alloc, items, side)
+        self.note_all(alloc, items, made_by)
     }
 
-    /// Own steps, made in this order by the one call `side`, are behind the timeline, all as `note_own` notes one. For want of
+    /// Own steps, made in this order by the one call `made_by`, are behind the timeline, all as `note_own` notes one. For want of
     /// memory nothing changes.
     pub fn note_all(
         &mut self,
         alloc: Global,
         items: Listed<Item<C>>,
-        side: Side,
+        made_by: MadeBy,
     ) -> Result<(), AllocError>
     where
         C: Drop,
-        ensures ok { OnOk result (self.new ≡ noted_all self.old items side) }
+        ensures ok { OnOk result (self.new ≡ noted_all self.old items made_by) }
         ensures err { OnErr result (self.new ≡ self.old) }
     {
         let names = names_in(alloc, items.as_slice())?;
         let count = self.items.len();
         self.items.append(items)?;
-        match self.record(names, side) {
+        match self.record(names, made_by) {
             Ok(()) => Ok(()),
             Err(AllocError) => {
                 self.items.truncate(count);
@@ -122,27 +132,27 @@ impl<C> Branches<C> {
         }
     }
 
-    fn record(&mut self, names: Listed<Name>, side: Side) -> Result<(), AllocError>
-        ensures ok { OnOk result (self.new ≡ recorded_where self.old names side) }
+    fn record(&mut self, names: Listed<Name>, made_by: MadeBy) -> Result<(), AllocError>
+        ensures ok { OnOk result (self.new ≡ recorded_where self.old names made_by) }
         ensures err { OnErr result (self.new ≡ self.old) }
     {
         if names.is_empty() {
             return Ok(());
         }
-        match side {
-            Side::Edit { event, first } => {
+        match made_by {
+            MadeBy::Edit { event, first } => {
                 let opens = self.opens(event, first);
                 self.undo.put(opens, event, names)?;
                 self.redo.clear();
                 self.is_open = true;
                 Ok(())
             }
-            Side::Undo { event, first } => {
+            MadeBy::Undo { event, first } => {
                 self.redo.put(first, event, names)?;
                 self.is_open = false;
                 Ok(())
             }
-            Side::Redo { event, first } => {
+            MadeBy::Redo { event, first } => {
                 self.undo.put(first, event, names)?;
                 self.is_open = false;
                 Ok(())
@@ -275,6 +285,36 @@ impl<C> Branches<C> {
                 self.is_open = false;
                 Ok(())
             }
+        }
+    }
+
+    /// Lets go what the history need not remember: all items before the first live step, or all where there is none, and the
+    /// changes that undo steps that are not live. A step is live where its name stands in an event, to undo or to redo. The
+    /// other items keep their names and maps, and what they were made to undo. It looks at each item and each live name once.
+    /// For want of memory nothing changes.
+    pub fn trim(&mut self, alloc: Global) -> Result<(), AllocError>
+    where
+        C: Drop,
+        ensures ok { OnOk result (self.new ≡ trimmed self.old) }
+        ensures err { OnErr result (self.new ≡ self.old) }
+    {
+        let names = live_names(alloc, self.undo.events(), self.redo.events())?;
+        let live = Live::of(alloc, names.as_slice())?;
+        let items = mem::replace(&mut self.items, Listed::new(alloc));
+        self.items = trim(alloc, items, names.as_slice(), &live);
+        Ok(())
+    }
+
+    /// How many items are kept, and how many of them with the changes that undo them, which those of each live step count as.
+    /// It takes no memory.
+    pub fn held(&self) -> Held
+        ensures items { result.items ≡ length self.now.items }
+        ensures inverses { result.inverses ≡ inverses (live_names self.now) self.now.items }
+    {
+        let items = self.items.as_slice();
+        Held {
+            items: items.len() as u64,
+            inverses: inverses(items, self.undo.events(), self.redo.events()),
         }
     }
 

@@ -1,6 +1,6 @@
 //! The maps of a timeline's items, with their mirrors, as items come.
 ghost use Rattle.std.specs.Prelude.{◌≡◌, ◌≤◌, ◌<◌, ◌+◌, ◌++◌, ◌∷◌, [], ◌&&◌, length, IfOk};
-ghost use Rattle.pm_map.specs.Mirrors.{fit};
+ghost use Rattle.pm_map.specs.Mirrors.{may_mirror};
 ghost use Rattle.pm_map.specs.Through.{ArePaired};
 ghost use Rattle.pm_history.specs.Items.{one_step};
 ghost use Rattle.pm_history.specs.Lanes.{maps_of, name_of, tied, awaits};
@@ -157,7 +157,7 @@ fn awaits<C>(earlier: &Mirrored, name: Option<Name>, item: &Item<C>) -> bool
 
 /// Whether this item was made to undo the step of this name, and its map can be the mirror of that step's map.
 pub fn is_mirror<C>(item: &Item<C>, name: Option<Name>, map: &StepMap) -> bool
-    ensures { result ≡ one_step name item.now.undoes && fit map.now item.now.map }
+    ensures { result ≡ one_step name item.now.undoes && may_mirror map.now item.now.map }
 {
     one_step(name, item.undoes) && item.map.mirrors(map)
 }

@@ -1,7 +1,12 @@
 //! Laws of events. Each call does nothing; its contract is the law.
-ghost use Rattle.std.specs.Prelude.{List};
+ghost use Rattle.std.specs.Prelude.{◌≡◌, ℕ, List, Some};
 ghost use Rattle.pm_history.specs.declared.item.Item.{Item};
+ghost use Rattle.pm_change.specs.Changes.{fold};
 ghost use Rattle.pm_history.specs.EventLaws.{EditsEvents, MovesEvents};
+ghost use Rattle.pm_history.specs.Remembers.{live_names};
+ghost use Rattle.pm_history.specs.Standing.{IsHistoryOf};
+ghost use Rattle.pm_history.specs.Timelines.{Step, changes_of};
+ghost use Rattle.pm_history.specs.Trims.{trimmed, IsTrimmed, inverses, live_count};
 
 use crate::branches::Branches;
 use pm_change::Change;
@@ -19,5 +24,17 @@ pub fn edits_events<C: Change>(history: &Branches<C>)
 pub fn moves_events<C: Change>(history: &Branches<C>)
     ensures { (items : List (Item C)) → MovesEvents history.now items }
 {
+    let _ = history;
+}
+
+/// A trimmed history still stands for the timeline for which it stood, so that each undo over its items is still the undo over
+/// all steps of that timeline. Nothing is left to trim then, and the inverses kept are those of the live steps.
+pub fn trimming_keeps<C: Change>(rules: &C::Rules, history: &Branches<C>)
+    ensures stands { (client drawn : ℕ) (first doc : C.Doc) (steps : List (Step C)) → fold C.means rules.now first (changes_of steps) ≡ Some doc
+        → IsHistoryOf C.means rules.now client drawn first steps history.now → IsHistoryOf C.means rules.now client drawn first steps (trimmed history.now) }
+    ensures trimmed { IsTrimmed (trimmed history.now) }
+    ensures inverses { inverses (live_names history.now) (trimmed history.now).items ≡ live_count (live_names history.now) (trimmed history.now).items }
+{
+    let _ = rules;
     let _ = history;
 }

@@ -12,13 +12,16 @@ mod dropped;
 mod item;
 mod lane;
 pub mod laws;
+mod live;
 mod tied;
+mod trimming;
 mod undoers;
 mod undoing;
 
 pub use branch::{Branch, Event};
-pub use branches::{Branches, Side, names_in};
+pub use branches::{Branches, MadeBy, names_in};
 pub use direction::Direction;
 pub use item::Item;
 pub use tied::tie;
+pub use trimming::Held;
 pub use undoing::{Undone, undo_event};

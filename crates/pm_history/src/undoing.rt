@@ -74,7 +74,7 @@ fn start_of<C>(names: &[Name], items: &[Item<C>]) -> usize
 }
 
 /// Whether this is one of these names.
-fn is_named(names: &[Name], name: Option<Name>) -> bool
+pub fn is_named(names: &[Name], name: Option<Name>) -> bool
     ensures { result ≡ is_named names.now name }
 {
     for one in names {

@@ -1,6 +1,6 @@
 use Rattle.std.proofs.Common.{◌≡◌, ◌<◌, ◌&&◌, ap, sym, ◌∙◌, subst, arith, length, Some, refl}
 use Rattle.pm_change.specs.declared.name.Name.{Name}
-use Rattle.pm_map.specs.Mirrors.{fit}
+use Rattle.pm_map.specs.Mirrors.{may_mirror}
 use Rattle.pm_history.specs.declared.item.Item.{Item}
 use Rattle.pm_history.specs.Items.{one_step}
 use Rattle.pm_history.specs.Pairs.{later_in}
@@ -33,7 +33,7 @@ loop-at-preserved g c = λ name e.
     let left = c.in-Some-at.left in
     let h = subst (Reaches (Some name) name.serial rs all) c.in-Some-at.is (c.loop-at.invariant name e) in
     let i = item-there (Some name) name.serial rs all left _ h c.index-behind-place.result refl c.index-behind-place.is in
-    let no = ap (λ n. one_step n h.item.undoes && fit rs h.item.map) (sym e) ∙ ap (λ (x : Item g.row.C.Denot). one_step c.args.item.now.name x.undoes && fit rs x.map) i
+    let no = ap (λ n. one_step n h.item.undoes && may_mirror rs h.item.map) (sym e) ∙ ap (λ (x : Item g.row.C.Denot). one_step c.args.item.now.name x.undoes && may_mirror rs x.map) i
     ∙ sym c.is_mirror.ensures ∙ c.if-is_mirror.false in
     subst (Reaches (Some name) name.serial rs all) (sym c.index-at.ensures)
     (reaches-next name rs all left h c.args.self.now.next.items c.index-at.result.now c.requires.next_are no)
