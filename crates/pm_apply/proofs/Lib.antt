@@ -18,6 +18,7 @@ pub mod KnownLaws
 pub mod MarkOutcomes
 pub mod ReplaceOutcomes
 pub mod AroundOutcomes
+pub mod ChangedLaws
 pub mod FedAround
 pub mod SlicePairs
 pub mod Crossing

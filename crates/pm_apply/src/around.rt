@@ -1,6 +1,7 @@
 //! Steps that replace what is around a gap.
 ghost use Rattle.std.specs.Prelude.{◌≡◌, ◌+◌, ◌-◌, ◌<◌, ◌≤◌, ◌^◌, ◌∷◌, ◌&&◌, [], true, nat_le, length, IfOk};
 ghost use Rattle.pm_change.specs.Failing.{Answers};
+ghost use Rattle.pm_tokens.specs.Faults.{Valid};
 ghost use Rattle.pm_tokens.specs.Scan.{parts_pair, part};
 ghost use Rattle.pm_tokens.specs.Schemas.{compatible};
 ghost use Rattle.pm_tokens.specs.Slices.{is_slice, slice_size, slice_tokens, spliced_around};
@@ -15,8 +16,8 @@ use crate::sides::{is_whole, keeps_structure, sides_fit};
 use pm_build::{Builder, OpenTypes, Refused, parts_pair};
 use pm_change::Failed;
 use pm_meaning::Reason;
-use pm_node::{Document, Fragment, MAX_SIZE, Node};
-use pm_replace::{checked_content, failed};
+use pm_node::{Difference, Document, Fragment, MAX_SIZE, Node};
+use pm_replace::{checked_change, failed};
 use pm_schema::Schema;
 use pm_slice::Slice;
 use pm_step::{ReplaceAroundStep, Step};
@@ -41,6 +42,7 @@ pub fn replace_around(
     content: &Fragment,
     step: &ReplaceAroundStep,
 ) -> Result<Document, Failed<Reason>>
+    requires { Valid (documents_of schema.now.spec) (doc_with top.now content.now) }
     ensures { Answers (made (documents_of schema.now.spec) (step_of (Step.ReplaceAround step.now)) (doc_with top.now content.now)) result }
 {
     let ends = Ends {
@@ -134,7 +136,7 @@ fn parts_pair_in(slice: &Slice, insert: usize) -> bool
 }
 
 /// The same where the tests before the join are passed. A result that is too large is not built, since only its joins are asked
-/// for.
+/// for; any other is checked by the node around the range where that is enough.
 fn put_around(
     alloc: Global,
     schema: &Schema,
@@ -143,7 +145,8 @@ fn put_around(
     ends: Ends,
     slice: &Slice,
 ) -> Result<Document, Failed<Reason>>
-    requires { IsPlaced content.now ends slice.now }
+    requires valid { Valid (documents_of schema.now.spec) (doc_with top.now content.now) }
+    requires placed { IsPlaced content.now ends slice.now }
     ensures { Answers (spliced_outcome (documents_of schema.now.spec) (doc_with top.now content.now)
         (spliced_around content.now ends.from ends.to ends.gap_from ends.gap_to slice.now ends.insert)) result }
 {
@@ -158,7 +161,14 @@ fn put_around(
         };
     }
     match splice_around(alloc, schema, content, ends, slice) {
-        Ok(made) => checked_content(alloc, schema, top, made),
+        Ok(made) => {
+            let change = Difference {
+                from: ends.from,
+                to: ends.to,
+                new_to: ends.from + (ends.gap_to - ends.gap_from) + added,
+            };
+            checked_change(alloc, schema, top, content, made, change)
+        }
         Err(refused) => Err(failed(refused)),
     }
 }

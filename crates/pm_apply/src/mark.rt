@@ -17,8 +17,8 @@ use crate::runs::{Place, Runs, push_step};
 use pm_build::parts_pair;
 use pm_change::Failed;
 use pm_meaning::Reason;
-use pm_node::{Document, Fragment, Node};
-use pm_replace::checked_content;
+use pm_node::{Difference, Document, Fragment, Node};
+use pm_replace::checked_change;
 use pm_schema::Schema;
 use pm_step::{MarkStep, Step};
 use std::alloc::{AllocError, Global};
@@ -60,7 +60,12 @@ pub fn mark_range(
         &step.marking,
         Reach::Inline,
     )?;
-    checked_content(alloc, schema, top, made)
+    let change = Difference {
+        from,
+        to,
+        new_to: to,
+    };
+    checked_change(alloc, schema, top, content, made, change)
 }
 
 /// The steps that take the step back: one step where that gives the old marks, and else steps run by run.

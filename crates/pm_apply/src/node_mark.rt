@@ -21,8 +21,8 @@ use pm_build::parts_pair;
 use pm_change::Failed;
 use pm_marks::{Mark, MarkSet};
 use pm_meaning::Reason;
-use pm_node::{Document, Fragment, Node};
-use pm_replace::checked_content;
+use pm_node::{Difference, Document, Fragment, Node};
+use pm_replace::checked_change;
 use pm_schema::Schema;
 use pm_step::{Marking, NodeMarkStep, Step};
 use std::alloc::{AllocError, Global};
@@ -60,7 +60,12 @@ pub fn mark_node(
         &step.marking,
         Reach::Nodes,
     )?;
-    checked_content(alloc, schema, top, made)
+    let change = Difference {
+        from: pos,
+        to: pos + 1,
+        new_to: pos + 1,
+    };
+    checked_change(alloc, schema, top, content, made, change)
 }
 
 /// The steps that take the step back: one step where that gives the old marks, and else steps

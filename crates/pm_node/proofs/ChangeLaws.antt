@@ -179,7 +179,7 @@ module _ (s : Schema) (kind levels k : ℕ) (a : Attrs) (m : Marks) {xs ys : Lis
 
 -- ---- the change, told from the node's content on
 
-same-parts : {A : Type 0} (xs ys us vs : List A) → length xs ≡ length ys → xs ++ us ≡ ys ++ vs → (xs ≡ ys) × (us ≡ vs)
+pub same-parts : {A : Type 0} (xs ys us vs : List A) → length xs ≡ length ys → xs ++ us ≡ ys ++ vs → (xs ≡ ys) × (us ≡ vs)
 same-parts [] [] us vs l e = (refl, e)
 same-parts [] (y ∷ ys) us vs l e = absurd (omega (arith, l))
 same-parts (x ∷ xs) [] us vs l e = absurd (omega (arith, l))

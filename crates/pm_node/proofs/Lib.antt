@@ -15,3 +15,4 @@ pub mod ChangeLaws
 pub mod HoldLaws
 pub mod FillLaws
 pub mod FilledLaws
+pub mod TouchedLaws

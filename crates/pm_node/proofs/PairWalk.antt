@@ -33,7 +33,7 @@ last-closed r [] = refl
 last-closed r (t ∷ ts) = last-closed (unit_of t) ts
 
 -- no text goes on from a child into the children behind it
-parts-body : (k : ℕ) (a : Attrs) (m : Marks) (b : Body) (ts : List Token) → 0 < length (body_tokens k a m b) → (IsText b → EndsText m ts) → PartsTexts (last_unit None (body_tokens k a m b)) ts
+pub parts-body : (k : ℕ) (a : Attrs) (m : Marks) (b : Body) (ts : List Token) → 0 < length (body_tokens k a m b) → (IsText b → EndsText m ts) → PartsTexts (last_unit None (body_tokens k a m b)) ts
 parts-body k a m (Text us) ts p e = subst (λ r. PartsTexts r ts) (sym (last-text None m us p)) (e tt)
 parts-body k a m Childless ts p e = tt
 parts-body k a m (Children inner) ts p e = subst (λ r. PartsTexts r ts) (sym (last-closed None inner)) tt

@@ -38,7 +38,7 @@ module _ {Z : Type 0} (xs : List (Arc Node Z)) (f : ℕ) where
       omega (arith, ap (λ z. length (list_tokens z)) (part-at f i t xs h k), ap length (list_tokens-append (part f i xs) (part i t xs)), length-append (list_tokens (part f i xs)) (list_tokens (part i t xs)))
 
 -- a run of nodes in normal form is in normal form
-normal-front : {Z : Type 0} (n : ℕ) (xs : List (Arc Node Z)) → IsNormal xs → IsNormal (take n xs)
+pub normal-front : {Z : Type 0} (n : ℕ) (xs : List (Arc Node Z)) → IsNormal xs → IsNormal (take n xs)
 normal-front zero xs h = tt
 normal-front (suc n) [] h = tt
 normal-front (suc zero) (x ∷ xs) h = (h.0, tt, tt)

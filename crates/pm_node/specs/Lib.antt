@@ -10,3 +10,4 @@ pub mod Places
 pub mod Changes
 pub mod Filled
 pub mod Sizes
+pub mod Touching

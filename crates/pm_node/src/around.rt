@@ -4,12 +4,9 @@ ghost use Rattle.pm_schema.specs.Documents.{documents_of};
 ghost use Rattle.pm_node.specs.Trees.{node_tokens};
 ghost use Rattle.pm_node.specs.Changes.{Holds, Keeps, NodeKeeps, IsPlace, IsSameBehind};
 
-use crate::check::nodes_fault;
 use crate::children::Children;
-use crate::depth::nests_within;
 use crate::node::{Body, Fragment, Node};
-use crate::pairs::first_broken;
-use crate::rules::accepts;
+use crate::touched::content_stays;
 use pm_auto::TypeId;
 use pm_schema::Schema;
 use std::alloc::Global;
@@ -66,7 +63,10 @@ pub fn stays_valid_around(
                 levels,
             )
         }
-        None => content_holds(alloc, schema, kind, after, levels),
+        None => match content_stays(alloc, schema, kind, before, after, change, levels) {
+            Ok(stays) => stays,
+            Err(_) => false,
+        },
     }
 }
 
@@ -154,33 +154,4 @@ fn child_at(children: &Children<'_>, position: usize) -> Option<(usize, usize)>
 /// Whether the node holds nodes.
 fn is_inner(node: &Node) -> bool {
     matches!(node.body, Body::Children(_))
-}
-
-/// Whether content of a node of the type has no fault. Want of memory counts as a fault.
-fn content_holds(
-    alloc: Global,
-    schema: &Schema,
-    kind: TypeId,
-    content: &Fragment,
-    levels: usize,
-) -> bool
-    ensures { IsTrue result → Holds (documents_of schema.now.spec) kind levels content.now }
-{
-    let _ = content.size();
-    if kind >= schema.node_count() {
-        return false;
-    }
-    if !accepts(schema, kind, content) {
-        return false;
-    }
-    if !nests_within(content, levels) {
-        return false;
-    }
-    if let Some(_) = first_broken(content, 0) {
-        return false;
-    }
-    match nodes_fault(alloc, schema, kind, content, 0) {
-        Ok(()) => true,
-        Err(_) => false,
-    }
 }

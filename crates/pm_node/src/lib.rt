@@ -15,6 +15,8 @@ mod node;
 mod pairs;
 mod place;
 mod rules;
+mod touched;
+mod types;
 mod units;
 mod values;
 

@@ -56,14 +56,17 @@ pub put_around-requires : goal.put_around-requires
 put_around-requires c =
     let o = is-ordered (ends_of c.args.step.now) c.args.step.now.slice (length c.args.content.now) (sym c.are_ordered-ordered.ensures.ordered ∙ c.if-not-ordered.false) in
     record {
-      slice = c.are_ordered-ordered.ensures.slice;
-      before = o.before;
-      gap = o.gap;
-      behind = o.behind;
-      within = o.within;
-      insert = o.insert;
-      whole = sym c.in_ok-whole.ensures ∙ c.if-not-whole.false;
-      depths = sym c.sides_fit-fits.ensures ∙ c.if-not-fits.false;
+      valid = c.requires;
+      placed = record {
+        slice = c.are_ordered-ordered.ensures.slice;
+        before = o.before;
+        gap = o.gap;
+        behind = o.behind;
+        within = o.within;
+        insert = o.insert;
+        whole = sym c.in_ok-whole.ensures ∙ c.if-not-whole.false;
+        depths = sym c.sides_fit-fits.ensures ∙ c.if-not-fits.false;
+      };
     }
 
 pub returns : goal.returns
