@@ -16,7 +16,7 @@ use crate::target::Target;
 use crate::types::{first_type, types_before};
 use crate::wrapping::wrapping;
 use pm_auto::TypeId;
-use pm_node::{Fragment, MAX_SIZE};
+use pm_node::{Fragment, MAX_DEPTH, MAX_SIZE};
 use pm_resolve::Place;
 use pm_step::Step;
 use std::alloc::{AllocError, Global};
@@ -101,8 +101,9 @@ impl Target<'_> {
         }
     }
 
-    /// The step with the content in nodes of these types, of which there is at least one. None where there is none, or where
-    /// the content would alone be larger than a document.
+    /// The step with the content in nodes of these types, of which there is at least one. None where there is none, where they
+    /// are more than may stand around a position, or where the content would alone be larger than a document. So no more
+    /// nodes are nested than a document may have.
     fn try_nodes(
         &self,
         alloc: Global,
@@ -118,7 +119,7 @@ impl Target<'_> {
         if count == 0 {
             return Ok(None);
         }
-        if count > MAX_SIZE {
+        if count > MAX_DEPTH {
             return Ok(None);
         }
         if size + 2 * count > MAX_SIZE {

@@ -6,17 +6,17 @@ use Rattle.pm_step.specs.Steps.{step_of}
 use Rattle.pm_fit.specs.Wrappings.{in_nodes}
 use Rattle.pm_fit.specs.Fits.{sided, wrapped, step_with}
 use Rattle.pm_fit.proofs.HollowLaws.{length-in_nodes}
-use Rattle.pm_fit.proofs.LargeLaws.{large-none}
+use Rattle.pm_fit.proofs.LargeLaws.{large-none, deep-none}
 use Rattle.pm_fit.proofs.StepLaws.{wrapped-some}
 use Rattle.pm_fit.proofs.target.Target.try_nodes.Goals as goal
 
-pub returns-then-count-gt-MAX_SIZE : goal.returns-then-count-gt-MAX_SIZE
-returns-then-count-gt-MAX_SIZE c =
+pub returns-then-count-gt-MAX_DEPTH : goal.returns-then-count-gt-MAX_DEPTH
+returns-then-count-gt-MAX_DEPTH c =
     let r = c.args.self.now in
     let s = r.schema.now.spec in
-    let ts = in_nodes s c.args.kinds.now c.args.content.now in
-    let large : 500000 < length ts = omega (arith, length-in_nodes s c.args.kinds.now c.args.content.now, c.if-count-gt-MAX_SIZE.true) in
-    large-none (documents_of s) r.doc.now c.requires r.from r.to ts large ∙ ap (step_with (documents_of s) r.doc.now r.from r.to) (sym (wrapped-some s c.args.kinds.now c.args.content.now c.if-count-eq0.false))
+    let deep : 48 < length c.args.kinds.now = omega (arith, c.if-count-gt-MAX_DEPTH.true) in
+    deep-none s (documents_of s) r.doc.now c.requires r.from r.to c.args.kinds.now c.args.content.now deep
+    ∙ ap (step_with (documents_of s) r.doc.now r.from r.to) (sym (wrapped-some s c.args.kinds.now c.args.content.now c.if-count-eq0.false))
 
 pub returns-then-size-count-gt-MAX_SIZE : goal.returns-then-size-count-gt-MAX_SIZE
 returns-then-size-count-gt-MAX_SIZE c =
