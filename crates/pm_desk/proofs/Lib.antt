@@ -1,3 +1,4 @@
+pub mod Absent
 pub mod Calls
 pub mod Histories
 pub mod Looks

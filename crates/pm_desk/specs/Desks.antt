@@ -70,3 +70,12 @@ module _ {M R Q : Type 0} where
     pub joined : (k : ℕ) (x : Joined Q) → get_elem? s.joined k ≡ some x → StartsWith log x.seen × (calls_of x.number log ≡ calls_of x.number x.seen)
     pub seats : (k : ℕ) (e : Past Q) → get_elem? log k ≡ some e → (e.seat ≡ 0) ⊎ ((j : ℕ) × (x : Joined Q) × (get_elem? s.joined j ≡ some x) × (x.number ≡ e.seat))
     pub owned : Owned own log
+
+  -- The seat t stands where s stood before a call that got no reply, and that call is in no history: neither in the one at
+  -- whose end a later reply to t is given, nor in the whole one that a desk leaves, be t its first seat or joined to it. Each
+  -- has of the seat's calls those that s had seen, and no other.
+  pub record AddsNoCall {A : Type 0} (next : R → M → Q → M) (reply : R → M → Q → A) (good : R → M → Type 0) (own : ℕ → Q → Type 0) (opening : Opening M R) (s t : SeatValue M R Q) : Type 0 where
+    pub later : (q : Q) (r : A) (u : SeatValue M R Q) (told : Told next reply good own opening t q r u) → calls_of s.number told.before ≡ calls_of s.number s.seen
+    pub whole : (log : List (Past Q)) → s.number ≡ 0 → IsWhole own t log → calls_of s.number log ≡ calls_of s.number s.seen
+    pub joined : (first : SeatValue M R Q) (k : ℕ) (log : List (Past Q)) → get_elem? first.joined k ≡ some record { number = t.number; seen = t.seen } → IsWhole own first log
+        → calls_of s.number log ≡ calls_of s.number s.seen

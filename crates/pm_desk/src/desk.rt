@@ -1,7 +1,7 @@
 //! The desk and its seats.
 ghost use Rattle.std.specs.Prelude.{◌≡◌, ℕ, ◌+◌, ◌<◌, ◌^◌, length, [], Some, IfOk, IfErr};
 ghost use Rattle.pm_desk.specs.Histories.{state_at, calls_of, Gathers};
-ghost use Rattle.pm_desk.specs.Desks.{DeskValue, SeatValue, seat_value, IsSeatOf, first_seat, after_split, new_seat, after_join, Told, IsWhole};
+ghost use Rattle.pm_desk.specs.Desks.{DeskValue, SeatValue, seat_value, IsSeatOf, first_seat, after_split, new_seat, after_join, Told, IsWhole, AddsNoCall};
 ghost use Rattle.pm_desk.specs.Turns.{opened};
 
 use crate::history::{Back, Closed};
@@ -114,6 +114,8 @@ impl<M: Machine> Desk<M> {
         requires own { M.own seat.old.number request }
         ensures ok { IfOk result (λ r. Told M.next M.reply M.good M.own self.now.opening seat.old request r seat.new) }
         ensures err { IfErr result (λ b. (b.request ≡ request) × (seat.new ≡ seat.old)) }
+        // A call that got no reply stands in no history.
+        ensures absent { IfErr result (λ _. AddsNoCall M.next M.reply M.good M.own self.now.opening seat.old seat.new) }
     {
         self.inner.call(alloc, rt, &mut seat.inner, request)
     }

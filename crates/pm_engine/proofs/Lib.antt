@@ -1,2 +1,3 @@
 pub mod Crossing
-mod Exchanged
+mod Exchanging
+mod Names

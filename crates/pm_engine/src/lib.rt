@@ -42,7 +42,7 @@ pub use pm_resolve::{Place, PlaceError, resolve};
 // Steps, where positions go over them, and what they make of documents.
 pub use pm_apply::DocChange;
 pub use pm_change::{Change, Failed, MakeError, NoStep};
-pub use pm_map::{Mapping, Moved, Recover, StepMap};
+pub use pm_map::{Mapping, Moved, Recover, Side, StepMap};
 pub use pm_replace::{Reason, replace};
 pub use pm_step::{MarkStep, Marking, NodeMarkStep, ReplaceAroundStep, ReplaceStep, Step};
 
@@ -53,7 +53,7 @@ pub use pm_ops::Op;
 
 // Working together: the authority with its log, the clients, what they send and what is answered.
 pub use pm_authority::{Answer, Authority, Message, Name, Named, Refusal, Request, copy_steps};
-pub use pm_client::{Client, Cursor, CursorError, EditError, Kind, Taken, UndoError};
+pub use pm_client::{Client, Cursor, CursorError, EditError, MessageKind, Taken, UndoError};
 pub use pm_list::Listed;
 
 // The desk, at which threads share an authority.

@@ -1,17 +1,23 @@
 //! Calls of a client that stands to the log of an authority in the same program.
-ghost use Rattle.std.specs.Prelude.{◌≡◌, Ok, Some, None, IfOk, OnOk, OnErr};
+ghost use Rattle.std.specs.Prelude.{◌≡◌, ◌↔◌, [], Ok, Err, Some, None, IfOk, IfErr, OnErr, length};
 ghost use Rattle.pm_authority.specs.Kept.{IsKept};
-ghost use Rattle.pm_client.specs.Clients.{edited, undone_last};
+ghost use Rattle.pm_client.specs.Causes.{IsTaken};
+ghost use Rattle.pm_client.specs.Clients.{edited, undone_last, IsRefusal};
 ghost use Rattle.pm_client.specs.Kins.{Kin};
 ghost use Rattle.pm_client.specs.declared.client.Client.{Client};
+ghost use Rattle.pm_client.specs.declared.failing.UndoError.TheVariants.{NothingToUndo};
+ghost use Rattle.pm_client.specs.declared.taken.Taken.{Taken};
+ghost use Rattle.pm_client.specs.declared.taken.Taken.TheVariants.{Refused};
+ghost use Rattle.pm_engine.specs.Exchanges.{answered, keeper, Exchanged, LeftExchanging, SubmitsOld};
 
 use pm_authority::Authority;
 use pm_change::Change;
-use pm_client::{Client, EditError, Kind, Taken, UndoError};
+use pm_client::{Client, EditError, MessageKind, Taken, UndoError};
 use std::alloc::{AllocError, Global};
 
 /// Makes these steps on the client's document, as `Client::edit` does, in an event of their own. The client must stand to
-/// the authority's log, and goes on standing to it. `Refused` comes exactly where one of the steps does not apply.
+/// the authority's log, and goes on standing to it. It tells the number of steps. `Refused` comes exactly where one of the
+/// steps does not apply, and names the first. Then, and for want of memory, the client is as it was.
 pub fn edit<C: Change>(
     alloc: Global,
     rules: &C::Rules,
@@ -20,7 +26,9 @@ pub fn edit<C: Change>(
     steps: Vec<C>,
 ) -> Result<u64, EditError<C::Reason>>
     requires { Kin C.means rules.now authority.now.first authority.now.log client.old }
+    ensures count { IfOk result (λ n. n ≡ length steps.items) }
     ensures made { IfOk result (λ n. edited C.means rules.now client.old steps.items None ≡ Ok client.new) }
+    ensures refused { IfErr result (IsRefusal C.means rules.now (edited C.means rules.now client.old steps.items None)) }
     ensures err { OnErr result (client.new ≡ client.old) }
     ensures stands { Kin C.means rules.now authority.now.first authority.now.log client.new }
     ensures name { client.new.name ≡ client.old.name }
@@ -30,7 +38,8 @@ pub fn edit<C: Change>(
 }
 
 /// Undoes the client's last event, as `Client::undo` does, and tells by how many steps. The client must stand to the
-/// authority's log, and goes on standing to it.
+/// authority's log, and goes on standing to it. `NothingToUndo` comes exactly where there is no event to undo. Then, and for
+/// want of memory, the client is as it was.
 pub fn undo<C: Change>(
     alloc: Global,
     rules: &C::Rules,
@@ -39,6 +48,7 @@ pub fn undo<C: Change>(
 ) -> Result<u64, UndoError>
     requires { Kin C.means rules.now authority.now.first authority.now.log client.old }
     ensures undone { IfOk result (λ n. undone_last C.means rules.now client.old ≡ Some (n, client.new)) }
+    ensures nothing { (result ≡ Err NothingToUndo) ↔ (client.old.history.undo ≡ []) }
     ensures err { OnErr result (client.new ≡ client.old) }
     ensures stands { Kin C.means rules.now authority.now.first authority.now.log client.new }
     ensures name { client.new.name ≡ client.old.name }
@@ -50,22 +60,29 @@ pub fn undo<C: Change>(
 
 /// One exchange: the client composes a message of this kind, the authority answers it, and the client keeps the answer and
 /// takes it. The client must stand to the authority's log. It goes on standing to it, and so does each client of another
-/// name. A submission at an old version is `Refused`: ask, and submit again. Want of memory leaves the first of these parts
-/// done and the others not.
+/// name, whatever comes. `Refused` is told exactly of a submission at a version that is not the log's length: ask, and submit
+/// again. What else is told is as `Client::take` tells it of the authority's answer. Want of memory leaves the first of these
+/// parts done and the others not.
 pub fn exchange<C: Change>(
     alloc: Global,
     rules: &C::Rules,
     authority: &mut Authority<C>,
     client: &mut Client<C>,
-    kind: Kind,
+    kind: MessageKind,
 ) -> Result<Taken, AllocError>
     requires kept { IsKept C.means rules.now authority.old }
     requires stands { Kin C.means rules.now authority.old.first authority.old.log client.old }
-    ensures kept { OnOk result (IsKept C.means rules.now authority.new) }
-    ensures stands { OnOk result (Kin C.means rules.now authority.new.first authority.new.log client.new) }
-    ensures others { OnOk result ((d : Client C C.Rules C.Doc C.Reason) → (client.old.name ≡ d.name → ⊥)
-        → Kin C.means rules.now authority.old.first authority.old.log d → Kin C.means rules.now authority.new.first authority.new.log d) }
-    ensures name { OnOk result (client.new.name ≡ client.old.name) }
+    ensures exchanged { IfOk result (λ told. Exchanged C.means rules.now authority.old client.old kind told authority.new client.new) }
+    ensures left { OnErr result (LeftExchanging C.means rules.now authority.old client.old kind authority.new client.new) }
+    // Of the authority's answer, each thing is told exactly where its cause holds.
+    ensures causes { (t : Taken) → IfOk result (λ told. (told ≡ t)
+        ↔ IsTaken C.means rules.now (keeper C.means rules.now authority.old client.old kind) (answered C.means rules.now authority.old client.old kind).0 t) }
+    ensures refused { IfOk result (λ told. (told ≡ Refused) ↔ SubmitsOld authority.old client.old kind) }
+    ensures kept { IsKept C.means rules.now authority.new }
+    ensures stands { Kin C.means rules.now authority.new.first authority.new.log client.new }
+    ensures others { (d : Client C C.Rules C.Doc C.Reason) → (client.old.name ≡ d.name → ⊥)
+        → Kin C.means rules.now authority.old.first authority.old.log d → Kin C.means rules.now authority.new.first authority.new.log d }
+    ensures name { client.new.name ≡ client.old.name }
 {
     let number = client.compose(alloc, kind)?;
     let answer = authority.present(alloc, rules, client.name(), client.message_at(number))?;

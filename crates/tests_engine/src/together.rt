@@ -5,7 +5,9 @@ ghost use Rattle.pm_engine.specs.Words.{Valid, documents_of, meaning, IsKept, Ki
 use crate::applying::{BEFORE, SCHEMA, document_of, insertion, schema_of};
 use anyhow::{Result, ensure};
 use pm_engine::standing::{edit, exchange, undo};
-use pm_engine::{Authority, Client, DocChange, Document, Kind, Schema, Taken, document_text};
+use pm_engine::{
+    Authority, Client, DocChange, Document, MessageKind, Schema, Taken, document_text,
+};
 use std::alloc::Global;
 
 /// The client puts a letter in, which is pending then.
@@ -43,23 +45,23 @@ fn work(
 {
     type_letter(alloc, schema, authority, ann, 1, 'A')?;
     type_letter(alloc, schema, authority, bob, 3, 'B')?;
-    let taken = exchange(alloc, schema, authority, ann, Kind::Submit)?;
+    let taken = exchange(alloc, schema, authority, ann, MessageKind::Submit)?;
     ensure!(taken == Taken::Confirmed { own: 1 }, "Ann comes first");
-    let taken = exchange(alloc, schema, authority, bob, Kind::Submit)?;
+    let taken = exchange(alloc, schema, authority, bob, MessageKind::Submit)?;
     ensure!(taken == Taken::Refused, "Bob's version is old");
-    let taken = exchange(alloc, schema, authority, bob, Kind::Ask)?;
+    let taken = exchange(alloc, schema, authority, bob, MessageKind::Ask)?;
     let rebased = Taken::Rebased {
         own: 0,
         foreign: 1,
         dropped: 0,
     };
     ensure!(taken == rebased, "Bob's step is carried over Ann's");
-    let taken = exchange(alloc, schema, authority, bob, Kind::Submit)?;
+    let taken = exchange(alloc, schema, authority, bob, MessageKind::Submit)?;
     ensure!(
         taken == Taken::Confirmed { own: 1 },
         "Bob's step is in the log"
     );
-    let taken = exchange(alloc, schema, authority, ann, Kind::Ask)?;
+    let taken = exchange(alloc, schema, authority, ann, MessageKind::Ask)?;
     ensure!(taken == rebased, "Ann has Bob's step");
     ensure!(
         undo(alloc, schema, authority, ann)? == 1,

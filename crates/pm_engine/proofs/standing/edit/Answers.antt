@@ -1,6 +1,6 @@
 use Rattle.std.specs.Prelude.{None}
 use Rattle.pm_client.proofs.Keeps.{doc-good}
-use Rattle.pm_engine.proofs.Exchanged.{edit-name}
+use Rattle.pm_engine.proofs.Names.{edit-name}
 use Rattle.pm_engine.proofs.standing.edit.Goals as goal
 
 pub edit-requires-clause-good : goal.edit-requires-clause-good

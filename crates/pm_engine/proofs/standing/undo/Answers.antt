@@ -1,5 +1,5 @@
 use Rattle.std.proofs.Common.{rules}
-use Rattle.pm_engine.proofs.Exchanged.{undo-name}
+use Rattle.pm_engine.proofs.Names.{undo-name}
 use Rattle.pm_engine.proofs.standing.undo.Goals as goal
 
 pub undo-requires : goal.undo-requires
