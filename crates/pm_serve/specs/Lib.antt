@@ -1,0 +1,4 @@
+pub mod Bytes
+pub mod Reads
+pub mod Lines
+pub mod Serves

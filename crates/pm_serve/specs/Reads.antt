@@ -1,0 +1,62 @@
+-- How a line is read.
+use Rattle.std.specs.Prelude.{◌≡◌, ◌≢◌, ◌⊎◌, ℕ, false, List, [], ◌∷◌, ◌++◌, take, Option}
+use Rattle.std.specs.Io.KnownBytes.{Consumes, IsAtEnd}
+use Rattle.pm_io.specs.Faults.{Rose}
+use Rattle.pm_serve.specs.declared.unread.TheConstants.{KEPT}
+use Rattle.pm_serve.specs.declared.lines.Came.{Came}
+use Rattle.pm_serve.specs.declared.lines.Came.TheVariants.{Line, Last, End, Failed, Spent}
+use Rattle.pm_serve.specs.Bytes.{has_lf}
+
+-- Bytes were taken from the source only while those that were there had no LF: if any came, then all but those of the last read
+-- had none, with what was there before.
+abbrev pub InTime : List ℕ → List ℕ → Type 0
+InTime before taken = (taken ≡ []) ⊎ ((front : List ℕ) × (last : List ℕ) × (taken ≡ front ++ last) × (has_lf (before ++ front) ≡ false))
+
+-- A whole line came: what was there and what was taken is the line, its LF, and what is there now. At most KEPT bytes of the line
+-- are kept.
+pub record LineCame (left rest : Option (List ℕ)) (before after line : List ℕ) : Type 0 where
+  pub taken : List ℕ
+  pub whole : List ℕ
+  pub took : Consumes left rest taken
+  pub split : before ++ taken ≡ whole ++ 10 ∷ after
+  pub one : has_lf whole ≡ false
+  pub kept : line ≡ take KEPT whole
+  pub in_time : InTime before taken
+
+-- the input ended behind these bytes, in which there is no LF
+pub record EndCame (left rest : Option (List ℕ)) (before after line : List ℕ) : Type 0 where
+  pub taken : List ℕ
+  pub whole : List ℕ
+  pub took : Consumes left rest taken
+  pub split : before ++ taken ≡ whole
+  pub one : has_lf whole ≡ false
+  pub kept : line ≡ take KEPT whole
+  pub over : IsAtEnd rest
+  pub none_left : after ≡ []
+
+-- bytes were taken, and no line came
+pub record PartCame (left rest : Option (List ℕ)) (before : List ℕ) : Type 0 where
+  pub taken : List ℕ
+  pub took : Consumes left rest taken
+
+abbrev pub Reads : Came → Option (List ℕ) → Option (List ℕ) → List ℕ → List ℕ → List ℕ → Type 0
+Reads Line left rest before after line = LineCame left rest before after line
+Reads Last left rest before after line = EndCame left rest before after line × (line ≢ [])
+Reads End left rest before after line = EndCame left rest before after line × (line ≡ [])
+Reads Failed left rest before after line = PartCame left rest before
+Reads Spent left rest before after line = PartCame left rest before
+
+abbrev pub ReadFaults : Came → ℕ → ℕ → Type 0
+ReadFaults Line old new = new ≡ old
+ReadFaults Last old new = new ≡ old
+ReadFaults End old new = new ≡ old
+ReadFaults Failed old new = Rose old new
+ReadFaults Spent old new = new ≡ old
+
+-- at the end of input: whether there is a last line
+abbrev pub IsLast : Came → List ℕ → Type 0
+IsLast Line line = ⊥
+IsLast Last line = line ≢ []
+IsLast End line = line ≡ []
+IsLast Failed line = ⊥
+IsLast Spent line = ⊥

@@ -1,0 +1,12 @@
+//! Serving lines: a line in, its answer out, and no byte past a line is asked for before its answer was written.
+#![tactic(auto)]
+
+mod lines;
+mod service;
+mod serving;
+mod unread;
+
+pub use lines::{Came, next_line};
+pub use service::{Reply, Service};
+pub use serving::{Served, serve};
+pub use unread::{KEPT, Kept, Unread};
