@@ -10,8 +10,8 @@ use Rattle.pm_client.specs.declared.taken.Taken.{Taken}
 use Rattle.pm_client.specs.declared.taken.Taken.TheVariants.{Confirmed, Rebased, Stale, Refused as TakenRefused}
 use Rattle.pm_ops.specs.declared.op.Op.{Op}
 use Rattle.pm_session.specs.declared.line.Line.{Line}
-use Rattle.pm_session.specs.declared.outcome.Told.{Told}
-use Rattle.pm_session.specs.declared.outcome.Told.TheVariants.{Accepted, Version, Refused as ToldRefused, Entries}
+use Rattle.pm_session.specs.declared.outcome.AnswerSummary.{AnswerSummary}
+use Rattle.pm_session.specs.declared.outcome.AnswerSummary.TheVariants.{Accepted, Version, Refused as ToldRefused, Entries}
 use Rattle.pm_session.specs.declared.outcome.Outcome.{Outcome}
 use Rattle.pm_session.specs.declared.outcome.Outcome.TheVariants.{Made, Nothing, NoStep, Refused, CursorAt, Composed, Answered, Took, Exchanged}
 use Rattle.pm_report.specs.Words.{◌&◌, line}
@@ -36,7 +36,7 @@ reason_text reason.NotInSchema = codes "12"
 abbrev pub refused_text : ℕ → Reason → List ℕ
 refused_text index reason = codes "refused" & decimal index & reason_text reason
 
-abbrev pub told_text : Told Step Schema Doc Reason → List ℕ
+abbrev pub told_text : AnswerSummary Step Schema Doc Reason → List ℕ
 told_text (Accepted from count) = codes "accepted" & decimal from & decimal count
 told_text (Version n) = codes "version" & decimal n
 told_text (ToldRefused index reason) = refused_text index reason

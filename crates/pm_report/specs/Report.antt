@@ -39,6 +39,10 @@ abbrev pub settled_member : List ℕ → Member Step Schema Doc Reason → List 
 settled_member name (Editor c) = settled_line name c
 settled_member name (Raw number serial) = []
 
+-- what an editor's line says before its document
+abbrev pub standing_words : List ℕ → Client Step Schema Doc Reason → List ℕ
+standing_words name c = codes "client" & name & decimal c.version & list_text (map serial_of c.pending) & list_text c.dropped & list_text (map place_of c.cursors)
+
 abbrev pub settled_lines : List ClientEntry → ℕ → List (Member Step Schema Doc Reason) → List ℕ
 settled_lines entries i [] = []
 settled_lines entries i (m ∷ members) = settled_member (name_at entries i) m ++ settled_lines entries (i + 1) members
@@ -52,7 +56,7 @@ module _ (s : SchemaSpec) where
 
   -- name, version, pending serials, dropped serials, cursors' positions and document
   abbrev pub client_line : List ℕ → Client Step Schema Doc Reason → List ℕ
-  client_line name c = line (codes "client" & name & decimal c.version & list_text (map serial_of c.pending) & list_text c.dropped & list_text (map place_of c.cursors) & doc_text c.doc)
+  client_line name c = line (standing_words name c & doc_text c.doc)
 
   -- an editor's line; a raw client has none
   abbrev pub member_line : List ℕ → Member Step Schema Doc Reason → List ℕ

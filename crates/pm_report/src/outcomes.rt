@@ -8,7 +8,7 @@ use pm_change::NoStep;
 use pm_client::Taken;
 use pm_meaning::Reason;
 use pm_ops::Op;
-use pm_session::{Line, Outcome, Told};
+use pm_session::{AnswerSummary, Line, Outcome};
 use std::alloc::{AllocError, Global};
 
 /// What became of a line, with the number of the line in its file, from 1.
@@ -41,128 +41,113 @@ pub fn with_numbers(
 }
 
 /// Puts the number of each outcome's line and what it says behind the text.
-pub(crate) fn push_outcomes(
-    alloc: Global,
-    text: &mut String,
-    outcomes: &[Numbered],
-) -> Result<(), AllocError>
+pub(crate) fn push_outcomes(text: &mut String, outcomes: &[Numbered]) -> Result<(), AllocError>
     ensures { OnOk result (string_bytes text.new ≡ string_bytes text.old ++ outcome_lines outcomes.now) }
 {
     for outcome in outcomes {
-        text.push_str(outcome_line(alloc, outcome)?.as_str())?;
+        push_numbered(text, outcome)?;
     }
     Ok(())
 }
 
-fn outcome_line(alloc: Global, of: &Numbered) -> Result<String, AllocError>
-    ensures { IfOk result (λ s. string_bytes s ≡ line (decimal of.now.number & outcome_text of.now.outcome)) }
+fn push_numbered(text: &mut String, of: &Numbered) -> Result<(), AllocError>
+    ensures { OnOk result (string_bytes text.new ≡ string_bytes text.old ++ line (decimal of.now.number & outcome_text of.now.outcome)) }
 {
-    let outcome = outcome_text(alloc, &of.outcome)?;
-    outcome_words(alloc, of.number, outcome.as_str())
-}
-
-fn outcome_words(alloc: Global, number: u32, outcome: &str) -> Result<String, AllocError>
-    ensures { IfOk result (λ s. string_bytes s ≡ line (decimal number & outcome.now)) }
-{
-    format!(in alloc; "{number} {outcome}\n")
+    write!(text, "{} ", of.number)?;
+    push_outcome(text, &of.outcome)?;
+    text.push_str("\n")
 }
 
 /// What became of a line.
-fn outcome_text(alloc: Global, outcome: &Outcome<DocChange>) -> Result<String, AllocError>
-    ensures { IfOk result (λ s. string_bytes s ≡ outcome_text outcome.now) }
+fn push_outcome(text: &mut String, outcome: &Outcome<DocChange>) -> Result<(), AllocError>
+    ensures { OnOk result (string_bytes text.new ≡ string_bytes text.old ++ outcome_text outcome.now) }
 {
     match outcome {
-        Outcome::Made { count } => format!(in alloc; "made {count}"),
-        Outcome::Nothing => String::from_str(alloc, "nothing"),
-        Outcome::NoStep(NoStep::Range) => String::from_str(alloc, "no range"),
-        Outcome::NoStep(NoStep::NotThere) => String::from_str(alloc, "no place"),
-        Outcome::NoStep(NoStep::NoFit) => String::from_str(alloc, "no fit"),
-        Outcome::Refused { index, reason } => refused_text(alloc, *index, reason),
-        Outcome::CursorAt { pos } => format!(in alloc; "cursor {pos}"),
-        Outcome::Composed { number } => format!(in alloc; "composed {number}"),
-        Outcome::Answered { told } => told_text(alloc, told),
-        Outcome::Took { taken } => taken_text(alloc, *taken),
-        Outcome::Exchanged { told, taken } => exchanged_text(alloc, told, *taken),
+        Outcome::Made { count } => write!(text, "made {count}"),
+        Outcome::Nothing => text.push_str("nothing"),
+        Outcome::NoStep(NoStep::Range) => text.push_str("no range"),
+        Outcome::NoStep(NoStep::NotThere) => text.push_str("no place"),
+        Outcome::NoStep(NoStep::NoFit) => text.push_str("no fit"),
+        Outcome::Refused { index, reason } => push_refused(text, *index, reason),
+        Outcome::CursorAt { pos } => write!(text, "cursor {pos}"),
+        Outcome::Composed { number } => write!(text, "composed {number}"),
+        Outcome::Answered { told } => push_told(text, told),
+        Outcome::Took { taken } => push_taken(text, *taken),
+        Outcome::Exchanged { told, taken } => push_exchanged(text, told, *taken),
     }
 }
 
-fn exchanged_text(
-    alloc: Global,
-    told: &Told<DocChange>,
+fn push_exchanged(
+    text: &mut String,
+    told: &AnswerSummary<DocChange>,
     taken: Option<Taken>,
-) -> Result<String, AllocError>
-    ensures { IfOk result (λ s. string_bytes s ≡ told_text told.now ++ codes ";" & end_text taken) }
+) -> Result<(), AllocError>
+    ensures { OnOk result (string_bytes text.new ≡ string_bytes text.old ++ (told_text told.now ++ codes ";" & end_text taken)) }
 {
-    let told = told_text(alloc, told)?;
-    let end = end_text(alloc, taken)?;
-    exchanged_words(alloc, told.as_str(), end.as_str())
+    push_told(text, told)?;
+    text.push_str("; ")?;
+    push_end(text, taken)
 }
 
-fn exchanged_words(alloc: Global, told: &str, taken: &str) -> Result<String, AllocError>
-    ensures { IfOk result (λ s. string_bytes s ≡ told.now ++ codes ";" & taken.now) }
-{
-    format!(in alloc; "{told}; {taken}")
-}
-
-fn told_text(alloc: Global, told: &Told<DocChange>) -> Result<String, AllocError>
-    ensures { IfOk result (λ s. string_bytes s ≡ told_text told.now) }
+fn push_told(text: &mut String, told: &AnswerSummary<DocChange>) -> Result<(), AllocError>
+    ensures { OnOk result (string_bytes text.new ≡ string_bytes text.old ++ told_text told.now) }
 {
     match told {
-        Told::Accepted { from, count } => format!(in alloc; "accepted {from} {count}"),
-        Told::Version { length } => format!(in alloc; "version {length}"),
-        Told::Refused { index, reason } => refused_text(alloc, *index, reason),
-        Told::Entries { since, count } => format!(in alloc; "entries {since} {count}"),
+        AnswerSummary::Accepted { from, count } => write!(text, "accepted {from} {count}"),
+        AnswerSummary::Version { length } => write!(text, "version {length}"),
+        AnswerSummary::Refused { index, reason } => push_refused(text, *index, reason),
+        AnswerSummary::Entries { since, count } => write!(text, "entries {since} {count}"),
     }
 }
 
 /// What became of an exchange's answer.
-fn end_text(alloc: Global, taken: Option<Taken>) -> Result<String, AllocError>
-    ensures { IfOk result (λ s. string_bytes s ≡ end_text taken) }
+fn push_end(text: &mut String, taken: Option<Taken>) -> Result<(), AllocError>
+    ensures { OnOk result (string_bytes text.new ≡ string_bytes text.old ++ end_text taken) }
 {
     match taken {
-        None => String::from_str(alloc, "lost"),
-        Some(taken) => taken_text(alloc, taken),
+        None => text.push_str("lost"),
+        Some(taken) => push_taken(text, taken),
     }
 }
 
-fn taken_text(alloc: Global, taken: Taken) -> Result<String, AllocError>
-    ensures { IfOk result (λ s. string_bytes s ≡ taken_text taken) }
+fn push_taken(text: &mut String, taken: Taken) -> Result<(), AllocError>
+    ensures { OnOk result (string_bytes text.new ≡ string_bytes text.old ++ taken_text taken) }
 {
     match taken {
-        Taken::Confirmed { own } => format!(in alloc; "confirmed {own}"),
+        Taken::Confirmed { own } => write!(text, "confirmed {own}"),
         Taken::Rebased {
             own,
             foreign,
             dropped,
-        } => format!(in alloc; "rebased {own} {foreign} {dropped}"),
-        Taken::Stale => String::from_str(alloc, "stale"),
-        Taken::Refused => String::from_str(alloc, "kept"),
+        } => write!(text, "rebased {own} {foreign} {dropped}"),
+        Taken::Stale => text.push_str("stale"),
+        Taken::Refused => text.push_str("kept"),
     }
 }
 
-fn refused_text(alloc: Global, index: u64, reason: &Reason) -> Result<String, AllocError>
-    ensures { IfOk result (λ s. string_bytes s ≡ refused_text index reason.now) }
+fn push_refused(text: &mut String, index: u64, reason: &Reason) -> Result<(), AllocError>
+    ensures { OnOk result (string_bytes text.new ≡ string_bytes text.old ++ refused_text index reason.now) }
 {
-    let reason = reason_text(alloc, reason)?;
-    format!(in alloc; "refused {index} {reason}")
+    write!(text, "refused {index} ")?;
+    push_reason(text, reason)
 }
 
 /// The number of a reason, and the place of a fault.
-fn reason_text(alloc: Global, reason: &Reason) -> Result<String, AllocError>
-    ensures { IfOk result (λ s. string_bytes s ≡ reason_text reason.now) }
+fn push_reason(text: &mut String, reason: &Reason) -> Result<(), AllocError>
+    ensures { OnOk result (string_bytes text.new ≡ string_bytes text.old ++ reason_text reason.now) }
 {
     match reason {
-        Reason::Range => String::from_str(alloc, "1"),
-        Reason::Structure => String::from_str(alloc, "2"),
-        Reason::Gap => String::from_str(alloc, "3"),
-        Reason::Depth => String::from_str(alloc, "4"),
-        Reason::Pair => String::from_str(alloc, "5"),
-        Reason::Join => String::from_str(alloc, "6"),
-        Reason::Large => String::from_str(alloc, "7"),
-        Reason::Deep => String::from_str(alloc, "8"),
-        Reason::Content { at } => format!(in alloc; "9 {at}"),
-        Reason::NoNode => String::from_str(alloc, "10"),
-        Reason::NoAttribute => String::from_str(alloc, "11"),
-        Reason::NotInSchema => String::from_str(alloc, "12"),
+        Reason::Range => text.push_str("1"),
+        Reason::Structure => text.push_str("2"),
+        Reason::Gap => text.push_str("3"),
+        Reason::Depth => text.push_str("4"),
+        Reason::Pair => text.push_str("5"),
+        Reason::Join => text.push_str("6"),
+        Reason::Large => text.push_str("7"),
+        Reason::Deep => text.push_str("8"),
+        Reason::Content { at } => write!(text, "9 {at}"),
+        Reason::NoNode => text.push_str("10"),
+        Reason::NoAttribute => text.push_str("11"),
+        Reason::NotInSchema => text.push_str("12"),
     }
 }

@@ -1,12 +1,12 @@
 //! How the editors stand. A raw client has no line.
-ghost use Rattle.std.specs.Prelude.{◌≡◌, ◌++◌, map, codes, decimal, IfOk, OnOk, string_bytes};
-ghost use Rattle.pm_report.specs.Words.{◌&◌, line};
-ghost use Rattle.pm_report.specs.Report.{name_at, client_line, member_line, client_lines, settled_line, settled_member, settled_lines};
+ghost use Rattle.std.specs.Prelude.{◌≡◌, ◌++◌, codes, decimal, IfOk, OnOk, string_bytes};
+ghost use Rattle.pm_report.specs.Words.{◌&◌};
+ghost use Rattle.pm_report.specs.Report.{name_at, doc_text, standing_words, client_line, member_line, client_lines, settled_line, settled_member, settled_lines};
 
-use crate::written::{cursors_text, numbers_text, serials_text};
+use crate::written::{push_cursors, push_numbers, push_serials};
 use pm_apply::DocChange;
 use pm_client::Client;
-use pm_docjson::document_text;
+use pm_doctext::push_document;
 use pm_head::ClientEntry;
 use pm_schema::Schema;
 use pm_session::Member;
@@ -23,7 +23,7 @@ pub fn client_lines(
 {
     let mut text = String::new(alloc);
     for (i, member) in members.iter().enumerate() {
-        text.push_str(member_line(alloc, schema, name_at(entries, i), member)?.as_str())?;
+        push_member(alloc, schema, &mut text, name_at(entries, i), member)?;
     }
     Ok(text)
 }
@@ -38,58 +38,68 @@ pub(crate) fn name_at(entries: &[ClientEntry], i: usize) -> &str
     }
 }
 
-fn member_line(
+fn push_member(
     alloc: Global,
     schema: &Schema,
+    text: &mut String,
     name: &str,
     member: &Member<DocChange>,
-) -> Result<String, AllocError>
-    ensures { IfOk result (λ s. string_bytes s ≡ member_line schema.now.spec name.now member.now) }
+) -> Result<(), AllocError>
+    ensures { OnOk result (string_bytes text.new ≡ string_bytes text.old ++ member_line schema.now.spec name.now member.now) }
 {
     match member {
-        Member::Editor(client) => client_line(alloc, schema, name, client),
-        Member::Raw { name: _, serial: _ } => Ok(String::new(alloc)),
+        Member::Editor(client) => push_client(alloc, schema, text, name, client),
+        Member::Raw { name: _, serial: _ } => Ok(()),
     }
 }
 
-fn client_line(
+fn push_client(
     alloc: Global,
     schema: &Schema,
+    text: &mut String,
     name: &str,
     client: &Client<DocChange>,
-) -> Result<String, AllocError>
-    ensures { IfOk result (λ s. string_bytes s ≡ client_line schema.now.spec name.now client.now) }
+) -> Result<(), AllocError>
+    ensures { OnOk result (string_bytes text.new ≡ string_bytes text.old ++ client_line schema.now.spec name.now client.now) }
 {
-    let pending = serials_text(alloc, client.pending())?;
-    let dropped = numbers_text(alloc, client.dropped())?;
-    let cursors = cursors_text(alloc, client.cursors())?;
-    let doc = document_text(alloc, schema, client.doc())?;
-    let head = client_head(alloc, name, client.version(), pending.as_str())?;
-    client_words(
-        alloc,
-        head.as_str(),
-        dropped.as_str(),
-        cursors.as_str(),
-        doc.as_str(),
-    )
+    push_standing(alloc, text, name, client)?;
+    push_client_document(alloc, schema, text, client)
 }
 
-fn client_head(alloc: Global, name: &str, version: u64, pending: &str) -> Result<String, AllocError>
-    ensures { IfOk result (λ s. string_bytes s ≡ codes "client" & name.now & decimal version & pending.now) }
-{
-    format!(in alloc; "client {name} {version} {pending}")
-}
-
-fn client_words(
+/// An editor's document, with a blank before it, and the end of the line.
+fn push_client_document(
     alloc: Global,
-    head: &str,
-    dropped: &str,
-    cursors: &str,
-    doc: &str,
-) -> Result<String, AllocError>
-    ensures { IfOk result (λ s. string_bytes s ≡ line (head.now & dropped.now & cursors.now & doc.now)) }
+    schema: &Schema,
+    text: &mut String,
+    client: &Client<DocChange>,
+) -> Result<(), AllocError>
+    ensures { OnOk result (string_bytes text.new ≡ string_bytes text.old ++ (codes " " ++ (doc_text schema.now.spec client.now.doc ++ codes "\n"))) }
 {
-    format!(in alloc; "{head} {dropped} {cursors} {doc}\n")
+    text.push_str(" ")?;
+    push_document(alloc, schema, text, client.doc())?;
+    text.push_str("\n")
+}
+
+/// An editor's line up to its document.
+fn push_standing(
+    alloc: Global,
+    text: &mut String,
+    name: &str,
+    client: &Client<DocChange>,
+) -> Result<(), AllocError>
+    ensures { OnOk result (string_bytes text.new ≡ string_bytes text.old ++ standing_words name.now client.now) }
+{
+    push_head(text, "client", name, client.version())?;
+    push_serials(alloc, text, client.pending())?;
+    push_numbers(text, client.dropped())?;
+    push_cursors(alloc, text, client.cursors())
+}
+
+/// The word that a line begins with, the client's name and its version.
+fn push_head(text: &mut String, word: &str, name: &str, version: u64) -> Result<(), AllocError>
+    ensures { OnOk result (string_bytes text.new ≡ string_bytes text.old ++ (word.now & name.now & decimal version)) }
+{
+    write!(text, "{word} {name} {version}")
 }
 
 /// Puts a line for each editor behind the text: its name, version, dropped serials and cursors' positions.
@@ -102,46 +112,35 @@ pub(crate) fn push_settled(
     ensures { OnOk result (string_bytes text.new ≡ string_bytes text.old ++ settled_lines entries.now 0 members.now) }
 {
     for (i, member) in members.iter().enumerate() {
-        text.push_str(settled_member(alloc, name_at(entries, i), member)?.as_str())?;
+        push_settled_member(alloc, text, name_at(entries, i), member)?;
     }
     Ok(())
 }
 
-fn settled_member(
+fn push_settled_member(
     alloc: Global,
+    text: &mut String,
     name: &str,
     member: &Member<DocChange>,
-) -> Result<String, AllocError>
-    ensures { IfOk result (λ s. string_bytes s ≡ settled_member name.now member.now) }
+) -> Result<(), AllocError>
+    ensures { OnOk result (string_bytes text.new ≡ string_bytes text.old ++ settled_member name.now member.now) }
 {
     match member {
-        Member::Editor(client) => settled_line(alloc, name, client),
-        Member::Raw { name: _, serial: _ } => Ok(String::new(alloc)),
+        Member::Editor(client) => push_settled_client(alloc, text, name, client),
+        Member::Raw { name: _, serial: _ } => Ok(()),
     }
 }
 
-fn settled_line(alloc: Global, name: &str, client: &Client<DocChange>) -> Result<String, AllocError>
-    ensures { IfOk result (λ s. string_bytes s ≡ settled_line name.now client.now) }
-{
-    let dropped = numbers_text(alloc, client.dropped())?;
-    let cursors = cursors_text(alloc, client.cursors())?;
-    settled_words(
-        alloc,
-        name,
-        client.version(),
-        dropped.as_str(),
-        cursors.as_str(),
-    )
-}
-
-fn settled_words(
+fn push_settled_client(
     alloc: Global,
+    text: &mut String,
     name: &str,
-    version: u64,
-    dropped: &str,
-    cursors: &str,
-) -> Result<String, AllocError>
-    ensures { IfOk result (λ s. string_bytes s ≡ line (codes "settled" & name.now & decimal version & dropped.now & cursors.now)) }
+    client: &Client<DocChange>,
+) -> Result<(), AllocError>
+    ensures { OnOk result (string_bytes text.new ≡ string_bytes text.old ++ settled_line name.now client.now) }
 {
-    format!(in alloc; "settled {name} {version} {dropped} {cursors}\n")
+    push_head(text, "settled", name, client.version())?;
+    push_numbers(text, client.dropped())?;
+    push_cursors(alloc, text, client.cursors())?;
+    text.push_str("\n")
 }

@@ -8,7 +8,7 @@ use crate::outcomes::{Numbered, push_outcomes};
 use crate::standing::{name_at, push_settled};
 use pm_apply::DocChange;
 use pm_authority::Named;
-use pm_docjson::document_text;
+use pm_doctext::push_document;
 use pm_head::ClientEntry;
 use pm_node::Document;
 use pm_schema::Schema;
@@ -34,11 +34,11 @@ pub fn report(
         ++ line (codes "final" & doc_text schema.now.spec settled.now.authority.doc)) }
 {
     let mut text = String::new(alloc);
-    push_outcomes(alloc, &mut text, outcomes)?;
+    push_outcomes(&mut text, outcomes)?;
     text.push_str(standing)?;
     push_log(alloc, schema, &mut text, entries, settled.authority().log())?;
     push_settled(alloc, &mut text, entries, settled.members())?;
-    text.push_str(final_line(alloc, schema, settled.authority().doc())?.as_str())?;
+    push_final(alloc, schema, &mut text, settled.authority().doc())?;
     Ok(text)
 }
 
@@ -52,14 +52,14 @@ fn push_log(
 ) -> Result<(), AllocError>
     ensures { OnOk result (string_bytes text.new ≡ string_bytes text.old ++ line (codes "log" & decimal (length log.now)) ++ entry_lines schema.now.spec entries.now 1 log.now) }
 {
-    text.push_str(log_line(alloc, log.len())?.as_str())?;
+    push_length(text, log.len())?;
     push_entries(alloc, schema, text, entries, log)
 }
 
-fn log_line(alloc: Global, length: usize) -> Result<String, AllocError>
-    ensures { IfOk result (λ s. string_bytes s ≡ line (codes "log" & decimal length)) }
+fn push_length(text: &mut String, length: usize) -> Result<(), AllocError>
+    ensures { OnOk result (string_bytes text.new ≡ string_bytes text.old ++ line (codes "log" & decimal length)) }
 {
-    format!(in alloc; "log {length}\n")
+    write!(text, "log {length}\n")
 }
 
 fn push_entries(
@@ -72,40 +72,48 @@ fn push_entries(
     ensures { OnOk result (string_bytes text.new ≡ string_bytes text.old ++ entry_lines schema.now.spec entries.now 1 log.now) }
 {
     for (i, entry) in log.iter().enumerate() {
-        text.push_str(entry_line(alloc, schema, entries, i + 1, entry)?.as_str())?;
+        push_entry(alloc, schema, text, entries, i + 1, entry)?;
     }
     Ok(())
 }
 
-fn entry_line(
+fn push_entry(
     alloc: Global,
     schema: &Schema,
+    text: &mut String,
     entries: &[ClientEntry],
     place: usize,
     entry: &Named<DocChange>,
-) -> Result<String, AllocError>
-    ensures { IfOk result (λ s. string_bytes s ≡ line (decimal place & name_at entries.now entry.now.name.client & decimal entry.now.name.serial & step_text schema.now.spec entry.now.change)) }
+) -> Result<(), AllocError>
+    ensures { OnOk result (string_bytes text.new ≡ string_bytes text.old ++ line (decimal place & name_at entries.now entry.now.name.client & decimal entry.now.name.serial & step_text schema.now.spec entry.now.change)) }
 {
     let step = step_text(alloc, schema, &entry.change.step)?;
     let name = name_at(entries, entry.name.client as usize);
-    entry_words(alloc, place, name, entry.name.serial, step.as_str())
+    push_words(text, place, name, entry.name.serial, step.as_str())
 }
 
-fn entry_words(
-    alloc: Global,
+fn push_words(
+    text: &mut String,
     place: usize,
     name: &str,
     serial: u64,
     step: &str,
-) -> Result<String, AllocError>
-    ensures { IfOk result (λ s. string_bytes s ≡ line (decimal place & name.now & decimal serial & step.now)) }
+) -> Result<(), AllocError>
+    ensures { OnOk result (string_bytes text.new ≡ string_bytes text.old ++ line (decimal place & name.now & decimal serial & step.now)) }
 {
-    format!(in alloc; "{place} {name} {serial} {step}\n")
+    write!(text, "{place} {name} {serial} {step}\n")
 }
 
-fn final_line(alloc: Global, schema: &Schema, doc: &Document) -> Result<String, AllocError>
-    ensures { IfOk result (λ s. string_bytes s ≡ line (codes "final" & doc_text schema.now.spec doc.now)) }
+/// Puts the authority's document behind the text.
+fn push_final(
+    alloc: Global,
+    schema: &Schema,
+    text: &mut String,
+    doc: &Document,
+) -> Result<(), AllocError>
+    ensures { OnOk result (string_bytes text.new ≡ string_bytes text.old ++ line (codes "final" & doc_text schema.now.spec doc.now)) }
 {
-    let doc = document_text(alloc, schema, doc)?;
-    format!(in alloc; "final {doc}\n")
+    text.push_str("final ")?;
+    push_document(alloc, schema, text, doc)?;
+    text.push_str("\n")
 }

@@ -1,22 +1,24 @@
 //! Lists of numbers as JSON texts.
-ghost use Rattle.std.specs.Prelude.{◌≡◌, map, IfOk, string_bytes};
-ghost use Rattle.serde_json.specs.Data.{array};
-ghost use Rattle.serde_json.specs.View.{view, items_view};
-ghost use Rattle.pm_report.specs.Words.{list_text, number_items};
+ghost use Rattle.std.specs.Prelude.{◌≡◌, ◌++◌, map, decimal, false, IfOk, OnOk, string_bytes};
+ghost use Rattle.serde_json.specs.Written.{comma_if, items_text};
+ghost use Rattle.pm_report.specs.Words.{◌&◌, list_text, number_items};
 ghost use Rattle.pm_report.specs.Report.{serial_of, place_of};
 
 use pm_apply::DocChange;
 use pm_authority::Named;
 use pm_client::Cursor;
-use serde_json::Value;
 use std::alloc::{AllocError, Global};
 
-/// The serials of steps, as a list.
-pub(crate) fn serials_text(alloc: Global, steps: &[Named<DocChange>]) -> Result<String, AllocError>
-    ensures { IfOk result (λ s. string_bytes s ≡ list_text (map serial_of steps.now)) }
+/// Puts a blank and the serials of steps, as a list, behind the text.
+pub(crate) fn push_serials(
+    alloc: Global,
+    text: &mut String,
+    steps: &[Named<DocChange>],
+) -> Result<(), AllocError>
+    ensures { OnOk result (string_bytes text.new ≡ string_bytes text.old & list_text (map serial_of steps.now)) }
 {
     let serials = serials_of(alloc, steps)?;
-    numbers_text(alloc, &serials)
+    push_numbers(text, &serials)
 }
 
 fn serials_of(alloc: Global, steps: &[Named<DocChange>]) -> Result<Vec<u64>, AllocError>
@@ -25,12 +27,16 @@ fn serials_of(alloc: Global, steps: &[Named<DocChange>]) -> Result<Vec<u64>, All
     steps.iter().map(|step| step.name.serial).collect(alloc)
 }
 
-/// The positions of cursors, as a list.
-pub(crate) fn cursors_text(alloc: Global, cursors: &[Cursor]) -> Result<String, AllocError>
-    ensures { IfOk result (λ s. string_bytes s ≡ list_text (map place_of cursors.now)) }
+/// Puts a blank and the positions of cursors, as a list, behind the text.
+pub(crate) fn push_cursors(
+    alloc: Global,
+    text: &mut String,
+    cursors: &[Cursor],
+) -> Result<(), AllocError>
+    ensures { OnOk result (string_bytes text.new ≡ string_bytes text.old & list_text (map place_of cursors.now)) }
 {
     let places = places_of(alloc, cursors)?;
-    numbers_text(alloc, &places)
+    push_numbers(text, &places)
 }
 
 fn places_of(alloc: Global, cursors: &[Cursor]) -> Result<Vec<u64>, AllocError>
@@ -39,28 +45,33 @@ fn places_of(alloc: Global, cursors: &[Cursor]) -> Result<Vec<u64>, AllocError>
     cursors.iter().map(|cursor| cursor.pos).collect(alloc)
 }
 
-/// Numbers, as a list.
-#[tactic(auto, using(crate::proofs::Numbers::written))]
-pub(crate) fn numbers_text(alloc: Global, numbers: &[u64]) -> Result<String, AllocError>
-    ensures { IfOk result (λ s. string_bytes s ≡ list_text numbers.now) }
+/// Puts a blank and numbers, as a list, behind the text.
+pub(crate) fn push_numbers(text: &mut String, numbers: &[u64]) -> Result<(), AllocError>
+    ensures { OnOk result (string_bytes text.new ≡ string_bytes text.old & list_text numbers.now) }
 {
-    let value = numbers_json(alloc, numbers)?;
-    value.to_string(alloc)
+    text.push_str(" [")?;
+    push_items(text, numbers)
 }
 
-#[tactic(auto, using(crate::proofs::Numbers::views))]
-fn numbers_json(alloc: Global, numbers: &[u64]) -> Result<Value, AllocError>
-    ensures { IfOk result (λ v. view v ≡ array (number_items numbers.now)) }
+/// The numbers of a list, and its end.
+fn push_items(text: &mut String, numbers: &[u64]) -> Result<(), AllocError>
+    ensures { OnOk result (string_bytes text.new ≡ string_bytes text.old ++ items_text false (number_items numbers.now)) }
 {
-    Ok(Value::Array(number_values(alloc, numbers)?))
-}
-
-fn number_values(alloc: Global, numbers: &[u64]) -> Result<Vec<Value>, AllocError>
-    ensures { IfOk result (λ v. items_view v.items ≡ number_items numbers.now) }
-{
-    let mut items = Vec::new(alloc);
+    let mut later = false;
     for number in numbers {
-        items.push(Value::from(*number))?;
+        push_number(text, later, *number)?;
+        later = true;
     }
-    Ok(items)
+    text.push_str("]")
+}
+
+/// A number, which is the first one of a list or a later one.
+fn push_number(text: &mut String, later: bool, number: u64) -> Result<(), AllocError>
+    ensures { OnOk result (string_bytes text.new ≡ string_bytes text.old ++ (comma_if later ++ decimal number)) }
+{
+    if later {
+        write!(text, ",{number}")
+    } else {
+        write!(text, "{number}")
+    }
 }
