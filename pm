@@ -21,6 +21,8 @@ words
   check       write how many op lines the session has and how large its first document is
   replay      play the session with its lines in file order, and write its report
   run         play the session with a thread for each client, and write the order of its lines and its report
+  gen CLIENTS LINES NUMBER
+              make a session from the number, play it as `replay` does, and write a summary; nothing is read
 
 statuses
   0  done: the whole output was written

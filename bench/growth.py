@@ -50,6 +50,8 @@ def content(text, more=()):
 
 
 row("lists within one another in a line, bytes", "check", 250_000)(lambda n: session(doc="[" * n))
+row("objects within one another in a line, bytes", "check", 250_000)(lambda n: session(doc='{"":' * (n // 4)))
+row("lists and objects within one another, 126 deep, bytes", "check", 250_000)(lambda n: session(doc='{"type":"doc","content":[{"type":"p"}],"x":[' + ",".join(['[{"":' * 62 + "0" + "}]" * 62] * (n // 435)) + "]}"))
 row("a list in a passed-over field, bytes", "check", 250_000)(lambda n: session(doc='{"type":"doc","content":[{"type":"p"}],"x":[' + "0," * (n // 2) + "0]}"))
 row("passed-over fields of an object", "check", 20_000)(lambda n: session(doc='{"type":"doc","content":[{"type":"p"}]' + "".join(f',"x{it}":0' for it in range(n)) + "}"))
 row("paragraphs in the document", "check", 18_000)(lambda n: session(doc=paragraphs(n)))
@@ -69,6 +71,7 @@ row("types in one choice", "check", 1_000)(lambda n: session(content("(" + "p|" 
 row("types in a row", "check", 240)(lambda n: session(content("l " * n)))
 row("types that may be absent, in a row", "check", 240)(lambda n: session(content("p " + "l?" * n)))
 row("node types with 990 states each", "check", 10)(lambda n: session(content("p", [{"name": f"t{it}", "content": f"((t{it}?){{30}}){{33}}"} for it in range(n)])))
+row("node types with 4,000 places and 1,000 states each", "check", 1)(lambda n: session(content("p", [{"name": f"t{it}", "content": f"(((t{it}|t{it}|t{it}|t{it})?){{37}}){{27}}"} for it in range(n)])))
 row("node types with 4,032 places each", "check", 4)(lambda n: session(content("p", [{"name": f"t{it}", "content": f"((t{it}?){{63}}){{64}}*"} for it in range(n)])))
 row("node types that may hold each other", "check", 500)(lambda n: session(content("p", [{"name": f"t{it}", "content": "g*", "group": "g"} for it in range(n)])))
 row("node types, each needing the next", "check", 500)(lambda n: session(content("p", [{"name": f"t{it}", "content": f"t{it + 1}" if it + 1 < n else "p"} for it in range(n)])))
@@ -92,6 +95,7 @@ def nested(depth):
 
 
 row("a pasted slice that fits nowhere, levels", "replay", 12)(lambda n: session([*BASE, {"name": "l"}], paragraphs(2000, "x"), [op(op="paste", **{"from": 2, "to": 2, "slice": {"content": [nested(n)], "openStart": n, "openEnd": n}})] * 10))
+row("types of which a paste needs all around it", "replay", 500)(lambda n: session(content(f"(p|t{n - 1})+", [{"name": "z"}, *({"name": f"t{it}", "content": f"t{it - 1}" if it else "z"} for it in range(n))]), ops=[op(op="paste", **{"from": 0, "to": 0, "slice": {"content": [{"type": "z"}]}})]))
 row("wraps in a document of 2,000 paragraphs", "replay", 250)(lambda n: session(doc=paragraphs(2000, "x" * 100), ops=[x for _ in range(n // 2) for x in (op(op="wrap", **{"from": 0, "to": 102, "type": "q"}), op(op="lift", pos=0))]))
 
 

@@ -169,5 +169,8 @@ title "the word replay, milliseconds" "ours" "ProseMirror"
 node "$here/undos.js" "$here/../crates/pm_program/out/pm_program" 5000 1000 $tries
 for lines in 1000 10000 100000; do node "$here/typing.js" "$here/../crates/pm_program/out/pm_program" $lines; done
 
+title "the word gen, milliseconds" "ours" "ProseMirror"
+node "$here/generated.js" "$here/../crates/pm_program/out/pm_program" 4 2500 1 $tries
+
 title "the word run, seconds" "run" "replay"
 node "$here/threads.js" "$here/../crates/pm_program/out/pm_program" 32 3000 $tries

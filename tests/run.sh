@@ -75,5 +75,14 @@ limit "a step that makes the document too large" replay 0 "4 refused 0 7"
 letters 499999 >"$large"
 limit "a first document that is too large" check 1 "refused 2 16"
 
+# A large session that is made from a number: its summary begins so, and a second run writes the same bytes.
+printf 'gen 4 2500 1\nlines 10000\n' >"$wanted"
+"$program" gen 4 2500 1 </dev/null >"$whole" 2>/dev/null
+status=$?
+head -n 2 "$whole" >"$got"
+judge "a large generated session" "$status" 0 "$wanted"
+"$program" gen 4 2500 1 </dev/null >"$got" 2>/dev/null
+judge "a large generated session again" $? 0 "$whole"
+
 echo "$passed passed, $failed failed"
 [ "$failed" -eq 0 ]

@@ -1,4 +1,5 @@
 pub mod Bounds
+pub mod Asking
 pub mod Draws
 pub mod Turns
 pub mod Lines

@@ -1,6 +1,7 @@
 //! A session made from a number: its bytes, and the summary of what came of it.
 #![tactic(auto)]
 
+mod asking;
 mod bounds;
 mod drawing;
 mod lines;
@@ -10,6 +11,7 @@ mod summing;
 mod tests;
 mod turns;
 
+pub use asking::{Asked, asked_of};
 pub use bounds::{MAX_CLIENTS, MAX_OP_LINES, is_in_bounds};
 pub use session::generate;
 pub use summing::summary;

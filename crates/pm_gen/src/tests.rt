@@ -1,5 +1,5 @@
 //! Bytes made by a program of its own that computes the definition, with ample memory.
-use crate::{generate, is_in_bounds, summary};
+use crate::{Asked, asked_of, generate, is_in_bounds, summary};
 use std::test::Fail;
 
 /// The op lines of two clients and nine rounds from 203, in which each kind of line comes.
@@ -81,5 +81,34 @@ fn a_session_has_its_limits(rt: HostRuntime) -> Result<(), Fail> {
     for (clients, rounds, within) in &rows {
         assert!(rt; is_in_bounds(*clients, *rounds) == *within);
     }
+    Ok(())
+}
+
+#[test]
+fn words_ask_for_a_session(rt: HostRuntime) -> Result<(), Fail> {
+    let rows: [(&str, &str, &str, bool); 13] = [
+        ("1", "0", "0", true),
+        ("32", "3125", "18446744073709551615", true),
+        ("00000000000000000004", "02500", "01", true),
+        ("000000000000000000004", "2500", "1", false),
+        ("0", "1", "1", false),
+        ("33", "1", "1", false),
+        ("2", "50001", "1", false),
+        ("1", "100001", "1", false),
+        ("4294967297", "1", "1", false),
+        ("1", "1", "18446744073709551616", false),
+        ("+1", "1", "1", false),
+        ("1", "", "1", false),
+        ("1", "1", "1x", false),
+    ];
+    for (clients, rounds, number, are_asked) in &rows {
+        assert!(rt; asked_of(clients, rounds, number).is_some() == *are_asked);
+    }
+    let asked = Asked {
+        clients: 2,
+        rounds: 20,
+        number: 18_446_744_073_709_551_615,
+    };
+    assert!(rt; asked_of("2", "020", "18446744073709551615") == Some(asked));
     Ok(())
 }

@@ -1,10 +1,11 @@
 -- What was written belongs to the command and the input.
-use Rattle.std.proofs.Common.{◌≡◌, ℕ, List, inl, inr, subst}
-use Rattle.std.specs.Prelude.{Option, Result}
+use Rattle.std.proofs.Common.{◌≡◌, ℕ, List, inl, inr, subst, sym}
+use Rattle.std.specs.Prelude.{◌⊎◌, Option, Result}
 use Rattle.std.specs.Io.KnownBytes.{Consumes}
 use Rattle.pm_program.specs.declared.call.Status.{Status}
 use Rattle.pm_program.specs.declared.call.Status.TheVariants.{Done, SessionRefused, Usage, ReadFault, WriteFault, NoMemory}
 use Rattle.pm_program.specs.declared.words.Command.{Command}
+use Rattle.pm_program.specs.Files.{file_of, ReadsInput}
 use Rattle.pm_program.specs.Headline.{Writes, Agrees}
 use Rattle.pm_head.specs.declared.fault.Refusal.{Refusal}
 use Rattle.pm_script.specs.declared.session.Session.{Session}
@@ -19,12 +20,13 @@ answered asked input text right ReadFault old new o w a = w
 answered asked input text right WriteFault old new o w a = record { text = text; status = right; output = o; count = w.0; within = w.1; front = w.2 }
 answered asked input text right NoMemory old new o w a = w
 
--- the answer to what the input is belongs to the command that was asked for
+-- the answer to what the file is belongs to the command that was asked for
 pub answered-found : (command asked : Command) (input text : List ℕ) (found : Result Session Refusal) (right status : Status) (old new : Option (List ℕ))
-    → command ≡ asked → SessionIs input found → IsTextOf command found text → right ≡ status_for found
+    → command ≡ asked → SessionIs (file_of command input) found → IsTextOf command found text → right ≡ status_for found
     → Writes status old new text → Agrees status right → Answered asked input status old new
 answered-found command asked input text found right status old new same is written says w a =
-    answered asked input text right status old new (record { found = found; is = is; written = subst (λ (c : Command). IsTextOf c found text) same written; says = says }) w a
+    subst (λ (c : Command). Answered c input status old new) same
+    (answered command input text right status old new (record { found = found; is = is; written = written; says = says }) w a)
 
 -- a status that is none of the others is an answer
 pub answer-of : (status : Status) → (status ≡ Usage → ⊥) → (status ≡ ReadFault → ⊥) → (status ≡ WriteFault → ⊥) → (status ≡ NoMemory → ⊥) → IsAnswer status
@@ -50,3 +52,11 @@ whole-of asked input NoMemory old new a (inr e) = absurd (cc)
 -- and it is the output for the bytes that were read
 pub answers-read : (asked : Command) (input : List ℕ) (status : Status) (left rest old new : Option (List ℕ)) → Consumes left rest input → Answered asked input status old new → IsAnswer status → AnswersRead asked status left rest old new
 answers-read asked input status left rest old new read a h = record { input = input; read = read; written = whole-of asked input status old new a h }
+
+-- what was read, or not, is told of the command that was asked for
+pub read-to-end : (command asked : Command) (X : Type 0) → command ≡ asked → ReadsInput asked → (ReadsInput command → X) → X
+read-to-end command asked X same reads h = h (subst ReadsInput (sym same) reads)
+
+pub unread-by : (command asked : Command) (X : Type 0) → command ≡ asked → ReadsInput command ⊎ X → ReadsInput asked ⊎ X
+unread-by command asked X same (inl reads) = inl (subst ReadsInput same reads)
+unread-by command asked X same (inr h) = inr h

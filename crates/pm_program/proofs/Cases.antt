@@ -10,28 +10,29 @@ use Rattle.pm_report.specs.Words.{◌&◌, line}
 use Rattle.pm_program.specs.declared.call.Status.{Status}
 use Rattle.pm_program.specs.declared.call.Status.TheVariants.{Done, SessionRefused, Usage, ReadFault, WriteFault, NoMemory}
 use Rattle.pm_program.specs.declared.words.Command.{Command}
-use Rattle.pm_program.specs.declared.words.Command.TheVariants.{Check, Replay, Run}
+use Rattle.pm_program.specs.declared.words.Command.TheVariants.{Check, Replay, Run, Gen}
+use Rattle.pm_program.specs.Files.{file_of}
 use Rattle.pm_program.specs.Output.{refusal, counts_of, IsTextOf, status_for, IsOutput, Answered, IsAnswer}
 use Rattle.pm_program.specs.Cases.{IsByCase, Tells}
 
 -- ---- the status
 
-of-session : (command : Command) (input text : List ℕ) (s : Session) → SessionIs input (Ok s) → IsOutput command input text SessionRefused → ⊥
+of-session : (command : Command) (input text : List ℕ) (s : Session) → SessionIs (file_of command input) (Ok s) → IsOutput command input text SessionRefused → ⊥
 of-session command input text s is o = at o.found o.is o.says
   where
-    at : (found : Result Session Refusal) → SessionIs input found → SessionRefused ≡ status_for found → ⊥
+    at : (found : Result Session Refusal) → SessionIs (file_of command input) found → SessionRefused ≡ status_for found → ⊥
     at (Ok t) h e = absurd (cc)
-    at (Err fault) h e = session-apart input s fault is h
+    at (Err fault) h e = session-apart (file_of command input) s fault is h
 
-of-refused : (command : Command) (input text : List ℕ) (fault : Refusal) → SessionIs input (Err fault) → IsOutput command input text Done → ⊥
+of-refused : (command : Command) (input text : List ℕ) (fault : Refusal) → SessionIs (file_of command input) (Err fault) → IsOutput command input text Done → ⊥
 of-refused command input text fault is o = at o.found o.is o.says
   where
-    at : (found : Result Session Refusal) → SessionIs input found → Done ≡ status_for found → ⊥
-    at (Ok s) h e = session-apart input s fault h is
+    at : (found : Result Session Refusal) → SessionIs (file_of command input) found → Done ≡ status_for found → ⊥
+    at (Ok s) h e = session-apart (file_of command input) s fault h is
     at (Err other) h e = absurd (cc)
 
--- what was written for the input tells what it is
-pub tells : (asked : Command) (input : List ℕ) (status : Status) (old new : Option (List ℕ)) → Answered asked input status old new → Tells input status
+-- what was written tells what the file is
+pub tells : (asked : Command) (input : List ℕ) (status : Status) (old new : Option (List ℕ)) → Answered asked input status old new → Tells (file_of asked input) status
 tells asked input Done old new a = record { session = λ s is e. absurd (cc); refused = λ fault is e. of-refused asked input a.text fault is a.output }
 tells asked input SessionRefused old new a = record { session = λ s is e. of-session asked input a.text s is a.output; refused = λ fault is e. absurd (cc) }
 tells asked input Usage old new a = absurd a
@@ -40,7 +41,7 @@ tells asked input WriteFault old new a = record { session = λ s is e. absurd (c
 tells asked input NoMemory old new a = record { session = λ s is e. absurd (cc); refused = λ fault is e. absurd (cc) }
 
 -- an answer, or want of memory, is by case
-pub by-case : (asked : Command) (input : List ℕ) (status : Status) (old new : Option (List ℕ)) → Answered asked input status old new → IsAnswer status ⊎ (status ≡ NoMemory) → IsByCase input status
+pub by-case : (asked : Command) (input : List ℕ) (status : Status) (old new : Option (List ℕ)) → Answered asked input status old new → IsAnswer status ⊎ (status ≡ NoMemory) → IsByCase (file_of asked input) status
 by-case asked input status old new a (inl (inl e)) =
     let t = tells asked input status old new a in
     record { session = λ s is. inl e; refused = λ fault is. absurd (t.refused fault is e) }
@@ -58,10 +59,10 @@ counts-same s t e = λ i. line (codes "ok" & decimal (length (e.lines i)) & deci
 pub one-status : (command : Command) (input text other : List ℕ) (a b : Status) → IsOutput command input text a → IsOutput command input other b → a ≡ b
 one-status command input text other a b x y = x.says ∙ at x.found y.found x.is y.is ∙ sym y.says
   where
-    at : (f g : Result Session Refusal) → SessionIs input f → SessionIs input g → status_for f ≡ status_for g
+    at : (f g : Result Session Refusal) → SessionIs (file_of command input) f → SessionIs (file_of command input) g → status_for f ≡ status_for g
     at (Ok s) (Ok t) h k = refl
-    at (Ok s) (Err fault) h k = absurd (session-apart input s fault h k)
-    at (Err fault) (Ok t) h k = absurd (session-apart input t fault k h)
+    at (Ok s) (Err fault) h k = absurd (session-apart (file_of command input) s fault h k)
+    at (Err fault) (Ok t) h k = absurd (session-apart (file_of command input) t fault k h)
     at (Err fault) (Err g) h k = refl
 
 -- what `check` writes is one
@@ -78,13 +79,14 @@ refused-text : (command : Command) (fault : Refusal) (text : List ℕ) → IsTex
 refused-text Check fault text h = h
 refused-text Replay fault text h = h
 refused-text Run fault text h = h
+refused-text (Gen asked) fault text h = h
 
 -- the line that refuses an input is one, whatever the command
 pub one-line : (command : Command) (input text other : List ℕ) → IsOutput command input text SessionRefused → IsOutput command input other SessionRefused → text ≡ other
 one-line command input text other x y = at x.found y.found x.is y.is x.says y.says x.written y.written
   where
-    at : (f g : Result Session Refusal) → SessionIs input f → SessionIs input g → SessionRefused ≡ status_for f → SessionRefused ≡ status_for g
+    at : (f g : Result Session Refusal) → SessionIs (file_of command input) f → SessionIs (file_of command input) g → SessionRefused ≡ status_for f → SessionRefused ≡ status_for g
         → IsTextOf command f text → IsTextOf command g other → text ≡ other
     at (Ok s) g h k e d v w = absurd (cc)
     at (Err fault) (Ok t) h k e d v w = absurd (cc)
-    at (Err fault) (Err g) h k e d v w = refused-text command fault text v ∙ ap refusal (one-refusal input fault g h k) ∙ sym (refused-text command g other w)
+    at (Err fault) (Err g) h k e d v w = refused-text command fault text v ∙ ap refusal (one-refusal (file_of command input) fault g h k) ∙ sym (refused-text command g other w)

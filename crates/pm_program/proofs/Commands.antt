@@ -2,7 +2,7 @@
 use Rattle.std.proofs.Common.{◌≡◌, refl}
 use Rattle.std.specs.Prelude.{Option, None, Some}
 use Rattle.pm_program.specs.declared.words.Command.{Command}
-use Rattle.pm_program.specs.declared.words.Command.TheVariants.{Check, Replay, Run}
+use Rattle.pm_program.specs.declared.words.Command.TheVariants.{Check, Replay, Run, Gen}
 use Rattle.pm_program.specs.Words.{without_threads}
 
 -- a command that is known without threads is not `run`
@@ -11,6 +11,7 @@ no-threads None command e r = absurd (cc)
 no-threads (Some Check) command e r = absurd (cc)
 no-threads (Some Replay) command e r = absurd (cc)
 no-threads (Some Run) command e r = absurd (cc)
+no-threads (Some (Gen asked)) command e r = absurd (cc)
 
 -- every other command is
 pub same-command : (o : Option Command) → (o ≡ Some Run → ⊥) → without_threads o ≡ o
@@ -18,3 +19,4 @@ same-command None h = refl
 same-command (Some Check) h = refl
 same-command (Some Replay) h = refl
 same-command (Some Run) h = absurd (h refl)
+same-command (Some (Gen asked)) h = refl

@@ -1,5 +1,5 @@
 -- All that a source gives is the input, and an input of which more than the limit came is refused on line 0.
-use Rattle.std.proofs.Common.{◌≡◌, ◌<◌, ◌≤◌, ◌+◌, ◌++◌, ◌∙◌, ℕ, true, List, length, refl, ap, sym, subst, arith, length-append}
+use Rattle.std.proofs.Common.{◌≡◌, ◌<◌, ◌≤◌, ◌+◌, ◌++◌, ◌∙◌, ℕ, true, List, [], length, refl, ap, sym, subst, arith, length-append}
 use Rattle.std.specs.Prelude.{nat_lt, Option, None, Some, Err}
 use Rattle.std.specs.Io.KnownBytes.{Consumes, IsAtEnd}
 use Rattle.std.proofs.lemmas.List.{append-nil}
@@ -28,6 +28,11 @@ pub past_limit : (old new : Option (List ℕ)) (bytes input : List ℕ) → Cons
 past_limit old new bytes input h size is =
     let taken = subst (λ o. Consumes o new bytes) is h in
     above (length input) (omega (arith, longer new bytes input taken, size))
+
+-- a source that is left as it was gave nothing
+pub nothing-read : (left : Option (List ℕ)) → Consumes left left []
+nothing-read None = tt
+nothing-read (Some bytes) = refl
 
 -- it is no session
 pub no_session : (input : List ℕ) → nat_lt MAX_INPUT (length input) ≡ true → SessionIs input (Err (refused 0 InputTooLong))

@@ -1,4 +1,4 @@
--- Which status an input has, by what it is, where no read and no write failed.
+-- Which status a session file has, by what it is, where no read and no write failed.
 use Rattle.std.specs.Prelude.{◌≡◌, ◌⊎◌, ℕ, List, Ok, Err}
 use Rattle.pm_head.specs.declared.fault.Refusal.{Refusal}
 use Rattle.pm_script.specs.declared.session.Session.{Session}

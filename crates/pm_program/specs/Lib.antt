@@ -1,8 +1,10 @@
 pub mod Words
+pub mod Files
 pub mod Making
 pub mod Makers
 pub mod Playing
 pub mod Sounds
+pub mod Summing
 pub mod Running
 pub mod Finding
 pub mod Output

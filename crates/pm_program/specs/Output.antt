@@ -11,8 +11,10 @@ use Rattle.pm_report.specs.Words.{◌&◌, line}
 use Rattle.pm_program.specs.declared.call.Status.{Status}
 use Rattle.pm_program.specs.declared.call.Status.TheVariants.{Done, SessionRefused, Usage, ReadFault, WriteFault, NoMemory}
 use Rattle.pm_program.specs.declared.words.Command.{Command}
-use Rattle.pm_program.specs.declared.words.Command.TheVariants.{Check, Replay, Run}
+use Rattle.pm_program.specs.declared.words.Command.TheVariants.{Check, Replay, Run, Gen}
+use Rattle.pm_program.specs.Files.{file_of}
 use Rattle.pm_program.specs.Playing.{report_of}
+use Rattle.pm_program.specs.Summing.{summary_of}
 use Rattle.pm_program.specs.Running.{IsRun}
 
 -- the line that refuses an input
@@ -23,12 +25,13 @@ refusal r = line (codes "refused" & decimal r.line & decimal (number_of r.code))
 abbrev pub counts_of : Session → List ℕ
 counts_of s = line (codes "ok" & decimal (length s.lines) & decimal (length s.head.doc.tokens))
 
--- What a command may write of what the input is found to be. Of `check` and `replay` it is one text; what `run` writes
--- is of an order.
+-- What a command may write of what its file is found to be. Of `check`, `replay` and `gen` it is one text; what `run`
+-- writes is of an order.
 abbrev pub IsTextOf : Command → Result Session Refusal → List ℕ → Type 0
 IsTextOf Check (Ok s) text = text ≡ counts_of s
 IsTextOf Replay (Ok s) text = text ≡ report_of s
 IsTextOf Run (Ok s) text = IsRun s text
+IsTextOf (Gen asked) (Ok s) text = text ≡ summary_of asked s
 IsTextOf command (Err r) text = text ≡ refusal r
 
 -- Done for a session, SessionRefused for any other input
@@ -36,10 +39,10 @@ abbrev pub status_for : Result Session Refusal → Status
 status_for (Ok s) = Done
 status_for (Err r) = SessionRefused
 
--- what a command writes for an input, and the status that says so: the input is a session, or it is refused
+-- what a command writes for an input, and the status that says so: its file is a session, or it is refused
 pub record IsOutput (command : Command) (input text : List ℕ) (status : Status) : Type 0 where
   pub found : Result Session Refusal
-  pub is : SessionIs input found
+  pub is : SessionIs (file_of command input) found
   pub written : IsTextOf command found text
   pub says : status ≡ status_for found
 

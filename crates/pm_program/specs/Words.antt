@@ -1,8 +1,10 @@
 -- The words of the command line.
-use Rattle.std.specs.Prelude.{ℕ, List, [], ◌∷◌, codes, Option, Some, None, nat_eq, if◌then◌else◌}
+use Rattle.std.specs.Prelude.{ℕ, List, [], ◌∷◌, codes, Option, Some, None, option_map, nat_eq, if◌then◌else◌, ⊤}
 use Rattle.std.specs.Cmp.Lexicographic.{pointwise}
+use Rattle.pm_gen.specs.Asking.{asked_of}
+use Rattle.pm_gen.specs.Bounds.{InBounds}
 use Rattle.pm_program.specs.declared.words.Command.{Command}
-use Rattle.pm_program.specs.declared.words.Command.TheVariants.{Check, Replay, Run}
+use Rattle.pm_program.specs.declared.words.Command.TheVariants.{Check, Replay, Run, Gen}
 
 -- what a word asks for
 abbrev pub command_named : List ℕ → Option Command
@@ -11,11 +13,18 @@ command_named word =
     else (if pointwise nat_eq word (codes "replay") then Some Replay
     else (if pointwise nat_eq word (codes "run") then Some Run else None))
 
+-- what a word with three numbers asks for
+abbrev pub gen_named : (word clients rounds number : List ℕ) → Option Command
+gen_named word clients rounds number = if pointwise nat_eq word (codes "gen") then option_map Gen (asked_of clients rounds number) else None
+
 -- what the words ask for; None where they are none of the forms
 abbrev pub command_of : List (List ℕ) → Option Command
 command_of [] = None
 command_of (word ∷ []) = command_named word
-command_of (word ∷ next ∷ more) = None
+command_of (word ∷ a ∷ []) = None
+command_of (word ∷ a ∷ b ∷ []) = None
+command_of (word ∷ clients ∷ rounds ∷ number ∷ []) = gen_named word clients rounds number
+command_of (word ∷ a ∷ b ∷ c ∷ next ∷ more) = None
 
 -- a command that takes no threads
 abbrev pub without_threads : Option Command → Option Command
@@ -23,7 +32,15 @@ without_threads None = None
 without_threads (Some Check) = Some Check
 without_threads (Some Replay) = Some Replay
 without_threads (Some Run) = None
+without_threads (Some (Gen asked)) = Some (Gen asked)
 
 -- what the words ask for where there are no threads: the word `run` is then none of the forms
 abbrev pub plain_command_of : List (List ℕ) → Option Command
 plain_command_of words = without_threads (command_of words)
+
+-- a session that is to be made is within its limits
+abbrev pub IsBounded : Command → Type 0
+IsBounded Check = ⊤
+IsBounded Replay = ⊤
+IsBounded Run = ⊤
+IsBounded (Gen asked) = InBounds asked.clients asked.rounds

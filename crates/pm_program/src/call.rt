@@ -3,13 +3,14 @@ ghost use Rattle.std.specs.Prelude.{◌≡◌, ◌⊎◌, ◌↔◌, ℕ, List, 
 ghost use Rattle.std.specs.Io.KnownBytes.{IsAtEnd};
 ghost use Rattle.pm_io.specs.Faults.{Rose};
 ghost use Rattle.pm_program.specs.Words.{command_of, plain_command_of};
+ghost use Rattle.pm_program.specs.Files.{file_of, ReadsInput};
 ghost use Rattle.pm_program.specs.Output.{IsAnswer, Answered, AnswersRead, IsPastLimit};
 ghost use Rattle.pm_program.specs.Cases.{Tells, IsByCase};
 ghost use Rattle.pm_program.specs.Sounds.{AllSound};
 ghost use Rattle.pm_program.specs.Headline.{Writes, Agrees, Silent, number_of};
 
 use crate::answer::{Answer, answer_to};
-use crate::finding::found_in;
+use crate::finding::{found_for, found_in};
 use crate::making::EditMaker;
 use crate::running::answer_on_threads;
 use crate::words::{Command, command_of, plain_command_of};
@@ -24,7 +25,7 @@ use std::thread::Threads;
 pub enum Status {
     /// The whole output was written.
     Done,
-    /// The input is no session, which the line written says.
+    /// The file is no session, which the line written says.
     SessionRefused,
     /// The words are none of the forms. Nothing was read or written.
     Usage,
@@ -83,22 +84,29 @@ pub fn run<R: Source, W: Sink, G: Gate + Sync, T: Threads + Wait + Sync>(
     ensures no_read_fault { (result ≡ Status.ReadFault) ⊎ (R.faults source.new ≡ R.faults source.old) }
     ensures no_write_fault { (result ≡ Status.WriteFault) ⊎ (W.faults sink.new ≡ W.faults sink.old) }
     // With an answer the input was read to its end. Of an input past the limit one byte more than the limit was read.
-    ensures read_whole { result ≡ Status.Done → IsAtEnd (R.left source.new) }
-    ensures read_enough { result ≡ Status.SessionRefused
+    ensures read_whole { (asked : Command) → command_of (map string_bytes words.now) ≡ Some asked → ReadsInput asked
+        → result ≡ Status.Done → IsAtEnd (R.left source.new) }
+    ensures read_enough { (asked : Command) → command_of (map string_bytes words.now) ≡ Some asked → ReadsInput asked
+        → result ≡ Status.SessionRefused
         → IsAtEnd (R.left source.new) ⊎ IsPastLimit (R.left source.old) (R.left source.new) }
+    // `gen` reads nothing.
+    ensures made { (asked : Command) → command_of (map string_bytes words.now) ≡ Some asked
+        → ReadsInput asked ⊎ ((R.left source.new ≡ R.left source.old) × (R.faults source.new ≡ R.faults source.old)) }
     // Where no fault rose, the output and its status, or want of memory.
     ensures complete { (asked : Command) → command_of (map string_bytes words.now) ≡ Some asked
         → ¬ Rose (R.faults source.old) (R.faults source.new)
         → ¬ Rose (W.faults sink.old) (W.faults sink.new)
         → IsAnswer result ⊎ (result ≡ Status.NoMemory) }
-    // The status tells what the input is, also where a fault rose: 1 is never that of a session, 0 never that of any other.
-    ensures tells { (input : List ℕ) → R.left source.old ≡ Some input → Tells input result }
-    // By case, where no fault rose: for a session the whole output, for any other input its refusal, or want of memory.
+    // The status tells what the file is that is played, also where a fault rose: 1 is never that of a session, 0 never that of
+    // any other.
+    ensures tells { (asked : Command) (input : List ℕ) → command_of (map string_bytes words.now) ≡ Some asked
+        → R.left source.old ≡ Some input → Tells (file_of asked input) result }
+    // By case, where no fault rose: for a session the whole output, for any other file its refusal, or want of memory.
     ensures by_case { (asked : Command) (input : List ℕ) → command_of (map string_bytes words.now) ≡ Some asked
         → R.left source.old ≡ Some input
         → ¬ Rose (R.faults source.old) (R.faults source.new)
         → ¬ Rose (W.faults sink.old) (W.faults sink.new)
-        → IsByCase input result }
+        → IsByCase (file_of asked input) result }
     // With an answer, what was written is the output for the bytes that were read, also of a source that does not tell them.
     ensures answers { (asked : Command) → command_of (map string_bytes words.now) ≡ Some asked → IsAnswer result
         → AnswersRead asked result (R.left source.old) (R.left source.new) (W.written sink.old) (W.written sink.new) }
@@ -183,22 +191,29 @@ pub fn plain<R: Source, W: Sink>(
     ensures no_read_fault { (result ≡ Status.ReadFault) ⊎ (R.faults source.new ≡ R.faults source.old) }
     ensures no_write_fault { (result ≡ Status.WriteFault) ⊎ (W.faults sink.new ≡ W.faults sink.old) }
     // With an answer the input was read to its end. Of an input past the limit one byte more than the limit was read.
-    ensures read_whole { result ≡ Status.Done → IsAtEnd (R.left source.new) }
-    ensures read_enough { result ≡ Status.SessionRefused
+    ensures read_whole { (asked : Command) → plain_command_of (map string_bytes words.now) ≡ Some asked → ReadsInput asked
+        → result ≡ Status.Done → IsAtEnd (R.left source.new) }
+    ensures read_enough { (asked : Command) → plain_command_of (map string_bytes words.now) ≡ Some asked → ReadsInput asked
+        → result ≡ Status.SessionRefused
         → IsAtEnd (R.left source.new) ⊎ IsPastLimit (R.left source.old) (R.left source.new) }
+    // `gen` reads nothing.
+    ensures made { (asked : Command) → plain_command_of (map string_bytes words.now) ≡ Some asked
+        → ReadsInput asked ⊎ ((R.left source.new ≡ R.left source.old) × (R.faults source.new ≡ R.faults source.old)) }
     // Where no fault rose, the output and its status, or want of memory.
     ensures complete { (asked : Command) → plain_command_of (map string_bytes words.now) ≡ Some asked
         → ¬ Rose (R.faults source.old) (R.faults source.new)
         → ¬ Rose (W.faults sink.old) (W.faults sink.new)
         → IsAnswer result ⊎ (result ≡ Status.NoMemory) }
-    // The status tells what the input is, also where a fault rose: 1 is never that of a session, 0 never that of any other.
-    ensures tells { (input : List ℕ) → R.left source.old ≡ Some input → Tells input result }
-    // By case, where no fault rose: for a session the whole output, for any other input its refusal, or want of memory.
+    // The status tells what the file is that is played, also where a fault rose: 1 is never that of a session, 0 never that of
+    // any other.
+    ensures tells { (asked : Command) (input : List ℕ) → plain_command_of (map string_bytes words.now) ≡ Some asked
+        → R.left source.old ≡ Some input → Tells (file_of asked input) result }
+    // By case, where no fault rose: for a session the whole output, for any other file its refusal, or want of memory.
     ensures by_case { (asked : Command) (input : List ℕ) → plain_command_of (map string_bytes words.now) ≡ Some asked
         → R.left source.old ≡ Some input
         → ¬ Rose (R.faults source.old) (R.faults source.new)
         → ¬ Rose (W.faults sink.old) (W.faults sink.new)
-        → IsByCase input result }
+        → IsByCase (file_of asked input) result }
     // With an answer, what was written is the output for the bytes that were read, also of a source that does not tell them.
     ensures answers { (asked : Command) → plain_command_of (map string_bytes words.now) ≡ Some asked → IsAnswer result
         → AnswersRead asked result (R.left source.old) (R.left source.new) (W.written sink.old) (W.written sink.new) }
@@ -206,7 +221,7 @@ pub fn plain<R: Source, W: Sink>(
     let Some(command) = plain_command_of(words) else {
         return Status::Usage;
     };
-    let found = match found_in(alloc, source) {
+    let found = match found_for(alloc, command, source) {
         Ok(found) => found,
         Err(ReadError::ReadFault) => return Status::ReadFault,
         Err(_) => return Status::NoMemory,

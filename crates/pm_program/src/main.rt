@@ -8,6 +8,7 @@ mod making;
 mod one_output;
 mod replaying;
 mod running;
+mod summing;
 #[cfg(test)]
 mod tests;
 mod words;
@@ -34,7 +35,7 @@ fn main(rt: HostRuntime) -> io::Result<ExitCode> {
     // Where standard error takes nothing, the number still tells.
     let _told = match status {
         Status::Done | Status::SessionRefused => Ok(()),
-        Status::Usage => eprintln!(rt; "usage: check | replay | run"),
+        Status::Usage => eprintln!(rt; "usage: check | replay | run | gen CLIENTS LINES NUMBER"),
         Status::ReadFault => eprintln!(rt; "read fault"),
         Status::WriteFault => eprintln!(rt; "write fault"),
         Status::NoMemory => eprintln!(rt; "no memory"),

@@ -33,7 +33,7 @@ pub fn replay(alloc: Global, session: &Session) -> Result<String, AllocError>
 }
 
 /// A room at the session's first document, with its clients.
-fn open(alloc: Global, session: &Session) -> Result<Room<DocChange>, AllocError>
+pub fn open(alloc: Global, session: &Session) -> Result<Room<DocChange>, AllocError>
     requires valid { Valid (documents_of session.now.head.schema.spec) session.now.head.doc }
     requires few { length session.now.head.clients ≤ 32 }
     ensures opens { IfOk result (λ r. state_of r ≡ room_of session.now) }

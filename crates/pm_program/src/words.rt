@@ -1,6 +1,8 @@
 //! The words of the command line.
-ghost use Rattle.std.specs.Prelude.{◌≡◌, map, string_bytes};
-ghost use Rattle.pm_program.specs.Words.{command_named, command_of, without_threads, plain_command_of};
+ghost use Rattle.std.specs.Prelude.{◌≡◌, map, string_bytes, IfSome};
+ghost use Rattle.pm_program.specs.Words.{command_named, gen_named, command_of, without_threads, plain_command_of, IsBounded};
+
+use pm_gen::{Asked, asked_of};
 
 /// What the words ask for.
 #[derive(Clone, Copy, Debug, PartialEq, Eq)]
@@ -11,28 +13,41 @@ pub enum Command {
     Replay,
     /// Plays a session with a thread for each client, and writes the order of its lines and the report.
     Run,
+    /// Makes a session from a number, plays it with its lines in file order, and writes a summary. Nothing is read.
+    Gen(Asked),
 }
 
-/// The one word `check`, `replay` or `run`. All other words are none of the forms.
+/// The one word `check`, `replay` or `run`, or `gen` with three numbers that a session may be made from. All other words are
+/// none of the forms.
 pub fn command_of(words: &[String]) -> Option<Command>
-    ensures { result ≡ command_of (map string_bytes words.now) }
+    ensures named { result ≡ command_of (map string_bytes words.now) }
+    ensures bounds { IfSome result IsBounded }
 {
     match words {
         [word] => command_named(word.as_str()),
+        [word, clients, rounds, number] => gen_named(
+            word.as_str(),
+            clients.as_str(),
+            rounds.as_str(),
+            number.as_str(),
+        ),
         _ => None,
     }
 }
 
-/// The one word `check` or `replay`, which take no threads. All other words are none of the forms.
+/// The words but for `run`, which takes threads: it is none of the forms here.
 pub fn plain_command_of(words: &[String]) -> Option<Command>
-    ensures { result ≡ plain_command_of (map string_bytes words.now) }
+    ensures named { result ≡ plain_command_of (map string_bytes words.now) }
+    ensures bounds { IfSome result IsBounded }
 {
     without_threads(command_of(words))
 }
 
 /// The command, unless it takes threads.
 fn without_threads(command: Option<Command>) -> Option<Command>
-    ensures { result ≡ without_threads command }
+    requires { IfSome command IsBounded }
+    ensures named { result ≡ without_threads command }
+    ensures bounds { IfSome result IsBounded }
 {
     match command {
         Some(Command::Run) | None => None,
@@ -40,8 +55,21 @@ fn without_threads(command: Option<Command>) -> Option<Command>
     }
 }
 
+/// The word `gen` with three numbers.
+fn gen_named(word: &str, clients: &str, rounds: &str, number: &str) -> Option<Command>
+    ensures named { result ≡ gen_named word.now clients.now rounds.now number.now }
+    ensures bounds { IfSome result IsBounded }
+{
+    if word == "gen" {
+        Some(Command::Gen(asked_of(clients, rounds, number)?))
+    } else {
+        None
+    }
+}
+
 fn command_named(word: &str) -> Option<Command>
-    ensures { result ≡ command_named word.now }
+    ensures named { result ≡ command_named word.now }
+    ensures bounds { IfSome result IsBounded }
 {
     if word == "check" {
         Some(Command::Check)

@@ -13,9 +13,8 @@ returns-in-Ok-answer_to-clause-output g c asked input is left =
     same (c.in-Ok.ensures.is input left) c.in-Ok-answer_to.ensures.text c.in-Ok-answer_to.ensures.says c.deliver.ensures.writes c.deliver.ensures.agrees
 
 pub returns-in-Ok-answer_to-clause-tells : goal.returns-in-Ok-answer_to-clause-tells
-returns-in-Ok-answer_to-clause-tells g c input left =
-    let asks : plain_command_of (map string_bytes c.args.words.now) ≡ Some c.in-Some.command = cc in
-    tells c.in-Some.command input c.deliver.result _ _ (returns-in-Ok-answer_to-clause-output g c c.in-Some.command input asks left)
+returns-in-Ok-answer_to-clause-tells g c asked input is left =
+    tells asked input c.deliver.result _ _ (returns-in-Ok-answer_to-clause-output g c asked input is left)
 
 pub returns-in-Ok-answer_to-clause-by_case : goal.returns-in-Ok-answer_to-clause-by_case
 returns-in-Ok-answer_to-clause-by_case g c asked input is left no_read no_write =

@@ -4,11 +4,15 @@ use Rattle.std.proofs.lemmas.Grind.{common_steps}
 use Rattle.pm_program.specs.declared.words.Command.{Command}
 use Rattle.pm_program.specs.declared.words.Command.TheVariants.{Run}
 use Rattle.pm_program.specs.Words.{plain_command_of}
+use Rattle.pm_program.specs.Files.{file_of}
+use Rattle.pm_program.specs.Cases.{IsByCase}
 use Rattle.pm_program.specs.Output.{AnswersRead}
 use Rattle.pm_program.proofs.call.run.Goals as goal
 
 pub returns-in-Some-Run-clause-by_case : goal.returns-in-Some-Run-clause-by_case
-returns-in-Some-Run-clause-by_case g c asked input is left no_read no_write = c.run_session.ensures.by_case input left no_read no_write
+returns-in-Some-Run-clause-by_case g c asked input is left no_read no_write =
+    let same : Run ≡ asked = cc in
+    subst (λ (k : Command). IsByCase (file_of k input) c.run_session.result) same (c.run_session.ensures.by_case input left no_read no_write)
 
 pub returns-in-Some-Run-clause-answers : goal.returns-in-Some-Run-clause-answers
 returns-in-Some-Run-clause-answers g c asked is h =
