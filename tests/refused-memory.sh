@@ -29,7 +29,7 @@ judge() {
 # Runs a program whose output is a pipe that nobody reads.
 closed="import os, subprocess, sys; r, w = os.pipe(); os.close(r); sys.exit(subprocess.run(sys.argv[1:], stdout=w).returncode)"
 session=$top/examples/plan.session
-for word in ${WORDS:-check replay}; do
+for word in ${WORDS:-check replay run}; do
   : >"$work/out"
   "$program" "$word" <"$session" >/dev/full 2>"$work/told"
   judge "$word to a full device" $? 4 "" "write fault"

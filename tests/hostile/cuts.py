@@ -41,12 +41,14 @@ def cut_fault(path, at):
         elif word == "check":
             is_well = played.status == 0 and played.out.startswith(b"ok %d " % ops)
         else:
-            # The first lines do what they do in the whole session.
+            # Under `replay` the first lines do what they do in the whole session.
             wants, told = out.split(b"\n")[:ops], played.out.split(b"\n")
-            skip = told[:1] and told[0].startswith(b"order")
-            is_well = played.status == 0 and (skip or told[:ops] == wants)
+            is_well = played.status == 0 and (word == "run" or told[:ops] == wants)
         if not is_well:
             return f"{path} cut after {at} bytes: {word} ended with {played.status}: {played.out[:80]!r}"
+        fault = fault_of_order(word, whole[:at], played)
+        if fault:
+            return f"{path} cut after {at} bytes: {fault}"
         if first is None and last != b"":
             ended = play([word], whole[:at] + b"\n")
             if not is_answer(word, whole[:at], ended, played):
@@ -60,7 +62,7 @@ def refusal_fault(path, at):
         whole = file.read()
     runs = {word: play([word], whole[:at]) for word in WORDS}
     for word, played in runs.items():
-        fault = fault_of(word, played)
+        fault = fault_of(word, played) or fault_of_order(word, whole[:at], played)
         if fault:
             return f"{path} cut after {at} bytes: {fault}"
     fault = fault_between(runs)
@@ -75,12 +77,14 @@ def refusal_fault(path, at):
 
 
 def limit_fault(name, word, make, status, first):
-    played = play([word], make(), longest=60)
+    made = make()
+    played = play([word], made, longest=60)
     line = played.out.partition(b"\n")[0].decode()
     if line.startswith("order "):
         line = played.out.split(b"\n")[1].decode()
     if played.status == status and line == (line if first is None else first):
-        return fault_of(word, played)
+        fault = fault_of(word, played) or fault_of_order(word, made, played, 60)
+        return fault and f"{name}: {fault}"
     return f"{name}: {word} ended with {played.status}, {line[:80]!r} in place of {status}, {first!r}"
 
 
@@ -98,8 +102,10 @@ def tasks():
             yield "refusal", path, at
     for at, (_, _, wants) in enumerate(limits()):
         for word in WORDS:
-            # Where no first line is given, the status of `check` and a report of some kind are wanted.
-            status, first = wants.get("any") or wants.get(word) or (wants["check"][0], None)
+            # The outcome of a line under `run` is that under `replay` in these inputs. Where no first line is given, the
+            # status of `check` and a report of some kind are wanted.
+            told = wants.get("replay") if word == "run" else wants.get(word)
+            status, first = wants.get("any") or told or (wants["check"][0], None)
             yield "limit", at, word, status, first
 
 

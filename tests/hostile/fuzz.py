@@ -4,7 +4,8 @@ usage: fuzz.py SECONDS [WORD..]
 
 Each input is a session of tests/ or examples/, or one that an earlier change made, with one to six changes of its bytes,
 lines or JSON values. Under each word (WORDS where none is given) it has to end in time with a status of the table and an
-output that the status allows, and the words have to agree on what they refuse. SEED sets the seed, which is printed, and
+output that the status allows, and the words have to agree on what they refuse. What `run` writes has to be what `replay`
+writes of the lines in the order that it shows. SEED sets the seed, which is printed, and
 JOBS how many runs go side by side: the inputs are a function of both. An input at which a run fails is kept in FINDS (a
 new folder where it is absent).
 """
@@ -188,6 +189,8 @@ def tried(data):
     runs = {word: play([word], data) for word in NAMED}
     faults = [it for it in (fault_of(word, played) for word, played in runs.items()) if it]
     if not faults and (fault := fault_between(runs)):
+        faults.append(fault)
+    if not faults and "run" in runs and (fault := fault_of_order("run", data, runs["run"])):
         faults.append(fault)
     return faults, any(it.status == 0 for it in runs.values())
 

@@ -109,7 +109,7 @@ def inputs():
         yield row(f"an op line of {depth} levels", lambda text=text: session(ops=[text]), **ok(1, 2, "4 accepted 0 0; stale"))
     yield row("an op line of 128 levels", lambda: session(ops=[f'{{"c":"a","op":"push","x":{lists(127)}}}']), any=refused(4, 5))
     for line, made in ((1, lambda it: session(schema=it)), (2, lambda it: session(doc=it)), (3, lambda it: session(clients=it))):
-        for depth in (126, 127, 128, 10_000, 300_000):
+        for depth in (100, 126, 127, 128, 200, 10_000, 300_000):
             # An empty list of clients, or one whose entry is a list.
             code = 5 if depth > 127 else 6
             yield row(f"a line {line} of {depth} levels", lambda made=made, depth=depth: made(lists(depth)), any=refused(line, code))
@@ -160,6 +160,11 @@ def documents():
         made = lambda depth=depth, it=wrapped: session({"nodes": QUOTES}, {"type": "doc", "content": [nested(depth, text)]}, None, [it])
         yield row(f"{depth} quotes and one", made, **ok(1, 2 * depth + 2, first))
     yield row("48 quotes", lambda: session({"nodes": QUOTES}, {"type": "doc", "content": [nested(48, text)]}), any=refused(2, 16))
+    for count, first in ((48, "4 made 1"), (49, "4 no fit"), (1000, "4 no fit")):
+        around = [{"name": "z"}, *({"name": f"t{it}", "content": f"t{it - 1}" if it else "z"} for it in range(count))]
+        paste = op(op="paste", **{"from": 0, "to": 0, "slice": {"content": [{"type": "z"}]}})
+        made = lambda count=count, around=around, it=paste: session(nodes(f"(p|t{count - 1})+", around), None, None, [it])
+        yield row(f"a wrapping of {count} types", made, **ok(1, 2, first))
     schema = {"nodes": [{"name": "doc", "content": "p+"}, {"name": "p", "content": "text*", "attrs": {"k": {"default": None}}}, {"name": "text"}]}
     for value, code in (
         (lists(3), None),

@@ -3,7 +3,7 @@ import collections, glob, json, multiprocessing, os, re, subprocess, sys, time
 
 TOP = os.path.dirname(os.path.dirname(os.path.dirname(os.path.abspath(__file__))))
 PROGRAM = os.environ.get("PROGRAM", f"{TOP}/crates/pm_program/out/pm_program")
-WORDS = os.environ.get("WORDS", "check replay").split()
+WORDS = os.environ.get("WORDS", "check replay run").split()
 JOBS = int(os.environ.get("JOBS", len(os.sched_getaffinity(0))))
 # The seconds that a run may take.
 LONGEST = 10
@@ -130,18 +130,36 @@ def fault_between(runs):
     return None
 
 
+def in_turn(lines, order):
+    """Whether each client's lines stand in this order as they do in the file."""
+    latest = {}
+    for it in order:
+        client = json.loads(lines[it - 1])["c"]
+        if latest.get(client, 0) > it:
+            return False
+        latest[client] = it
+    return True
+
+
 def same_order(session, out, longest=LONGEST):
     """Whether an output that begins with an order is the report of the session in that order, as `replay` gives it."""
     first, _, report = out.partition(b"\n")
     order = [int(it) for it in first.split()[1:]]
     lines = session.split(b"\n")
-    if first.split()[:1] != [b"order"] or sorted(order) != list(range(4, 4 + len(order))):
+    if first.split()[:1] != [b"order"] or sorted(order) != list(range(4, 4 + len(order))) or not in_turn(lines, order):
         return False
     played = play(["replay"], b"\n".join(lines[:3] + [lines[it - 1] for it in order]) + b"\n", longest=longest)
     told = played.out.split(b"\n")
     outcomes = {order[at]: told[at].partition(b" ")[2] for at in range(len(order))}
     head = [b"%d %s" % (it, outcomes[it]) for it in sorted(order)]
     return played.status == 0 and b"\n".join(head + told[len(order) :]) == report
+
+
+def fault_of_order(word, session, played, longest=LONGEST):
+    """What is wrong with a run whose output begins with an order; None of other words, and of a refusal."""
+    if word != "run" or played.status != 0 or same_order(session, played.out, longest):
+        return None
+    return f"{word} wrote a report that replay does not write of the order {played.out[:80]!r}"
 
 
 def is_answer(word, session, played, whole):
