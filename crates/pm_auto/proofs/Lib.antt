@@ -12,8 +12,10 @@ pub mod ExprLaws
 pub mod TrimLaws
 mod PartLaws
 mod SetLaws
+mod BitLaws
 mod OnceLaws
 mod StateLaws
+mod KnownLaws
 mod TypeLaws
 pub mod TreeLaws
 pub mod AcceptLaws

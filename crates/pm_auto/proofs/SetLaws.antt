@@ -1,14 +1,11 @@
 -- Reading sets of places from one place on.
-use Rattle.std.proofs.Common.{◌≡◌, ℕ, zero, suc, ◌+◌, ◌<◌, List, [], ◌∷◌, ◌++◌, length, drop, get_or, replicate, ◌≤◌, ◌⊎◌, inl, inr, Bool, true, false, ◌||◌, ◌&&◌, cond, eqb, refl, ap, sym, ◌∙◌, subst, arith, add-one, append_assoc}
+use Rattle.std.proofs.Common.{◌≡◌, ℕ, zero, suc, ◌+◌, ◌<◌, List, [], ◌∷◌, ◌++◌, length, drop, get_or, ◌≤◌, Bool, true, false, ◌||◌, ◌&&◌, cond, eqb, refl, sym, ◌∙◌, subst, arith, add-one, append_assoc}
 use Rattle.std.proofs.Math.Seq.{drop-cons}
 use Rattle.std.proofs.lemmas.Bool.{eqb-true}
-use Rattle.std.proofs.lemmas.List.{get_or-replicate, get_or_past, length-replicate}
-use Rattle.pm_auto.proofs.Orders.{le_or_lt}
 use Rattle.pm_auto.specs.declared.places.Row.{Row}
 use Rattle.pm_auto.specs.Core.{when}
 use Rattle.pm_auto.specs.Runs.{look, next_rows, end_rows}
-use Rattle.pm_auto.specs.States.{has, in_order, kinds, once, Below}
-use Rattle.pm_auto.specs.Marks.{chosen}
+use Rattle.pm_auto.specs.States.{has, kinds, once, Below}
 
 pub or-assoc : (a b c : Bool) → a || (b || c) ≡ (a || b) || c
 or-assoc true b c = refl
@@ -27,13 +24,6 @@ pub has-when : (j : ℕ) (b : Bool) (xs ys : List ℕ) → has j (when b xs ++ y
 has-when j true xs ys = has-append j xs ys
 has-when j false xs ys = refl
 
-pub blank-at : (n j : ℕ) → get_or (replicate n false) j false ≡ false
-blank-at n j = at (le_or_lt n j)
-  where
-    at : (n ≤ j) ⊎ (j < n) → get_or (replicate n false) j false ≡ false
-    at (inl h) = get_or_past (replicate n false) j false (omega (arith, length-replicate n false))
-    at (inr h) = get_or-replicate n j false false h
-
 pub drop-past : {X : Type 0} (xs : List X) (i : ℕ) → length xs ≤ i → drop i xs ≡ []
 drop-past [] zero h = refl
 drop-past [] (suc i) h = refl
@@ -51,27 +41,6 @@ eqb-not a b h = at (eqb a b) refl
     at true e = absurd (h (eqb-true a b e))
     at false e = e
 
--- the numbers that are marked are those of the list, in order
-pub chosen-order : (ns : List ℕ) (n : ℕ) (bs : List Bool) (rs : List Row) → length bs ≡ length rs → ((j : ℕ) → j < length bs → get_or bs j false ≡ has (n + j) ns) → chosen n bs ≡ in_order ns n rs
-chosen-order ns n [] [] h f = refl
-chosen-order ns n [] (r ∷ rs) h f = absurd (omega arith)
-chosen-order ns n (b ∷ bs) [] h f = absurd (omega arith)
-chosen-order ns n (b ∷ bs) (r ∷ rs) h f =
-    let z : n + 0 ≡ n = omega arith in
-    let e : b ≡ has n ns = f 0 (omega arith) ∙ ap (λ (k : ℕ). has k ns) z in
-    let i : chosen (suc n) bs ≡ in_order ns (suc n) rs = chosen-order ns (suc n) bs rs (omega arith) (λ j l. f (suc j) (omega arith) ∙ (let g : n + suc j ≡ suc n + j = omega arith in ap (λ (k : ℕ). has k ns) g)) in
-    rw (e, i) refl
-
--- marks that were set on blank ones are those of the list
-pub marks-order : (ns : List ℕ) (bs old : List Bool) (rs : List Row) → length bs ≡ length old → old ≡ replicate (length rs) false
-    → ((j : ℕ) → j < length old → get_or bs j false ≡ (get_or old j false || has j ns)) → chosen 0 bs ≡ in_order ns 0 rs
-marks-order ns bs old rs el eo f =
-    let n : length old ≡ length rs = ap length eo ∙ length-replicate (length rs) false in
-    chosen-order ns 0 bs rs (el ∙ n) (λ j l. f j (omega (arith, el)) ∙ rw (eo, blank-at (length rs) j) (let z : j ≡ 0 + j = omega arith in ap (λ (k : ℕ). has k ns) z))
-
-pub set-order : (ns : List ℕ) (bs : List Bool) (rs : List Row) → length bs ≡ length rs → ((j : ℕ) → j < length bs → get_or bs j false ≡ has j ns) → chosen 0 bs ≡ in_order ns 0 rs
-set-order ns bs rs el f = chosen-order ns 0 bs rs el (λ j l. f j l ∙ (let z : j ≡ 0 + j = omega arith in ap (λ (k : ℕ). has k ns) z))
-
 module _ (rs : List Row) (ps : List ℕ) (i : ℕ) (l : i < length ps) (b : Below (length rs) (drop i ps)) where
   here : drop i ps ≡ get_or ps i 0 ∷ drop (i + 1) ps
   here = drop-cons ps i 0 l ∙ rw add-one refl
@@ -86,7 +55,7 @@ module _ (rs : List Row) (ps : List ℕ) (i : ℕ) (l : i < length ps) (b : Belo
   below-on = both.1
 
   module _ (r : Row) (is : r ≡ get_or rs (get_or ps i 0) r) where
-    row-is : look rs (get_or ps i 0) ≡ r
+    pub row-is : look rs (get_or ps i 0) ≡ r
     row-is = look-get rs (get_or ps i 0) r place-below is
 
     pub end-at : (k : ℕ) → end_rows rs k (drop i ps) ≡ (eqb r.kind k && r.ends) || end_rows rs k (drop (i + 1) ps)

@@ -33,7 +33,7 @@ at-append [] more i h = absurd (omega arith)
 at-append (s ∷ ss) more zero h = refl
 at-append (s ∷ ss) more (suc i) h = at-append ss more i (omega arith)
 
-at-end : (ss : List PlaceSet) (s : PlaceSet) → set_at (ss ++ s ∷ []) (length ss) ≡ s
+pub at-end : (ss : List PlaceSet) (s : PlaceSet) → set_at (ss ++ s ∷ []) (length ss) ≡ s
 at-end [] s = refl
 at-end (x ∷ ss) s = at-end ss s
 

@@ -7,7 +7,8 @@ pub mod Table
 pub mod Numbers
 pub mod Runs
 pub mod States
-pub mod Marks
+pub mod Bits
+pub mod Known
 pub mod Walks
 pub mod Found
 pub mod Types

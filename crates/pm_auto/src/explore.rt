@@ -1,13 +1,16 @@
 //! The states that can be reached, and their edges.
-ghost use Rattle.std.specs.Prelude.{◌≡◌, ◌<◌, Bool, true, false, length, IfOk, IfErr, OnOk, MatchOption};
+ghost use Rattle.std.specs.Prelude.{◌≡◌, ◌<◌, ◌*◌, Bool, true, false, length, IfOk, IfErr, OnOk, MatchOption};
 ghost use Rattle.pm_auto.specs.States.{Below, Apart, Edges_of, Too_many, set_at};
 ghost use Rattle.pm_auto.specs.Automata.{Is_automaton};
+ghost use Rattle.pm_auto.specs.Bits.{as_set, Is_table};
+ghost use Rattle.pm_auto.specs.Known.{All_known};
 ghost use Rattle.pm_auto.specs.Found.{Found, Grows, Placed, Only_wide};
 
 use crate::auto::{Auto, Edge, State};
 use crate::error::AutoError;
+use crate::known::{Known, print, recall};
 use crate::places::Row;
-use crate::sets::{PlaceSet, after, types};
+use crate::sets::{BitSet, PlaceSet, after, as_list, follow_table, types};
 use pm_list::Listed;
 use std::alloc::Global;
 
@@ -50,27 +53,63 @@ fn place(sets: &mut Listed<PlaceSet>, set: PlaceSet) -> Result<State, AutoError>
     Ok(state)
 }
 
+/// The number of the state, which is put at the end where it is new. A state that is known is not made a list of.
+fn reach(
+    alloc: Global,
+    rows: &[Row],
+    sets: &mut Listed<PlaceSet>,
+    known: &mut Listed<Known>,
+    next: BitSet,
+) -> Result<State, AutoError>
+    requires room { length rows.now < 64 * length next.words }
+    requires known { All_known rows.now sets.old known.old }
+    ensures ok { IfOk result (λ t. Placed sets.old (as_set rows.now next) t sets.new) }
+    ensures known { OnOk result (All_known rows.now sets.new known.new) }
+    ensures err { IfErr result (λ e. Only_wide (Apart (as_set rows.now next) sets.old × (999 < length sets.old)) e) }
+{
+    let print = print(&next);
+    if let Some(state) = recall(known.as_slice(), &next, print) {
+        return Ok(state);
+    }
+    let set = as_list(alloc, rows, &next)?;
+    let state = match place(sets, set) {
+        Ok(state) => state,
+        Err(error) => return Err(error),
+    };
+    known.push(Known {
+        set: next,
+        print,
+        state,
+    })?;
+    Ok(state)
+}
+
 /// The edges of a state, one for each type at hand, in the order of their first places. The states that they lead to are put
 /// at the end where they are new.
 fn edges_of(
     alloc: Global,
     rows: &[Row],
+    table: &[Listed<u64>],
     sets: &mut Listed<PlaceSet>,
+    known: &mut Listed<Known>,
     at: State,
 ) -> Result<Listed<Edge>, AutoError>
+    requires table { Is_table rows.now table.now }
     requires found { Found rows.now sets.old }
+    requires known { All_known rows.now sets.old known.old }
     requires within { at < length sets.old }
     ensures edges { IfOk result (λ es. Edges_of rows.now sets.new (set_at sets.old at) es) }
     ensures grows { OnOk result (Grows sets.old sets.new) }
     ensures found { OnOk result (Found rows.now sets.new) }
+    ensures known { OnOk result (All_known rows.now sets.new known.new) }
     ensures err { IfErr result (λ e. Only_wide (Too_many rows.now (set_at sets.old 0)) e) }
 {
     let places = sets.as_slice()[at].places.as_slice();
     let kinds = types(alloc, rows, places)?;
     let mut edges = Listed::new(alloc);
     for kind in kinds.as_slice() {
-        let next = after(alloc, rows, &sets.as_slice()[at], *kind)?;
-        let to = match place(sets, next) {
+        let next = after(alloc, rows, table, &sets.as_slice()[at], *kind)?;
+        let to = match reach(alloc, rows, sets, known, next) {
             Ok(to) => to,
             Err(error) => return Err(error),
         };
@@ -85,12 +124,14 @@ pub fn explore(alloc: Global, rows: &[Row], start: PlaceSet) -> Result<Auto, Aut
     ensures ok { IfOk result (λ a. Is_automaton rows.now start a) }
     ensures err { IfErr result (λ e. Only_wide (Too_many rows.now start) e) }
 {
+    let table = follow_table(alloc, rows)?;
     let mut sets = Listed::new(alloc);
     sets.push(start)?;
+    let mut known: Listed<Known> = Listed::new(alloc);
     let mut edges: Listed<Listed<Edge>> = Listed::new(alloc);
     'states: while edges.len() < sets.len() {
         let at = edges.len();
-        let next = edges_of(alloc, rows, &mut sets, at)?;
+        let next = edges_of(alloc, rows, table.as_slice(), &mut sets, &mut known, at)?;
         edges.push(next)?;
     }
     Ok(Auto { sets, edges })

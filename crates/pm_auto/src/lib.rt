@@ -2,12 +2,14 @@
 #![tactic(auto)]
 
 pub mod auto;
+mod bits;
 mod copies;
 mod edges;
 pub mod error;
 mod explore;
 pub mod expr;
 mod fills;
+mod known;
 mod layout;
 mod mixed;
 pub mod places;

@@ -1,9 +1,10 @@
 //! Sets of places.
-ghost use Rattle.std.specs.Prelude.{◌≡◌, ◌<◌, ℕ, false, List, IfOk, length, ◌||◌, ◌++◌, [], replicate, slice_index_or};
+ghost use Rattle.std.specs.Prelude.{◌≡◌, ◌<◌, ◌*◌, IfOk, length, []};
 ghost use Rattle.pm_auto.specs.Runs.{next_rows, end_rows};
 ghost use Rattle.pm_auto.specs.States.{has, in_order as ordered, step, kinds, once, Below};
-ghost use Rattle.pm_auto.specs.Marks.{Marks, chosen};
+ghost use Rattle.pm_auto.specs.Bits.{picked, as_set, Holds, Is_table};
 
+use crate::bits::{bits_of, is_set, join, no_bits};
 use crate::expr::TypeId;
 use crate::places::Row;
 use pm_list::Listed;
@@ -13,6 +14,13 @@ use std::alloc::{AllocError, Global};
 #[derive(Drop, Debug)]
 pub struct PlaceSet {
     pub places: Listed<usize>,
+    pub ends: bool,
+}
+
+/// A state as bits: the set of the places that may come next, and whether the content may end.
+#[derive(Drop)]
+pub(crate) struct BitSet {
+    pub words: Listed<u64>,
     pub ends: bool,
 }
 
@@ -28,44 +36,23 @@ pub(crate) fn contains(list: &[usize], number: usize) -> bool
     false
 }
 
-/// Marks, none of them set.
-fn blank(alloc: Global, count: usize) -> Result<Vec<bool>, AllocError>
-    ensures { IfOk result (λ v. v.items ≡ replicate count false) }
-{
-    let marks = vec![in alloc; false; count]?;
-    Ok(marks)
-}
-
-/// Marks these numbers, where they have a place.
-fn mark(marks: &mut Vec<bool>, numbers: &[usize])
-    ensures same { length marks.new.items ≡ length marks.old.items }
-    ensures marked { (j : ℕ) → j < length marks.old.items → slice_index_or marks.new.items j false ≡ (slice_index_or marks.old.items j false || has j numbers.now) }
-{
-    for number in numbers {
-        if *number < marks.len() {
-            marks[*number] = true;
-        }
-    }
-}
-
-/// How many marks are set.
-fn count(marks: &[bool]) -> usize {
+/// How many numbers are in the set.
+fn count(words: &[u64]) -> usize {
     let mut count: usize = 0;
-    for marked in marks {
-        if *marked {
-            count = count.saturating_add(1);
-        }
+    for word in words {
+        count = count.saturating_add(word.count_ones() as usize);
     }
     count
 }
 
-/// The marked numbers, ascending. They are counted first, so that the list takes memory once.
-fn choose(alloc: Global, marks: &[bool]) -> Result<Listed<usize>, AllocError>
-    ensures { IfOk result (λ l. l ≡ chosen 0 marks.now) }
+/// The places of the set, ascending. They are counted first, so that the list takes memory once.
+fn choose(alloc: Global, rows: &[Row], words: &[u64]) -> Result<Listed<usize>, AllocError>
+    requires { length rows.now < 64 * length words.now }
+    ensures { IfOk result (λ l. l ≡ picked words.now 0 rows.now) }
 {
-    let mut list = Listed::from_vec(Vec::with_capacity(alloc, count(marks))?);
-    for (number, marked) in marks.iter().enumerate() {
-        if *marked {
+    let mut list = Listed::from_vec(Vec::with_capacity(alloc, count(words))?);
+    for (number, _row) in rows.iter().enumerate() {
+        if is_set(words, number) {
             list.push(number)?;
         }
     }
@@ -80,30 +67,43 @@ pub(crate) fn in_order(
 ) -> Result<Listed<usize>, AllocError>
     ensures { IfOk result (λ l. l ≡ ordered numbers.now 0 rows.now) }
 {
-    let mut marks = blank(alloc, rows.len())?;
-    mark(&mut marks, numbers);
-    choose(alloc, marks.as_slice())
+    let words = bits_of(alloc, rows.len(), numbers)?;
+    choose(alloc, rows, words.as_slice())
 }
 
-/// The marks of the places that may come after those of the type.
+/// For each place the places that may come next, as a set: so the lists are gone through once, and not for each state.
+pub(crate) fn follow_table(alloc: Global, rows: &[Row]) -> Result<Listed<Listed<u64>>, AllocError>
+    ensures { IfOk result (λ t. Is_table rows.now t) }
+{
+    let mut table: Listed<Listed<u64>> = Listed::new(alloc);
+    for row in rows {
+        let words = bits_of(alloc, rows.len(), row.follow.as_slice())?;
+        table.push(words)?;
+    }
+    Ok(table)
+}
+
+/// The set of the places that may come after those of the type.
 fn followers(
     alloc: Global,
     rows: &[Row],
+    table: &[Listed<u64>],
     places: &[usize],
     kind: TypeId,
-) -> Result<Vec<bool>, AllocError>
-    requires { Below (length rows.now) places.now }
-    ensures same { IfOk result (λ v. length v.items ≡ length rows.now) }
-    ensures marks { IfOk result (λ v. Marks v.items (next_rows rows.now kind places.now)) }
+) -> Result<Vec<u64>, AllocError>
+    requires table { Is_table rows.now table.now }
+    requires places { Below (length rows.now) places.now }
+    ensures { IfOk result (λ v. Holds (length rows.now) v.items (next_rows rows.now kind places.now)) }
 {
-    let mut marks = blank(alloc, rows.len())?;
+    let mut words = no_bits(alloc, rows.len() / 64 + 1)?;
     for place in places {
         let row = &rows[*place];
         if row.kind == kind {
-            mark(&mut marks, row.follow.as_slice());
+            let next = &table[*place];
+            join(&mut words, next.as_slice());
         }
     }
-    Ok(marks)
+    Ok(words)
 }
 
 /// Whether one of the places of the type may be the last.
@@ -124,17 +124,31 @@ fn may_end(rows: &[Row], places: &[usize], kind: TypeId) -> bool
 pub(crate) fn after(
     alloc: Global,
     rows: &[Row],
+    table: &[Listed<u64>],
     set: &PlaceSet,
     kind: TypeId,
-) -> Result<PlaceSet, AllocError>
-    requires { Below (length rows.now) set.now.places }
-    ensures { IfOk result (λ s. s ≡ step rows.now kind set.now) }
+) -> Result<BitSet, AllocError>
+    requires table { Is_table rows.now table.now }
+    requires places { Below (length rows.now) set.now.places }
+    ensures room { IfOk result (λ b. length rows.now < 64 * length b.words) }
+    ensures is { IfOk result (λ b. as_set rows.now b ≡ step rows.now kind set.now) }
 {
     let places = set.places.as_slice();
-    let marks = followers(alloc, rows, places, kind)?;
-    Ok(PlaceSet {
-        places: choose(alloc, marks.as_slice())?,
+    let words = followers(alloc, rows, table, places, kind)?;
+    Ok(BitSet {
+        words: Listed::from_vec(words),
         ends: may_end(rows, places, kind),
+    })
+}
+
+/// The state with its places as a list.
+pub(crate) fn as_list(alloc: Global, rows: &[Row], set: &BitSet) -> Result<PlaceSet, AllocError>
+    requires { length rows.now < 64 * length set.now.words }
+    ensures { IfOk result (λ s. s ≡ as_set rows.now set.now) }
+{
+    Ok(PlaceSet {
+        places: choose(alloc, rows, set.words.as_slice())?,
+        ends: set.ends,
     })
 }
 

@@ -16,6 +16,7 @@ states-preserved c =
           (edges-more c.args.rows.now c.states.sets c.edges_of.new.sets c.states.edges c.in_ok-next.next g l inv.2
           (subst (λ (i : ℕ). Edges_of c.args.rows.now c.edges_of.new.sets (set_at c.states.sets i) c.in_ok-next.next) c.len-at.ensures c.in_ok-next.ensures.edges)),
       rw c.in_ok-push-2.ensures.ok (rw (length-append c.states.edges (c.in_ok-next.next ∷ [])) (omega (arith, l, n))),
+      c.in_ok-next.ensures.known,
     )
 
 pub invariant_of-result : goal.invariant_of-result

@@ -1,16 +1,18 @@
-use Rattle.std.proofs.Common.{refl, subst, List, ℕ}
-use Rattle.pm_auto.specs.Marks.{Marks}
+use Rattle.std.proofs.Common.{refl, subst, List, ℕ, length, arith}
+use Rattle.pm_auto.specs.Bits.{Holds}
 use Rattle.pm_auto.specs.Runs.{next_rows}
-use Rattle.pm_auto.proofs.SetLaws.{set-order}
+use Rattle.pm_auto.proofs.BitLaws.{holds-order}
 use Rattle.pm_auto.proofs.sets.after.Goals as goal
 
-pub returns : goal.returns
-returns c =
+pub returns-clause-room : goal.returns-clause-room
+returns-clause-room c = rw c.from_vec.ensures (let n = c.in_ok-words.ensures.room in omega (arith, n))
+
+pub returns-clause-is : goal.returns-clause-is
+returns-clause-is c =
     rw (
-      c.in_ok-choose.ensures,
-      c.as_slice.ensures.value,
+      c.from_vec.ensures,
       c.may_end.ensures,
       c.as_slice-places.ensures,
-      set-order (next_rows c.args.rows.now c.args.kind c.args.set.now.places) c.in_ok-marks.marks.items c.args.rows.now c.in_ok-marks.ensures.same
-          (subst (λ (ps : List ℕ). Marks c.in_ok-marks.marks.items (next_rows c.args.rows.now c.args.kind ps)) c.as_slice-places.ensures c.in_ok-marks.ensures.marks),
+      holds-order (next_rows c.args.rows.now c.args.kind c.args.set.now.places) c.in_ok-words.words.items c.args.rows.now
+          (subst (λ (ps : List ℕ). Holds (length c.args.rows.now) c.in_ok-words.words.items (next_rows c.args.rows.now c.args.kind ps)) c.as_slice-places.ensures c.in_ok-words.ensures),
     ) refl

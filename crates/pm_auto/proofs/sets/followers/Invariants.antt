@@ -1,9 +1,12 @@
-use Rattle.std.proofs.Common.{◌≡◌, ℕ, ◌<◌, length, drop, get_or, false, ◌||◌}
+use Rattle.std.proofs.Common.{◌≡◌, ◌+◌, ◌/◌, ℕ, ◌<◌, length, drop, ◌||◌}
 use Rattle.pm_auto.specs.States.{has, Below}
 use Rattle.pm_auto.specs.Runs.{next_rows}
+use Rattle.pm_auto.specs.Bits.{is_in}
 use Rattle.pm_auto.proofs.sets.followers.Given as goal
 
 abbrev pub invariant-loop-place : goal.invariant-loop-place
-invariant-loop-place l =
-    (length l.marks.items ≡ length l.rows) × (Below (length l.rows) (drop l.place-index l.places))
-    × ((j : ℕ) → j < length l.rows → has j (next_rows l.rows l.kind l.places) ≡ (get_or l.marks.items j false || has j (next_rows l.rows l.kind (drop l.place-index l.places))))
+invariant-loop-place l = record {
+  long : length l.words.items ≡ length l.rows / 64 + 1;
+  below : Below (length l.rows) (drop l.place-index l.places);
+  held : (j : ℕ) → j < length l.rows → has j (next_rows l.rows l.kind l.places) ≡ (is_in l.words.items j || has j (next_rows l.rows l.kind (drop l.place-index l.places)));
+}
