@@ -5,9 +5,9 @@ use Rattle.std.specs.declared.alloc.Global.{Global}
 use Rattle.std.specs.Arc.{arc_value}
 use Rattle.std.proofs.Common.{ap, sym, ◌∙◌, arith, append_assoc}
 use Rattle.pm_sized.specs.declared.chunk.Chunk.{Chunk}
-use Rattle.pm_sized.specs.declared.chunks.Chunks.{Chunks}
+use Rattle.pm_sized.specs.declared.many.Many.{Many}
 use Rattle.pm_sized.specs.Pairs.{chunk_pairs, all_pairs, total_of, IsChunk}
-use Rattle.pm_sized.specs.Parts.{part, values_in, chunk_values, values_of, IsRun, Appended}
+use Rattle.pm_sized.specs.Parts.{part, values_in, chunk_values, many_values, IsRun, Appended}
 use Rattle.pm_sized.proofs.PairLaws.{total_of-append}
 use Rattle.pm_sized.proofs.FindLaws.{Around}
 use Rattle.pm_sized.proofs.PartLaws.{part-at, part-middle, length-values, values-append}
@@ -26,7 +26,7 @@ values-more new now old ps f i t n e a h =
     a.values ∙ (ap (λ z. z ++ part i (i + n) ps) e ∙ (append_assoc old (part f i ps) (part i (i + n) ps) ∙ ap (λ z. old ++ z) (sym (part-at f i (i + n) ps h (omega arith)))))
 
 -- a part of a chunk is a run of all
-pub run-of : {T : Type 0} (s : Chunks (Arc T Global)) (at : ℕ) (c : Arc (Chunk (Arc T Global)) Global) (i from end to : ℕ) (y : Chunk (Arc T Global)) → Around s at c → i ≡ length (all_pairs (take at s.chunks.items)) + from → from ≤ end → end ≤ length (arc_value c).items.items → i + (end - from) ≤ to → IsChunk y → length y.items.items ≡ end - from → chunk_values y ≡ part from end (chunk_values (arc_value c)) → IsRun (values_of s) i to y
+pub run-of : {T : Type 0} (s : Many (Arc T Global)) (at : ℕ) (c : Arc (Chunk (Arc T Global)) Global) (i from end to : ℕ) (y : Chunk (Arc T Global)) → Around s at c → i ≡ length (all_pairs (take at s.chunks.items)) + from → from ≤ end → end ≤ length (arc_value c).items.items → i + (end - from) ≤ to → IsChunk y → length y.items.items ≡ end - from → chunk_values y ≡ part from end (chunk_values (arc_value c)) → IsRun (many_values s) i to y
 run-of s at c i from end to y a at-is o l w k n v =
     let A = all_pairs (take at s.chunks.items) in
     let B = chunk_pairs (arc_value c) in
@@ -34,10 +34,10 @@ run-of s at c i from end to y a at-is o l w k n v =
     let VA = values_in A in
     let VB = values_in B in
     let VC = values_in C in
-    let all : values_of s ≡ VA ++ (VB ++ VC) = ap values_in a.split ∙ (values-append A (B ++ C) ∙ ap (λ z. VA ++ z) (values-append B C)) in
+    let all : many_values s ≡ VA ++ (VB ++ VC) = ap values_in a.split ∙ (values-append A (B ++ C) ∙ ap (λ z. VA ++ z) (values-append B C)) in
     let low : i ≡ length VA + from = omega (arith, at-is, length-values A) in
     let high : i + length y.items.items ≡ length VA + end = omega (arith, low, n, o) in
-    let in-chunk : part i (i + length y.items.items) (values_of s) ≡ part from end VB =
+    let in-chunk : part i (i + length y.items.items) (many_values s) ≡ part from end VB =
     ap (λ z. part i (i + length y.items.items) z) all ∙ (ap (λ z. part z (i + length y.items.items) (VA ++ (VB ++ VC))) low
     ∙ (ap (λ z. part (length VA + from) z (VA ++ (VB ++ VC))) high ∙ part-middle VA VB VC from end o (omega (arith, l, length-values B, a.count)))) in
     record { chunk = k; within = omega (arith, w, n); values = v ∙ sym in-chunk }

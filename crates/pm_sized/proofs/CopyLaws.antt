@@ -1,4 +1,4 @@
--- Chunks that are shared once more.
+-- Many that are shared once more.
 use Rattle.std.specs.Prelude.{◌≡◌, ℕ, ◌+◌, ◌≤◌, ◌<◌, List, [], ◌∷◌, ◌++◌, length, take, drop, get_or}
 use Rattle.std.specs.declared.sync.Arc.{Arc}
 use Rattle.std.specs.declared.alloc.Global.{Global}
@@ -6,8 +6,8 @@ use Rattle.std.specs.Arc.{arc_value}
 use Rattle.std.proofs.Common.{zero, suc, refl, ap, sym, ◌∙◌, subst, arith, length-append}
 use Rattle.std.proofs.lemmas.List.{nil_from_length, take_all, take_more}
 use Rattle.pm_sized.specs.declared.chunk.Chunk.{Chunk}
-use Rattle.pm_sized.specs.declared.chunks.Chunks.{Chunks}
-use Rattle.pm_sized.specs.Pairs.{chunk_pairs, all_pairs, pairs_of, total_of, IsChunk, AreFull, AreChunks, IsLaid}
+use Rattle.pm_sized.specs.declared.many.Many.{Many}
+use Rattle.pm_sized.specs.Pairs.{chunk_pairs, all_pairs, many_pairs, total_of, IsChunk, AreFull, AreChunks, IsMany}
 use Rattle.pm_sized.proofs.PairLaws.{chunk-at, chunk-split, count-chunks, total_of-append}
 
 -- what is shared
@@ -16,8 +16,8 @@ shared [] = []
 shared (c ∷ cs) = arc_value c ∷ shared cs
 
 -- chunks that share what the first i of others do
-pub record Copied {T : Type 0} (made : Chunks T) (all : List (Arc (Chunk T) Global)) (i : ℕ) : Type 0 where
-  pub laid : IsLaid made
+pub record Copied {T : Type 0} (made : Many T) (all : List (Arc (Chunk T) Global)) (i : ℕ) : Type 0 where
+  pub laid : IsMany made
   pub same : shared made.chunks.items ≡ shared (take i all)
 
 module _ {T : Type 0} where
@@ -47,17 +47,17 @@ module _ {T : Type 0} where
   shared-push [] c = refl
   shared-push (d ∷ cs) c = ap (λ z. arc_value d ∷ z) (shared-push cs c)
 
-  pub none-in : (made : Chunks T) → IsLaid made → pairs_of made ≡ [] → made.chunks.items ≡ []
+  pub none-in : (made : Many T) → IsMany made → many_pairs made ≡ [] → made.chunks.items ≡ []
   none-in made h e = nil_from_length made.chunks.items (omega (arith, count-chunks made.chunks.items h.chunks, ap length e))
 
-  pub full-copied : (made : Chunks T) (all : List (Arc (Chunk T) Global)) (i : ℕ) → Copied made all i → AreChunks all → i < length all → AreFull made.chunks.items
+  pub full-copied : (made : Many T) (all : List (Arc (Chunk T) Global)) (i : ℕ) → Copied made all i → AreChunks all → i < length all → AreFull made.chunks.items
   full-copied made all i k h l = full-shared made.chunks.items (take i all) k.same (full-take all i h l)
 
-  pub pairs-copied : (made : Chunks T) (all : List (Arc (Chunk T) Global)) (i : ℕ) → Copied made all i → length all ≤ i → pairs_of made ≡ all_pairs all
+  pub pairs-copied : (made : Many T) (all : List (Arc (Chunk T) Global)) (i : ℕ) → Copied made all i → length all ≤ i → many_pairs made ≡ all_pairs all
   pairs-copied made all i k l = pairs-shared made.chunks.items (take i all) k.same ∙ ap all_pairs (take_all i all l)
 
   -- one chunk more
-  pub copied-more : (made next : Chunks T) (all : List (Arc (Chunk T) Global)) (i : ℕ) (c d : Arc (Chunk T) Global) → Copied made all i → IsLaid next → next.chunks.items ≡ made.chunks.items ++ c ∷ [] → arc_value c ≡ arc_value d → i < length all → d ≡ get_or all i d → Copied next all (i + 1)
+  pub copied-more : (made next : Many T) (all : List (Arc (Chunk T) Global)) (i : ℕ) (c d : Arc (Chunk T) Global) → Copied made all i → IsMany next → next.chunks.items ≡ made.chunks.items ++ c ∷ [] → arc_value c ≡ arc_value d → i < length all → d ≡ get_or all i d → Copied next all (i + 1)
   copied-more made next all i c d k laid e a l is = record {
     laid = laid;
     same = ap shared e ∙ (shared-push made.chunks.items c ∙ (ap (λ z. z ++ arc_value c ∷ []) k.same ∙ (ap (λ z. shared (take i all) ++ z ∷ []) a
@@ -65,7 +65,7 @@ module _ {T : Type 0} where
   }
 
   -- there are no more of them than of the others
-  pub room-copied : (made : Chunks T) (all : List (Arc (Chunk T) Global)) (i : ℕ) (c d : Arc (Chunk T) Global) → Copied made all i → arc_value c ≡ arc_value d → i < length all → d ≡ get_or all i d → total_of (pairs_of made) + total_of (chunk_pairs (arc_value c)) ≤ total_of (all_pairs all)
+  pub room-copied : (made : Many T) (all : List (Arc (Chunk T) Global)) (i : ℕ) (c d : Arc (Chunk T) Global) → Copied made all i → arc_value c ≡ arc_value d → i < length all → d ≡ get_or all i d → total_of (many_pairs made) + total_of (chunk_pairs (arc_value c)) ≤ total_of (all_pairs all)
   room-copied made all i c d k a l is =
       let C = all_pairs (drop (i + 1) all) in
       omega (
@@ -77,7 +77,7 @@ module _ {T : Type 0} where
         total_of-append (chunk_pairs (arc_value d)) C,
       )
 
-  pub few-copied : (made : Chunks T) (all : List (Arc (Chunk T) Global)) (i : ℕ) (c d : Arc (Chunk T) Global) → Copied made all i → arc_value c ≡ arc_value d → i < length all → d ≡ get_or all i d → length (pairs_of made) + length (chunk_pairs (arc_value c)) ≤ length (all_pairs all)
+  pub few-copied : (made : Many T) (all : List (Arc (Chunk T) Global)) (i : ℕ) (c d : Arc (Chunk T) Global) → Copied made all i → arc_value c ≡ arc_value d → i < length all → d ≡ get_or all i d → length (many_pairs made) + length (chunk_pairs (arc_value c)) ≤ length (all_pairs all)
   few-copied made all i c d k a l is =
       let C = all_pairs (drop (i + 1) all) in
       omega (

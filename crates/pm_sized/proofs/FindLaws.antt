@@ -10,8 +10,8 @@ use Rattle.std.proofs.lemmas.Grind.{get_or_default_zero}
 use Rattle.std.proofs.Math.Seq.{take-append-add}
 use Rattle.std.proofs.lemmas.List.{get_or_append_left, get_or-append-add, get_or_past, take_all, take-append-le}
 use Rattle.pm_sized.specs.declared.chunk.Chunk.{Chunk}
-use Rattle.pm_sized.specs.declared.chunks.Chunks.{Chunks}
-use Rattle.pm_sized.specs.Pairs.{measures, paired, chunk_pairs, all_pairs, pairs_of, total_of, IsCounted, IsChunk, AreFull, AreChunks, IsLaid, Stands}
+use Rattle.pm_sized.specs.declared.many.Many.{Many}
+use Rattle.pm_sized.specs.Pairs.{measures, paired, chunk_pairs, all_pairs, many_pairs, total_of, IsCounted, IsChunk, AreFull, AreChunks, IsMany, Stands}
 use Rattle.pm_sized.specs.Bound.{digits, find_bound}
 use Rattle.pm_sized.proofs.HalfLaws.{digits-above}
 use Rattle.pm_sized.proofs.PairLaws.{length-measures, length-chunk, total-chunk, total_of-append, all_pairs-push, chunks-push, chunk-at, count-chunks, chunk-split, chunk-more}
@@ -29,7 +29,7 @@ numbers-push F cs c ss t same h e k l =
     ]
 
 -- chunks with one more behind
-pub laid-push : {T : Type 0} (cs ds : Vec (Arc (Chunk T) Global) Global) (ss ts fs gs : Vec ℕ Global) (total len size count : ℕ) (c : Arc (Chunk T) Global) → ds.items ≡ cs.items ++ c ∷ [] → ts.items ≡ ss.items ++ total ∷ [] → gs.items ≡ fs.items ++ len ∷ [] → IsLaid (record { chunks = cs; starts = ss; firsts = fs; total = total; len = len }) → AreFull cs.items → IsChunk (arc_value c) → size ≡ total_of (chunk_pairs (arc_value c)) → count ≡ length (chunk_pairs (arc_value c)) → total + size < 2 ^ 32 → len + count < 2 ^ 32 → IsLaid (record { chunks = ds; starts = ts; firsts = gs; total = total + size; len = len + count })
+pub laid-push : {T : Type 0} (cs ds : Vec (Arc (Chunk T) Global) Global) (ss ts fs gs : Vec ℕ Global) (total len size count : ℕ) (c : Arc (Chunk T) Global) → ds.items ≡ cs.items ++ c ∷ [] → ts.items ≡ ss.items ++ total ∷ [] → gs.items ≡ fs.items ++ len ∷ [] → IsMany (record { chunks = cs; starts = ss; firsts = fs; total = total; len = len }) → AreFull cs.items → IsChunk (arc_value c) → size ≡ total_of (chunk_pairs (arc_value c)) → count ≡ length (chunk_pairs (arc_value c)) → total + size < 2 ^ 32 → len + count < 2 ^ 32 → IsMany (record { chunks = ds; starts = ts; firsts = gs; total = total + size; len = len + count })
 laid-push {T} cs ds ss ts fs gs total len size count c e es ef h full k size-is count-is bound few =
     let v = chunk_pairs (arc_value c) in
     let P : List (Arc (Chunk T) Global) → Type 0 = AreChunks in
@@ -95,17 +95,17 @@ pub no-steps : (before count : ℕ) → before ≤ before + find_bound count
 no-steps before count = omega arith
 
 -- The pairs before chunk `at`, its own, and those behind; the numbers beside it are those of the pairs before.
-pub record Around {T : Type 0} (s : Chunks T) (at : ℕ) (c : Arc (Chunk T) Global) : Type 0 where
+pub record Around {T : Type 0} (s : Many T) (at : ℕ) (c : Arc (Chunk T) Global) : Type 0 where
   pub chunk : IsChunk (arc_value c)
-  pub split : pairs_of s ≡ all_pairs (take at s.chunks.items) ++ (chunk_pairs (arc_value c) ++ all_pairs (drop (at + 1) s.chunks.items))
+  pub split : many_pairs s ≡ all_pairs (take at s.chunks.items) ++ (chunk_pairs (arc_value c) ++ all_pairs (drop (at + 1) s.chunks.items))
   pub start : get_or s.starts.items at 0 ≡ total_of (all_pairs (take at s.chunks.items))
   pub first : get_or s.firsts.items at 0 ≡ length (all_pairs (take at s.chunks.items))
   pub count : length (chunk_pairs (arc_value c)) ≡ length (arc_value c).items.items
   pub starts_count : length (arc_value c).starts.items ≡ length (arc_value c).items.items
-  pub fits : length (all_pairs (take at s.chunks.items)) + length (arc_value c).items.items ≤ length (pairs_of s)
+  pub fits : length (all_pairs (take at s.chunks.items)) + length (arc_value c).items.items ≤ length (many_pairs s)
   pub first_start : get_or (arc_value c).starts.items 0 0 ≡ 0
 
-module _ {T : Type 0} (s : Chunks T) (at : ℕ) (c : Arc (Chunk T) Global) (h : IsLaid s) (lt : at < length s.chunks.items) (e : c ≡ get_or s.chunks.items at c) where
+module _ {T : Type 0} (s : Many T) (at : ℕ) (c : Arc (Chunk T) Global) (h : IsMany s) (lt : at < length s.chunks.items) (e : c ≡ get_or s.chunks.items at c) where
   pub around : Around s at c
   around =
       let cs = s.chunks.items in
@@ -128,7 +128,7 @@ module _ {T : Type 0} (s : Chunks T) (at : ℕ) (c : Arc (Chunk T) Global) (h : 
       }
 
   -- the chunk ends behind a position that is before the next chunk
-  before-end : (pos : ℕ) → pos < total_of (pairs_of s) → (at + 1 < length s.starts.items → pos < get_or s.starts.items (at + 1) 0) → pos < total_of (all_pairs (take at s.chunks.items)) + total_of (chunk_pairs (arc_value c))
+  before-end : (pos : ℕ) → pos < total_of (many_pairs s) → (at + 1 < length s.starts.items → pos < get_or s.starts.items (at + 1) 0) → pos < total_of (all_pairs (take at s.chunks.items)) + total_of (chunk_pairs (arc_value c))
   before-end pos l next =
       let cs = s.chunks.items in
       let more = ap total_of (chunk-more cs at c lt e) ∙ total_of-append (all_pairs (take at cs)) (chunk_pairs (arc_value c)) in
@@ -138,7 +138,7 @@ module _ {T : Type 0} (s : Chunks T) (at : ℕ) (c : Arc (Chunk T) Global) (h : 
       ]
 
   -- the chunk has the item of a number that is before the next chunk
-  pub item-within : (i : ℕ) → i < length (pairs_of s) → (at + 1 < length s.firsts.items → i < get_or s.firsts.items (at + 1) 0) → i < length (all_pairs (take at s.chunks.items)) + length (arc_value c).items.items
+  pub item-within : (i : ℕ) → i < length (many_pairs s) → (at + 1 < length s.firsts.items → i < get_or s.firsts.items (at + 1) 0) → i < length (all_pairs (take at s.chunks.items)) + length (arc_value c).items.items
   item-within i l next =
       let cs = s.chunks.items in
       let a = around in
@@ -149,7 +149,7 @@ module _ {T : Type 0} (s : Chunks T) (at : ℕ) (c : Arc (Chunk T) Global) (h : 
       ]
 
   -- the place that both searches find
-  pub found-at : (pos i index start : ℕ) → pos < total_of (pairs_of s) → get_or s.starts.items at 0 ≤ pos → (at + 1 < length s.starts.items → pos < get_or s.starts.items (at + 1) 0) → i < length (arc_value c).starts.items → get_or (arc_value c).starts.items i 0 ≤ pos - get_or s.starts.items at 0 → (i + 1 < length (arc_value c).starts.items → pos - get_or s.starts.items at 0 < get_or (arc_value c).starts.items (i + 1) 0) → index ≡ get_or s.firsts.items at 0 + i → start ≡ get_or s.starts.items at 0 + get_or (arc_value c).starts.items i 0 → Stands (pairs_of s) pos index start
+  pub found-at : (pos i index start : ℕ) → pos < total_of (many_pairs s) → get_or s.starts.items at 0 ≤ pos → (at + 1 < length s.starts.items → pos < get_or s.starts.items (at + 1) 0) → i < length (arc_value c).starts.items → get_or (arc_value c).starts.items i 0 ≤ pos - get_or s.starts.items at 0 → (i + 1 < length (arc_value c).starts.items → pos - get_or s.starts.items at 0 < get_or (arc_value c).starts.items (i + 1) 0) → index ≡ get_or s.firsts.items at 0 + i → start ≡ get_or s.starts.items at 0 + get_or (arc_value c).starts.items i 0 → Stands (many_pairs s) pos index start
   found-at pos i index start l low high in-chunk inner-low inner-high index-is start-is =
       let a = around in
       let cs = s.chunks.items in
@@ -175,7 +175,7 @@ paired-item (y ∷ xs) (m ∷ ms) zero x h = refl
 paired-item (y ∷ xs) (m ∷ ms) (suc j) x h = let k : length ms ≡ length xs = omega (arith, h) in paired-item xs ms j x k
 
 -- the item with number i
-pub item-at : {T : Type 0} (s : Chunks T) (at : ℕ) (c : Arc (Chunk T) Global) (i j : ℕ) (x : T) → Around s at c → i ≡ length (all_pairs (take at s.chunks.items)) + j → j < length (arc_value c).items.items → (get_or {A = T × ℕ} (pairs_of s) i (x, 0)).0 ≡ get_or (arc_value c).items.items j x
+pub item-at : {T : Type 0} (s : Many T) (at : ℕ) (c : Arc (Chunk T) Global) (i j : ℕ) (x : T) → Around s at c → i ≡ length (all_pairs (take at s.chunks.items)) + j → j < length (arc_value c).items.items → (get_or {A = T × ℕ} (many_pairs s) i (x, 0)).0 ≡ get_or (arc_value c).items.items j x
 item-at {T} s at c i j x a e l =
     let v = arc_value c in
     let A = all_pairs (take at s.chunks.items) in

@@ -7,9 +7,9 @@ use Rattle.std.specs.Vec.{with_item}
 use Rattle.std.proofs.Common.{zero, suc, refl, ap, sym, ◌∙◌, subst, arith, append_assoc, length-append}
 use Rattle.std.proofs.Math.Seq.{take-append-add}
 use Rattle.pm_sized.specs.declared.chunk.Chunk.{Chunk}
-use Rattle.pm_sized.specs.declared.chunks.Chunks.{Chunks}
-use Rattle.pm_sized.specs.Pairs.{measures, paired, chunk_pairs, all_pairs, pairs_of, total_of, Rises, IsCounted, Grown, IsChunk, IsLaid}
-use Rattle.pm_sized.specs.Parts.{part, all_but_last, values_in, chunk_values, values_of, Unchanged}
+use Rattle.pm_sized.specs.declared.many.Many.{Many}
+use Rattle.pm_sized.specs.Pairs.{measures, paired, chunk_pairs, all_pairs, many_pairs, total_of, Rises, IsCounted, Grown, IsChunk, IsMany}
+use Rattle.pm_sized.specs.Parts.{part, all_but_last, values_in, chunk_values, many_values, Unchanged}
 use Rattle.pm_sized.proofs.PairLaws.{all_pairs-push, total_of-append}
 use Rattle.pm_sized.proofs.FindLaws.{chunk-size, chunk-count}
 use Rattle.pm_sized.proofs.PartLaws.{part-front, values-append, length-values, total-values, few-within}
@@ -43,7 +43,7 @@ pub chunk-grown : {T : Type 0} (c d : Chunk T) (x : T) (m : ℕ) → Grown c x m
 chunk-grown c d x m g l = record { counted = g.counted; some = omega (arith, g.more); most = omega (arith, g.more, l) }
 
 -- another chunk in the place of the last one, by its number
-module _ {T : Type 0} (s : Chunks T) (at : ℕ) (last : Arc (Chunk T) Global) (h : IsLaid s) (lt : at + 1 ≡ length s.chunks.items) (e : last ≡ get_or s.chunks.items at last) where
+module _ {T : Type 0} (s : Many T) (at : ℕ) (last : Arc (Chunk T) Global) (h : IsMany s) (lt : at + 1 ≡ length s.chunks.items) (e : last ≡ get_or s.chunks.items at last) where
   was : s.chunks.items ≡ all_but_last s.chunks.items ++ last ∷ []
   was = let n : at ≡ length s.chunks.items - 1 = omega (arith, lt) in split-last s.chunks.items last (omega (arith, lt)) (e ∙ ap (λ z. get_or s.chunks.items z last) n)
 
@@ -58,26 +58,26 @@ module _ {T : Type 0} (s : Chunks T) (at : ℕ) (last : Arc (Chunk T) Global) (h
     now : set s.chunks.items at d ≡ all_but_last s.chunks.items ++ d ∷ []
     now = set-last s.chunks.items at d lt
 
-    pub pairs-kept : chunk_pairs (arc_value d) ≡ chunk_pairs (arc_value last) → all_pairs (set s.chunks.items at d) ≡ pairs_of s
+    pub pairs-kept : chunk_pairs (arc_value d) ≡ chunk_pairs (arc_value last) → all_pairs (set s.chunks.items at d) ≡ many_pairs s
     pairs-kept same =
         let F = all_but_last s.chunks.items in
         ap all_pairs now ∙ (all_pairs-push F d ∙ (ap (λ z. all_pairs F ++ z) same ∙ (sym (all_pairs-push F last) ∙ ap all_pairs (sym was))))
 
-    pub laid-kept : chunk_pairs (arc_value d) ≡ chunk_pairs (arc_value last) → IsLaid (record { chunks = with_item s.chunks at d; starts = s.starts; firsts = s.firsts; total = s.total; len = s.len })
+    pub laid-kept : chunk_pairs (arc_value d) ≡ chunk_pairs (arc_value last) → IsMany (record { chunks = with_item s.chunks at d; starts = s.starts; firsts = s.firsts; total = s.total; len = s.len })
     laid-kept same =
         let F = all_but_last s.chunks.items in
         laid-last s.chunks (with_item s.chunks at d) s.starts s.firsts s.total s.len s.total s.len last d F was now h k
         (omega (arith, total-last, ap total_of same)) (omega (arith, h.len, length-pushed F s.chunks.items last was, ap length same)) h.bound h.few
 
     module _ (x : T) (m : ℕ) (more : chunk_pairs (arc_value d) ≡ chunk_pairs (arc_value last) ++ (x, m) ∷ []) where
-      pub pairs-more : all_pairs (set s.chunks.items at d) ≡ pairs_of s ++ (x, m) ∷ []
+      pub pairs-more : all_pairs (set s.chunks.items at d) ≡ many_pairs s ++ (x, m) ∷ []
       pairs-more =
           let F = all_but_last s.chunks.items in
           let one : List (T × ℕ) = (x, m) ∷ [] in
           ap all_pairs now ∙ (all_pairs-push F d ∙ (ap (λ z. all_pairs F ++ z) more ∙ (sym (append_assoc (all_pairs F) (chunk_pairs (arc_value last)) one)
           ∙ ap (λ z. z ++ one) (sym (all_pairs-push F last) ∙ ap all_pairs (sym was)))))
 
-      pub laid-more : s.total + m < 2 ^ 32 → IsLaid (record { chunks = with_item s.chunks at d; starts = s.starts; firsts = s.firsts; total = s.total + m; len = s.len + 1 })
+      pub laid-more : s.total + m < 2 ^ 32 → IsMany (record { chunks = with_item s.chunks at d; starts = s.starts; firsts = s.firsts; total = s.total + m; len = s.len + 1 })
       laid-more r =
           let F = all_but_last s.chunks.items in
           let one : List (T × ℕ) = (x, m) ∷ [] in
@@ -97,7 +97,7 @@ but-last-append xs ys h =
     let n : length (xs ++ ys) - 1 ≡ length xs + (length ys - 1) = omega (arith, h, length-append xs ys) in
     ap (λ z. take z (xs ++ ys)) n ∙ take-append-add xs ys (length ys - 1)
 
-module _ {T : Type 0} (s : Chunks (Arc T Global)) (last : Arc (Chunk (Arc T Global)) Global) (h : IsLaid s) (some : 0 < length (values_of s)) (e : last ≡ get_or s.chunks.items (length s.chunks.items - 1) last) where
+module _ {T : Type 0} (s : Many (Arc T Global)) (last : Arc (Chunk (Arc T Global)) Global) (h : IsMany s) (some : 0 < length (many_values s)) (e : last ≡ get_or s.chunks.items (length s.chunks.items - 1) last) where
   split : s.chunks.items ≡ all_but_last s.chunks.items ++ last ∷ []
   split = split-last s.chunks.items last (some-chunks s.chunks.items some) e
 
@@ -107,14 +107,14 @@ module _ {T : Type 0} (s : Chunks (Arc T Global)) (last : Arc (Chunk (Arc T Glob
   pub last-size : (arc_value last).size < 2 ^ 32
   last-size = omega (arith, h.total, h.bound, total-pushed (all_but_last s.chunks.items) s.chunks.items last split, chunk-size (arc_value last) last-one.counted)
 
-  shorter : all_but_last (values_of s) ≡ values_in (all_pairs (all_but_last s.chunks.items)) ++ all_but_last (chunk_values (arc_value last))
+  shorter : all_but_last (many_values s) ≡ values_in (all_pairs (all_but_last s.chunks.items)) ++ all_but_last (chunk_values (arc_value last))
   shorter =
       let VF = values_in (all_pairs (all_but_last s.chunks.items)) in
       let VL = chunk_values (arc_value last) in
       ap all_but_last (values-pushed (all_but_last s.chunks.items) s.chunks.items last split)
       ∙ but-last-append VF VL (omega (arith, length-values (chunk_pairs (arc_value last)), chunk-count (arc_value last) last-one.counted, last-one.some))
 
-  module _ (seen made : Chunk (Arc T Global)) (x : Arc T Global) (n m : ℕ) (same : seen ≡ arc_value last) (n-is : n + 1 ≡ length (arc_value last).items.items) (v : chunk_values made ≡ part 0 n (chunk_values seen)) (k : IsCounted made.items.items made.starts.items made.size) (r : total_of (all_but_last (values_of s)) + m < 2 ^ 32) where
+  module _ (seen made : Chunk (Arc T Global)) (x : Arc T Global) (n m : ℕ) (same : seen ≡ arc_value last) (n-is : n + 1 ≡ length (arc_value last).items.items) (v : chunk_values made ≡ part 0 n (chunk_values seen)) (k : IsCounted made.items.items made.starts.items made.size) (r : total_of (all_but_last (many_values s)) + m < 2 ^ 32) where
     made-is : chunk_values made ≡ all_but_last (chunk_values (arc_value last))
     made-is =
         let at : n ≡ length (chunk_values (arc_value last)) - 1 = omega (arith, n-is, length-values (chunk_pairs (arc_value last)), chunk-count (arc_value last) last-one.counted) in
@@ -152,7 +152,7 @@ module _ {T : Type 0} (s : Chunks (Arc T Global)) (last : Arc (Chunk (Arc T Glob
       pub set-few : IsChunk (arc_value d) → length (all_pairs (all_but_last s.chunks.items)) + length (chunk_pairs (arc_value d)) < 2 ^ 32
       set-few j = omega (arith, set-room, few-within (all_but_last s.chunks.items) (arc_value d) (chunks-take s.chunks.items (length s.chunks.items - 1) h.chunks) j.counted)
 
-      pub set-values : (ds : List (Arc (Chunk (Arc T Global)) Global)) → ds ≡ all_but_last s.chunks.items ++ d ∷ [] → values_in (all_pairs ds) ≡ all_but_last (values_of s) ++ (arc_value x, m) ∷ []
+      pub set-values : (ds : List (Arc (Chunk (Arc T Global)) Global)) → ds ≡ all_but_last s.chunks.items ++ d ∷ [] → values_in (all_pairs ds) ≡ all_but_last (many_values s) ++ (arc_value x, m) ∷ []
       set-values ds f =
           let VF = values_in (all_pairs (all_but_last s.chunks.items)) in
           let L = all_but_last (chunk_values (arc_value last)) in

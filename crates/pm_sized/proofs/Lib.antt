@@ -3,6 +3,7 @@ pub mod PairLaws
 pub mod FindLaws
 pub mod PartLaws
 pub mod LastLaws
+pub mod FewLaws
 pub mod CopyLaws
 pub mod MergeLaws
 pub mod AppendLaws

@@ -6,22 +6,22 @@ use Rattle.std.specs.Arc.{arc_value}
 use Rattle.std.proofs.Common.{refl, ap, sym, ◌∙◌, arith, append_assoc}
 use Rattle.std.proofs.lemmas.List.{take_all}
 use Rattle.pm_sized.specs.declared.chunk.Chunk.{Chunk}
-use Rattle.pm_sized.specs.declared.chunks.Chunks.{Chunks}
-use Rattle.pm_sized.specs.Pairs.{chunk_pairs, all_pairs, pairs_of, total_of, IsChunk, IsLaid}
-use Rattle.pm_sized.specs.Parts.{part, all_but_last, values_in, chunk_values, values_of}
+use Rattle.pm_sized.specs.declared.many.Many.{Many}
+use Rattle.pm_sized.specs.Pairs.{chunk_pairs, all_pairs, many_pairs, total_of, IsChunk, IsMany}
+use Rattle.pm_sized.specs.Parts.{part, all_but_last, values_in, chunk_values, many_values}
 use Rattle.pm_sized.proofs.PairLaws.{total_of-append}
 use Rattle.pm_sized.proofs.FindLaws.{chunk-size, chunk-count}
 use Rattle.pm_sized.proofs.PartLaws.{part-at, part-front, part-all, length-values, total-values, few-within}
 use Rattle.pm_sized.proofs.LastLaws.{split-last, chunk-in, chunks-take, total-pushed, values-pushed}
 
-module _ {T : Type 0} (s : Chunks (Arc T Global)) (last x : Arc (Chunk (Arc T Global)) Global) (h : IsLaid s) (some : 0 < length s.chunks.items) (e : last ≡ get_or s.chunks.items (length s.chunks.items - 1) last) (k : IsChunk (arc_value x)) (r : total_of (values_of s) + total_of (chunk_values (arc_value x)) < 2 ^ 32) where
+module _ {T : Type 0} (s : Many (Arc T Global)) (last x : Arc (Chunk (Arc T Global)) Global) (h : IsMany s) (some : 0 < length s.chunks.items) (e : last ≡ get_or s.chunks.items (length s.chunks.items - 1) last) (k : IsChunk (arc_value x)) (r : total_of (many_values s) + total_of (chunk_values (arc_value x)) < 2 ^ 32) where
   pub last-is : IsChunk (arc_value last)
   last-is = chunk-in (all_but_last s.chunks.items) s.chunks.items last (split-last s.chunks.items last some e) h.chunks
 
-  total-split : total_of (values_of s) ≡ total_of (all_pairs (all_but_last s.chunks.items)) + total_of (chunk_pairs (arc_value last))
-  total-split = total-values (pairs_of s) ∙ total-pushed (all_but_last s.chunks.items) s.chunks.items last (split-last s.chunks.items last some e)
+  total-split : total_of (many_values s) ≡ total_of (all_pairs (all_but_last s.chunks.items)) + total_of (chunk_pairs (arc_value last))
+  total-split = total-values (many_pairs s) ∙ total-pushed (all_but_last s.chunks.items) s.chunks.items last (split-last s.chunks.items last some e)
 
-  values-split : values_of s ≡ values_in (all_pairs (all_but_last s.chunks.items)) ++ chunk_values (arc_value last)
+  values-split : many_values s ≡ values_in (all_pairs (all_but_last s.chunks.items)) ++ chunk_values (arc_value last)
   values-split = values-pushed (all_but_last s.chunks.items) s.chunks.items last (split-last s.chunks.items last some e)
 
   pub room-both : (arc_value last).size + (arc_value x).size < 2 ^ 32
@@ -50,7 +50,7 @@ module _ {T : Type 0} (s : Chunks (Arc T Global)) (last x : Arc (Chunk (Arc T Gl
     pub all-few : IsChunk (arc_value y) → length (all_pairs (all_but_last s.chunks.items)) + length (chunk_pairs (arc_value y)) < 2 ^ 32
     all-few m = omega (arith, all-room, few-within (all_but_last s.chunks.items) (arc_value y) (chunks-take s.chunks.items (length s.chunks.items - 1) h.chunks) m.counted)
 
-    pub all-values : (ds : List (Arc (Chunk (Arc T Global)) Global)) → ds ≡ all_but_last s.chunks.items ++ y ∷ [] → values_in (all_pairs ds) ≡ values_of s ++ chunk_values (arc_value x)
+    pub all-values : (ds : List (Arc (Chunk (Arc T Global)) Global)) → ds ≡ all_but_last s.chunks.items ++ y ∷ [] → values_in (all_pairs ds) ≡ many_values s ++ chunk_values (arc_value x)
     all-values ds is =
         let B = values_in (all_pairs (all_but_last s.chunks.items)) in
         let L = chunk_values (arc_value last) in
@@ -81,7 +81,7 @@ module _ {T : Type 0} (s : Chunks (Arc T Global)) (last x : Arc (Chunk (Arc T Gl
           total-values (chunk_pairs (arc_value last)),
         )
 
-    pub both-values : (ds : List (Arc (Chunk (Arc T Global)) Global)) → ds ≡ (all_but_last s.chunks.items ++ y ∷ []) ++ w ∷ [] → values_in (all_pairs ds) ≡ values_of s ++ chunk_values (arc_value x)
+    pub both-values : (ds : List (Arc (Chunk (Arc T Global)) Global)) → ds ≡ (all_but_last s.chunks.items ++ y ∷ []) ++ w ∷ [] → values_in (all_pairs ds) ≡ many_values s ++ chunk_values (arc_value x)
     both-values ds is =
         let front-y = all_but_last s.chunks.items ++ y ∷ [] in
         let B = values_in (all_pairs (all_but_last s.chunks.items)) in

@@ -7,8 +7,8 @@ use Rattle.std.specs.Arc.{arc_value}
 use Rattle.std.proofs.Common.{zero, suc, refl, ap, sym, ◌∙◌, subst, arith, append_assoc, length-append}
 use Rattle.std.proofs.lemmas.List.{append-nil, nil_from_length, take_more, drop_more, take-append-drop}
 use Rattle.pm_sized.specs.declared.chunk.Chunk.{Chunk}
-use Rattle.pm_sized.specs.declared.chunks.Chunks.{Chunks}
-use Rattle.pm_sized.specs.Pairs.{measures, paired, chunk_pairs, all_pairs, total_of, EachCounts, Rises, IsCounted, Grown, IsChunk, AreFull, AreChunks, pairs_of, IsBuilt, built_pairs}
+use Rattle.pm_sized.specs.declared.many.Many.{Many}
+use Rattle.pm_sized.specs.Pairs.{measures, paired, chunk_pairs, all_pairs, total_of, EachCounts, Rises, IsCounted, Grown, IsChunk, AreFull, AreChunks, many_pairs, IsBuilt, built_pairs}
 
 -- one measure more
 measures-push : (ss : List ℕ) (e m : ℕ) → measures (ss ++ e ∷ []) (e + m) ≡ measures ss e ++ m ∷ []
@@ -153,14 +153,14 @@ counts-behind (p ∷ ps) x rest h = counts-behind ps x rest h.1
 pub item-counts : {T : Type 0} (ps : List (T × ℕ)) (x : T × ℕ) (rest all : List (T × ℕ)) → ps ++ x ∷ rest ≡ all → EachCounts all → 1 ≤ x.1
 item-counts ps x rest all e h = counts-behind ps x rest (subst EachCounts (sym e) h)
 
-pub built-grown : {T : Type 0} (made : Chunks T) (last next : Chunk T) (x : T) (m : ℕ) → IsBuilt made last → length last.items.items < 32 → Grown last x m next → IsBuilt made next
+pub built-grown : {T : Type 0} (made : Many T) (last next : Chunk T) (x : T) (m : ℕ) → IsBuilt made last → length last.items.items < 32 → Grown last x m next → IsBuilt made next
 built-grown made last next x m b l h = record { laid = b.laid; full = b.full; counted = h.counted; most = omega (arith, l, h.more) }
 
 -- one item more was gone through
-pub pairs-grown : {T : Type 0} (made : Chunks T) (last next : Chunk T) (x : T) (m : ℕ) (before old rest all : List (T × ℕ)) → Grown last x m next → built_pairs made last ≡ before → old ≡ (x, m) ∷ rest → before ++ old ≡ all → built_pairs made next ++ rest ≡ all
+pub pairs-grown : {T : Type 0} (made : Many T) (last next : Chunk T) (x : T) (m : ℕ) (before old rest all : List (T × ℕ)) → Grown last x m next → built_pairs made last ≡ before → old ≡ (x, m) ∷ rest → before ++ old ≡ all → built_pairs made next ++ rest ≡ all
 pairs-grown {T} made last next x m before old rest all h same step e =
     let p : T × ℕ = (x, m) in
-    let P = pairs_of made in
+    let P = many_pairs made in
     let B = chunk_pairs last in
     ap (λ z. (P ++ z) ++ rest) h.pairs ∙ (ap (λ z. z ++ rest) (sym (append_assoc P B (p ∷ []))) ∙ (append_assoc (P ++ B) (p ∷ []) rest
     ∙ (ap (λ z. z ++ p ∷ rest) same ∙ (ap (λ z. before ++ z) (sym step) ∙ e))))

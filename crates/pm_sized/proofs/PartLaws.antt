@@ -164,7 +164,7 @@ counts-paired [] ss e h = tt
 counts-paired (x ∷ xs) [] e h = tt
 counts-paired (x ∷ xs) (s ∷ ss) e h = (omega (arith, h.0), counts-paired xs ss e h.1)
 
-counts-append : {T : Type 0} (ps qs : List (T × ℕ)) → EachCounts ps → EachCounts qs → EachCounts (ps ++ qs)
+pub counts-append : {T : Type 0} (ps qs : List (T × ℕ)) → EachCounts ps → EachCounts qs → EachCounts (ps ++ qs)
 counts-append [] qs h k = k
 counts-append (p ∷ ps) qs h k = (h.0, counts-append ps qs h.1 k)
 

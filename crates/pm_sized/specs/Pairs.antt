@@ -4,7 +4,10 @@ use Rattle.std.specs.declared.sync.Arc.{Arc}
 use Rattle.std.specs.declared.alloc.Global.{Global}
 use Rattle.std.specs.Arc.{arc_value}
 use Rattle.pm_sized.specs.declared.chunk.Chunk.{Chunk}
+use Rattle.pm_sized.specs.declared.few.Few.{Few}
+use Rattle.pm_sized.specs.declared.many.Many.{Many}
 use Rattle.pm_sized.specs.declared.chunks.Chunks.{Chunks}
+use Rattle.pm_sized.specs.declared.chunks.Chunks.TheVariants.{Few as AsFew, Many as AsMany}
 
 -- the measures of items that begin at these starts, where the last one ends at `end`
 abbrev pub measures : List ℕ → ℕ → List ℕ
@@ -25,8 +28,13 @@ abbrev pub all_pairs : {T : Type 0} → List (Arc (Chunk T) Global) → List (T 
 all_pairs [] = []
 all_pairs (c ∷ cs) = chunk_pairs (arc_value c) ++ all_pairs cs
 
+abbrev pub many_pairs : {T : Type 0} → Many T → List (T × ℕ)
+many_pairs c = all_pairs c.chunks.items
+
+-- Items in order, each with its measure, however they lie.
 abbrev pub pairs_of : {T : Type 0} → Chunks T → List (T × ℕ)
-pairs_of c = all_pairs c.chunks.items
+pairs_of (AsFew f) = f.items.items
+pairs_of (AsMany m) = many_pairs m
 
 -- the sum of the measures
 abbrev pub total_of : {T : Type 0} → List (T × ℕ) → ℕ
@@ -73,16 +81,28 @@ AreChunks [] = Unit {0}
 AreChunks (c ∷ cs) = IsChunk (arc_value c) × (0 < length cs → 32 ≤ length (arc_value c).items.items) × AreChunks cs
 
 -- The chunks lie as they should: beside each stand the sum of the measures and the number of the items before it.
-pub record IsLaid {T : Type 0} (c : Chunks T) : Type 0 where
+pub record IsMany {T : Type 0} (c : Many T) : Type 0 where
   pub chunks : AreChunks c.chunks.items
   pub starts_count : length c.starts.items ≡ length c.chunks.items
   pub firsts_count : length c.firsts.items ≡ length c.chunks.items
   pub starts : (k : ℕ) → k < length c.chunks.items → get_or c.starts.items k 0 ≡ total_of (all_pairs (take k c.chunks.items))
   pub firsts : (k : ℕ) → k < length c.chunks.items → get_or c.firsts.items k 0 ≡ length (all_pairs (take k c.chunks.items))
-  pub total : c.total ≡ total_of (pairs_of c)
-  pub len : c.len ≡ length (pairs_of c)
+  pub total : c.total ≡ total_of (many_pairs c)
+  pub len : c.len ≡ length (many_pairs c)
   pub bound : c.total < 2 ^ 32
   pub few : c.len < 2 ^ 32
+
+-- Few items, each with its measure: there are at most six.
+pub record IsFew {T : Type 0} (f : Few T) : Type 0 where
+  pub counts : EachCounts f.items.items
+  pub most : length f.items.items ≤ 6
+  pub total : f.total ≡ total_of f.items.items
+  pub bound : f.total < 2 ^ 32
+
+-- The items lie as they should.
+abbrev pub IsLaid : {T : Type 0} → Chunks T → Type 0
+IsLaid (AsFew f) = IsFew f
+IsLaid (AsMany m) = IsMany m
 
 -- So many items end at or before the position, and their measures sum up to `start`.
 pub record Stands {T : Type 0} (ps : List (T × ℕ)) (pos index start : ℕ) : Type 0 where
@@ -92,12 +112,12 @@ pub record Stands {T : Type 0} (ps : List (T × ℕ)) (pos index start : ℕ) : 
   pub next : index < length ps → pos < total_of (take (index + 1) ps)
 
 -- the pairs of chunks that are being made, and then those of the growing chunk
-abbrev pub built_pairs : {T : Type 0} → Chunks T → Chunk T → List (T × ℕ)
-built_pairs made tail = pairs_of made ++ chunk_pairs tail
+abbrev pub built_pairs : {T : Type 0} → Many T → Chunk T → List (T × ℕ)
+built_pairs made tail = many_pairs made ++ chunk_pairs tail
 
 -- The chunks that were made have 32 items or more, and the growing one at most so many.
-pub record IsBuilt {T : Type 0} (made : Chunks T) (tail : Chunk T) : Type 0 where
-  pub laid : IsLaid made
+pub record IsBuilt {T : Type 0} (made : Many T) (tail : Chunk T) : Type 0 where
+  pub laid : IsMany made
   pub full : AreFull made.chunks.items
   pub counted : IsCounted tail.items.items tail.starts.items tail.size
   pub most : length tail.items.items ≤ 32

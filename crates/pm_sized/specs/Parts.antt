@@ -4,8 +4,10 @@ use Rattle.std.specs.declared.sync.Arc.{Arc}
 use Rattle.std.specs.declared.alloc.Global.{Global}
 use Rattle.std.specs.Arc.{arc_value}
 use Rattle.pm_sized.specs.declared.chunk.Chunk.{Chunk}
+use Rattle.pm_sized.specs.declared.many.Many.{Many}
 use Rattle.pm_sized.specs.declared.chunks.Chunks.{Chunks}
-use Rattle.pm_sized.specs.Pairs.{chunk_pairs, pairs_of, IsChunk}
+use Rattle.pm_sized.specs.declared.chunks.Chunks.TheVariants.{Few as AsFew, Many as AsMany}
+use Rattle.pm_sized.specs.Pairs.{chunk_pairs, many_pairs, pairs_of, IsChunk, IsMany}
 
 -- those from number `from` on and before number `to`
 abbrev pub part : {A : Type 0} → ℕ → ℕ → List A → List A
@@ -27,8 +29,21 @@ values_in (p ∷ ps) = (arc_value p.0, p.1) ∷ values_in ps
 abbrev pub chunk_values : {T : Type 0} → Chunk (Arc T Global) → List (T × ℕ)
 chunk_values c = values_in (chunk_pairs c)
 
+abbrev pub many_values : {T : Type 0} → Many (Arc T Global) → List (T × ℕ)
+many_values c = values_in (many_pairs c)
+
 abbrev pub values_of : {T : Type 0} → Chunks (Arc T Global) → List (T × ℕ)
 values_of c = values_in (pairs_of c)
+
+-- items that lie in no chunk are fewer than so many
+abbrev pub IsBelow : {T : Type 0} → ℕ → Chunks T → Type 0
+IsBelow least (AsFew f) = length f.items.items < least
+IsBelow least (AsMany m) = Unit {0}
+
+-- the same values in chunks, or fewer items than so many, or items that lie in chunks
+abbrev pub Widened : {T : Type 0} → ℕ → Chunks (Arc T Global) → Option (Many (Arc T Global)) → Type 0
+Widened least c None = IsBelow least c
+Widened least c (Some m) = IsMany m × (many_values m ≡ values_of c)
 
 -- a chunk that stayed as it was
 pub record Unchanged {T : Type 0} (old new : Chunk T) : Type 0 where

@@ -1,18 +1,16 @@
 //! Runs of shared items, behind the others and as chunks of their own.
 ghost use Rattle.std.specs.Prelude.{◌≡◌, ◌+◌, ◌<◌, ◌≤◌, ◌^◌, ◌++◌, length, IfOk, OnOk, OnErr};
-ghost use Rattle.std.specs.Arc.{arc_value};
-ghost use Rattle.pm_sized.specs.Pairs.{total_of, IsLaid};
-ghost use Rattle.pm_sized.specs.Parts.{part, values_of, IsRun, Appended, HasFirst};
+ghost use Rattle.pm_sized.specs.Pairs.{total_of, IsLaid, IsFew, IsMany};
+ghost use Rattle.pm_sized.specs.Parts.{part, values_in, many_values, values_of, Appended, HasFirst};
 
-use crate::chunk::Chunk;
 use crate::chunks::Chunks;
-use crate::halves::place;
-use crate::runs::run;
+use crate::few::Few;
+use crate::many::Many;
 use std::alloc::{AllocError, Global};
 use std::sync::Arc;
 
 impl<T: Drop> Chunks<Arc<T, Global>> {
-    /// The items from..to, in chunks of their own, of which each that lies between them is shared with these.
+    /// The items from..to, as chunks of their own, of which each that lies between them is shared with these.
     pub fn cut(
         &self,
         alloc: Global,
@@ -55,7 +53,7 @@ impl<T: Drop> Chunks<Arc<T, Global>> {
         Ok(())
     }
 
-    /// Puts behind the last item those from item `i` on that lie in its chunk and before `to`. It answers how many.
+    /// Puts behind the last item item `i`, with those from it on that lie in its chunk and before `to`. It answers how many.
     fn append_next(
         &mut self,
         alloc: Global,
@@ -72,32 +70,56 @@ impl<T: Drop> Chunks<Arc<T, Global>> {
         ensures ok { IfOk result (λ n. Appended (values_of self.old) (values_of source.now) i to n (values_of self.new)) }
         ensures err { OnErr result (values_of self.new ≡ values_of self.old) }
     {
+        match source {
+            Chunks::Few(few) => {
+                self.append_one(alloc, few, i)?;
+                Ok(1)
+            }
+            Chunks::Many(many) => self.append_run(alloc, many, i, to),
+        }
+    }
+
+    /// Puts item `i` of few behind the last one, shared with them.
+    fn append_one(
+        &mut self,
+        alloc: Global,
+        source: &Few<Arc<T, Global>>,
+        i: usize,
+    ) -> Result<(), AllocError>
+        requires laid { IsLaid self.old }
+        requires source { IsFew source.now }
+        requires within { i < length source.now.items.items }
+        requires room { total_of (values_of self.old) + total_of (part i (i + 1) (values_in source.now.items.items)) < 2 ^ 32 }
+        ensures laid { IsLaid self.new }
+        ensures ok { OnOk result (values_of self.new ≡ values_of self.old ++ part i (i + 1) (values_in source.now.items.items)) }
+        ensures err { OnErr result (values_of self.new ≡ values_of self.old) }
+    {
+        let entry = &source.items[i];
+        let item = Arc::try_clone(&entry.0)?;
+        self.push(alloc, item, entry.1)?;
+        Ok(())
+    }
+
+    /// Puts behind the last item those from item `i` on that lie in its chunk and before `to`. It answers how many.
+    fn append_run(
+        &mut self,
+        alloc: Global,
+        source: &Many<Arc<T, Global>>,
+        i: usize,
+        to: usize,
+    ) -> Result<usize, AllocError>
+        requires laid { IsLaid self.old }
+        requires source { IsMany source.now }
+        requires some { i < to }
+        requires within { to ≤ length (many_values source.now) }
+        requires room { total_of (values_of self.old) + total_of (part i to (many_values source.now)) < 2 ^ 32 }
+        ensures laid { IsLaid self.new }
+        ensures ok { IfOk result (λ n. Appended (values_of self.old) (many_values source.now) i to n (values_of self.new)) }
+        ensures err { OnErr result (values_of self.new ≡ values_of self.old) }
+    {
         let chunk = source.run_at(alloc, i, to)?;
         let count = chunk.items.len();
         self.put(alloc, chunk)?;
         Ok(count)
-    }
-
-    /// The items from item `i` on that lie in its chunk and before `to`: that chunk where they are all of it.
-    fn run_at(
-        &self,
-        alloc: Global,
-        i: usize,
-        to: usize,
-    ) -> Result<Arc<Chunk<Arc<T, Global>>, Global>, AllocError>
-        requires laid { IsLaid self.now }
-        requires some { i < to }
-        requires within { to ≤ length (values_of self.now) }
-        ensures { IfOk result (λ c. IsRun (values_of self.now) i to (arc_value c)) }
-    {
-        let at = place(&self.firsts, i);
-        let chunk = &self.chunks[at];
-        let from = i - self.firsts[at];
-        let count = chunk.items.len();
-        let end = count.min(from + (to - i));
-        if from == 0 && end == count {
-            return Ok(Arc::try_clone(chunk)?);
-        }
-        Ok(run(alloc, chunk, from, end)?)
     }
 }

@@ -1,10 +1,12 @@
 //! Where a position stands.
 ghost use Rattle.std.specs.Prelude.{◌≡◌, ◌<◌, ◌≤◌, ◌+◌, length};
-ghost use Rattle.pm_sized.specs.Pairs.{pairs_of, total_of, IsLaid, Stands};
+ghost use Rattle.pm_sized.specs.Pairs.{pairs_of, many_pairs, total_of, IsLaid, IsFew, IsMany, Stands};
 ghost use Rattle.pm_sized.specs.Bound.{find_bound};
 
 use crate::chunks::Chunks;
+use crate::few::Few;
 use crate::halves::search;
+use crate::many::Many;
 use crate::steps::Steps;
 use std::marker::Brand;
 use std::sync::ledger::{Blank, Ledger};
@@ -27,21 +29,12 @@ impl<T> Chunks<T> {
         ensures found { Stands (pairs_of self.now) pos result.index result.start }
         ensures steps { steps.new ≤ steps.old + find_bound (length (pairs_of self.now)) }
     {
-        if pos == self.total {
-            return Found {
-                index: self.len,
-                start: self.total,
-            };
-        }
-        let at = search(&self.starts, pos, steps);
-        let chunk = &self.chunks[at];
-        let start = self.starts[at];
-        let i = search(&chunk.starts, pos - start, steps);
-        Found {
-            index: self.firsts[at] + i,
-            start: start + chunk.starts[i],
+        match self {
+            Chunks::Few(few) => few.find(pos, steps),
+            Chunks::Many(many) => many.find(pos, steps),
         }
     }
+
     /// The same, where nobody counts. It takes no memory.
     pub fn locate(&self, pos: usize) -> Found
         requires laid { IsLaid self.now }
@@ -62,4 +55,52 @@ fn find_with<T, L: Ledger>(blank: Blank, chunks: &Chunks<T>, pos: usize) -> Foun
 {
     let mut steps: Steps<L> = Steps::open(blank);
     chunks.find(pos, &mut steps)
+}
+
+impl<T> Few<T> {
+    /// Where a position stands, by one item after another.
+    fn find<L: Ledger>(&self, pos: usize, steps: &mut Steps<L>) -> Found
+        requires few { IsFew self.now }
+        requires within { pos ≤ total_of self.now.items.items }
+        ensures found { Stands self.now.items.items pos result.index result.start }
+        ensures steps { steps.new ≤ steps.old + length self.now.items.items }
+    {
+        let mut start = 0;
+        for (index, entry) in self.items.iter().enumerate() {
+            let end = start + entry.1;
+            if !steps.reaches(&end, pos) {
+                return Found { index, start };
+            }
+            start = end;
+        }
+        Found {
+            index: self.items.len(),
+            start,
+        }
+    }
+}
+
+impl<T> Many<T> {
+    /// Where a position stands, by halves: first its chunk, then the item in it.
+    fn find<L: Ledger>(&self, pos: usize, steps: &mut Steps<L>) -> Found
+        requires laid { IsMany self.now }
+        requires within { pos ≤ total_of (many_pairs self.now) }
+        ensures found { Stands (many_pairs self.now) pos result.index result.start }
+        ensures steps { steps.new ≤ steps.old + find_bound (length (many_pairs self.now)) }
+    {
+        if pos == self.total {
+            return Found {
+                index: self.len,
+                start: self.total,
+            };
+        }
+        let at = search(&self.starts, pos, steps);
+        let chunk = &self.chunks[at];
+        let start = self.starts[at];
+        let i = search(&chunk.starts, pos - start, steps);
+        Found {
+            index: self.firsts[at] + i,
+            start: start + chunk.starts[i],
+        }
+    }
 }

@@ -1,11 +1,11 @@
-//! Shared items, one by one behind the others, and chunks of them.
+//! Shared items in chunks, one by one behind the others, and chunks of them.
 ghost use Rattle.std.specs.Prelude.{◌≡◌, ◌+◌, ◌-◌, ◌<◌, ◌≤◌, ◌^◌, [], ◌∷◌, ◌++◌, length, take, true, false, IfOk, OnOk, OnErr};
 ghost use Rattle.std.specs.Arc.{arc_value};
-ghost use Rattle.pm_sized.specs.Pairs.{pairs_of, all_pairs, chunk_pairs, total_of, IsLaid, IsChunk, AreFull};
-ghost use Rattle.pm_sized.specs.Parts.{all_but_last, chunk_values, values_of, HasShortLast, HasGrown};
+ghost use Rattle.pm_sized.specs.Pairs.{many_pairs, all_pairs, chunk_pairs, total_of, IsMany, IsChunk, AreFull};
+ghost use Rattle.pm_sized.specs.Parts.{all_but_last, chunk_values, many_values, HasShortLast, HasGrown};
 
 use crate::chunk::Chunk;
-use crate::chunks::{CHUNK, Chunks};
+use crate::many::{CHUNK, Many};
 use crate::runs::{extended, run};
 use std::alloc::{AllocError, Global};
 use std::sync::Arc;
@@ -13,16 +13,16 @@ use std::sync::Arc;
 /// The greatest number of items of a chunk.
 const MOST: usize = 63;
 
-impl<T: Drop> Chunks<T> {
+impl<T: Drop> Many<T> {
     /// Puts an item behind the last one, in its chunk, where that has fewer than 32 items and nothing else shares it. Else the
     /// item comes back, and nothing changes. For want of memory the items stay as they were, and this one is let go.
     fn grow(&mut self, item: T, measure: usize) -> Result<Option<T>, AllocError>
-        requires laid { IsLaid self.old }
+        requires laid { IsMany self.old }
         requires some { 1 ≤ measure }
-        requires room { total_of (pairs_of self.old) + measure < 2 ^ 32 }
-        ensures laid { IsLaid self.new }
-        ensures ok { IfOk result (λ back. HasGrown (pairs_of self.old) item measure back (pairs_of self.new)) }
-        ensures err { OnErr result (pairs_of self.new ≡ pairs_of self.old) }
+        requires room { total_of (many_pairs self.old) + measure < 2 ^ 32 }
+        ensures laid { IsMany self.new }
+        ensures ok { IfOk result (λ back. HasGrown (many_pairs self.old) item measure back (many_pairs self.new)) }
+        ensures err { OnErr result (many_pairs self.new ≡ many_pairs self.old) }
     {
         let count = self.chunks.len();
         if count == 0 || self.chunks[count - 1].items.len() >= CHUNK {
@@ -38,20 +38,20 @@ impl<T: Drop> Chunks<T> {
     }
 }
 
-impl<T: Drop> Chunks<Arc<T, Global>> {
+impl<T: Drop> Many<Arc<T, Global>> {
     /// Puts an item behind the last one. For want of memory the items stay as they were, and this one is let go.
-    pub fn push(
+    pub(crate) fn push(
         &mut self,
         alloc: Global,
         item: Arc<T, Global>,
         measure: usize,
     ) -> Result<(), AllocError>
-        requires laid { IsLaid self.old }
+        requires laid { IsMany self.old }
         requires some { 1 ≤ measure }
-        requires room { total_of (values_of self.old) + measure < 2 ^ 32 }
-        ensures laid { IsLaid self.new }
-        ensures ok { OnOk result (values_of self.new ≡ values_of self.old ++ (arc_value item, measure) ∷ []) }
-        ensures err { OnErr result (values_of self.new ≡ values_of self.old) }
+        requires room { total_of (many_values self.old) + measure < 2 ^ 32 }
+        ensures laid { IsMany self.new }
+        ensures ok { OnOk result (many_values self.new ≡ many_values self.old ++ (arc_value item, measure) ∷ []) }
+        ensures err { OnErr result (many_values self.new ≡ many_values self.old) }
     {
         if let Some(item) = self.grow(item, measure)? {
             let mut one = Chunk::new(alloc);
@@ -62,19 +62,19 @@ impl<T: Drop> Chunks<Arc<T, Global>> {
     }
 
     /// Puts an item in the place of the last one. For want of memory that one stays.
-    pub fn set_last(
+    pub(crate) fn set_last(
         &mut self,
         alloc: Global,
         item: Arc<T, Global>,
         measure: usize,
     ) -> Result<(), AllocError>
-        requires laid { IsLaid self.old }
-        requires some { 0 < length (values_of self.old) }
+        requires laid { IsMany self.old }
+        requires some { 0 < length (many_values self.old) }
         requires counts { 1 ≤ measure }
-        requires room { total_of (all_but_last (values_of self.old)) + measure < 2 ^ 32 }
-        ensures laid { IsLaid self.new }
-        ensures ok { OnOk result (values_of self.new ≡ all_but_last (values_of self.old) ++ (arc_value item, measure) ∷ []) }
-        ensures err { OnErr result (values_of self.new ≡ values_of self.old) }
+        requires room { total_of (all_but_last (many_values self.old)) + measure < 2 ^ 32 }
+        ensures laid { IsMany self.new }
+        ensures ok { OnOk result (many_values self.new ≡ all_but_last (many_values self.old) ++ (arc_value item, measure) ∷ []) }
+        ensures err { OnErr result (many_values self.new ≡ many_values self.old) }
     {
         let last = &self.chunks[self.chunks.len() - 1];
         let mut made = Chunk::new(alloc);
@@ -92,12 +92,12 @@ impl<T: Drop> Chunks<Arc<T, Global>> {
         alloc: Global,
         chunk: Arc<Chunk<Arc<T, Global>>, Global>,
     ) -> Result<(), AllocError>
-        requires laid { IsLaid self.old }
+        requires laid { IsMany self.old }
         requires chunk { IsChunk (arc_value chunk) }
-        requires room { total_of (values_of self.old) + total_of (chunk_values (arc_value chunk)) < 2 ^ 32 }
-        ensures laid { IsLaid self.new }
-        ensures ok { OnOk result (values_of self.new ≡ values_of self.old ++ chunk_values (arc_value chunk)) }
-        ensures err { OnErr result (values_of self.new ≡ values_of self.old) }
+        requires room { total_of (many_values self.old) + total_of (chunk_values (arc_value chunk)) < 2 ^ 32 }
+        ensures laid { IsMany self.new }
+        ensures ok { OnOk result (many_values self.new ≡ many_values self.old ++ chunk_values (arc_value chunk)) }
+        ensures err { OnErr result (many_values self.new ≡ many_values self.old) }
     {
         if self.ends_short() {
             return self.merge(alloc, chunk);
@@ -108,7 +108,7 @@ impl<T: Drop> Chunks<Arc<T, Global>> {
 
     /// Whether there is a last chunk, of fewer than 32 items.
     fn ends_short(&self) -> bool
-        requires laid { IsLaid self.now }
+        requires laid { IsMany self.now }
         ensures yes { result ≡ true → HasShortLast self.now.chunks.items }
         ensures no { result ≡ false → AreFull self.now.chunks.items }
     {
@@ -123,13 +123,13 @@ impl<T: Drop> Chunks<Arc<T, Global>> {
         alloc: Global,
         chunk: Arc<Chunk<Arc<T, Global>>, Global>,
     ) -> Result<(), AllocError>
-        requires laid { IsLaid self.old }
+        requires laid { IsMany self.old }
         requires short { HasShortLast self.old.chunks.items }
         requires chunk { IsChunk (arc_value chunk) }
-        requires room { total_of (values_of self.old) + total_of (chunk_values (arc_value chunk)) < 2 ^ 32 }
-        ensures laid { IsLaid self.new }
-        ensures ok { OnOk result (values_of self.new ≡ values_of self.old ++ chunk_values (arc_value chunk)) }
-        ensures err { OnErr result (values_of self.new ≡ values_of self.old) }
+        requires room { total_of (many_values self.old) + total_of (chunk_values (arc_value chunk)) < 2 ^ 32 }
+        ensures laid { IsMany self.new }
+        ensures ok { OnOk result (many_values self.new ≡ many_values self.old ++ chunk_values (arc_value chunk)) }
+        ensures err { OnErr result (many_values self.new ≡ many_values self.old) }
     {
         let last = &self.chunks[self.chunks.len() - 1];
         let count = chunk.items.len();
@@ -151,13 +151,13 @@ impl<T: Drop> Chunks<Arc<T, Global>> {
         full: Arc<Chunk<Arc<T, Global>>, Global>,
         rest: Arc<Chunk<Arc<T, Global>>, Global>,
     ) -> Result<(), AllocError>
-        requires laid { IsLaid self.old }
+        requires laid { IsMany self.old }
         requires some { 0 < length self.old.chunks.items }
         requires full { IsChunk (arc_value full) }
         requires enough { 32 ≤ length (arc_value full).items.items }
         requires rest { IsChunk (arc_value rest) }
         requires room { total_of (all_pairs (all_but_last self.old.chunks.items)) + total_of (chunk_pairs (arc_value full)) + total_of (chunk_pairs (arc_value rest)) < 2 ^ 32 }
-        ensures laid { IsLaid self.new }
+        ensures laid { IsMany self.new }
         ensures ok { OnOk result (self.new.chunks.items ≡ (all_but_last self.old.chunks.items ++ full ∷ []) ++ rest ∷ []) }
         ensures err { OnErr result (self.new.chunks.items ≡ self.old.chunks.items) }
     {

@@ -4,10 +4,13 @@
 pub mod append;
 pub mod chunk;
 pub mod chunks;
+pub mod few;
 pub mod find;
 pub mod grow;
 pub mod halves;
+pub mod many;
 pub mod runs;
+pub mod shared;
 pub mod steps;
 #[cfg(test)]
 mod tests;

@@ -1,10 +1,12 @@
 //! Chunks made of runs of shared items.
 ghost use Rattle.std.specs.Prelude.{◌≡◌, ◌+◌, ◌-◌, ◌<◌, ◌≤◌, ◌^◌, ◌++◌, length, take, IfOk, OnOk};
 ghost use Rattle.std.specs.Arc.{arc_value};
-ghost use Rattle.pm_sized.specs.Pairs.{total_of, IsCounted, IsChunk};
-ghost use Rattle.pm_sized.specs.Parts.{part, chunk_values};
+ghost use Rattle.pm_sized.specs.Pairs.{total_of, IsCounted, IsChunk, IsMany};
+ghost use Rattle.pm_sized.specs.Parts.{part, chunk_values, many_values, IsRun};
 
 use crate::chunk::Chunk;
+use crate::halves::place;
+use crate::many::Many;
 use std::alloc::{AllocError, Global};
 use std::sync::Arc;
 
@@ -73,4 +75,29 @@ pub(crate) fn extended<T: Drop>(
     made.append_run(chunk, 0, chunk.items.len())?;
     made.append_run(more, 0, count)?;
     Ok(Arc::new(alloc, made)?)
+}
+
+impl<T: Drop> Many<Arc<T, Global>> {
+    /// The items from item `i` on that lie in its chunk and before `to`: that chunk where they are all of it.
+    pub(crate) fn run_at(
+        &self,
+        alloc: Global,
+        i: usize,
+        to: usize,
+    ) -> Result<Arc<Chunk<Arc<T, Global>>, Global>, AllocError>
+        requires laid { IsMany self.now }
+        requires some { i < to }
+        requires within { to ≤ length (many_values self.now) }
+        ensures { IfOk result (λ c. IsRun (many_values self.now) i to (arc_value c)) }
+    {
+        let at = place(&self.firsts, i);
+        let chunk = &self.chunks[at];
+        let from = i - self.firsts[at];
+        let count = chunk.items.len();
+        let end = count.min(from + (to - i));
+        if from == 0 && end == count {
+            return Ok(Arc::try_clone(chunk)?);
+        }
+        Ok(run(alloc, chunk, from, end)?)
+    }
 }

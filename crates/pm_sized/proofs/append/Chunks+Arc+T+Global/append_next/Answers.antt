@@ -1,12 +1,7 @@
-use Rattle.std.proofs.Common.{◌+◌, length, ap, arith}
-use Rattle.std.specs.Arc.{arc_value}
-use Rattle.pm_sized.specs.Pairs.{total_of}
+use Rattle.std.proofs.Common.{length, ap, arith}
 use Rattle.pm_sized.specs.Parts.{values_of}
-use Rattle.pm_sized.proofs.AppendLaws.{total-shorter}
+use Rattle.pm_sized.proofs.PartLaws.{length-values}
 use Rattle.pm_sized.proofs.append.Chunks+Arc+T+Global.append_next.Goals as goal
 
-pub put-requires-clause-room : goal.put-requires-clause-room
-put-requires-clause-room g c =
-    let r = c.in_ok-chunk.ensures in
-    let i = c.args.i in
-    omega (arith, c.requires.room, ap total_of r.values, total-shorter i (i + length (arc_value c.in_ok-chunk.chunk).items.items) c.args.to (values_of c.args.source.now) (omega arith) r.within)
+pub append_one-requires-clause-within : goal.append_one-requires-clause-within
+append_one-requires-clause-within g c = omega (arith, c.requires.some, c.requires.within, ap (λ z. length (values_of z)) c.in-Few.is, length-values c.in-Few.few.items.items)

@@ -1,0 +1,19 @@
+use Rattle.std.proofs.Common.{◌++◌, ◌∷◌, [], ap, sym, ◌∙◌, arith}
+use Rattle.std.specs.Arc.{arc_value}
+use Rattle.std.proofs.lemmas.Result.{on_ok_weaker}
+use Rattle.pm_sized.specs.Pairs.{total_of}
+use Rattle.pm_sized.specs.Parts.{values_of}
+use Rattle.pm_sized.proofs.PartLaws.{total-values}
+use Rattle.pm_sized.proofs.FewLaws.{values-push}
+use Rattle.pm_sized.proofs.shared.Chunks+Arc+T+Global.push.Goals as goal
+
+pub push-requires-clause-room : goal.push-requires-clause-room
+push-requires-clause-room g c =
+    omega (arith, c.requires.room, ap (λ z. total_of (values_of z)) c.in-Few.is, ap total_of c.in_ok-widen.ensures.values, total-values c.in-Few.few.items.items)
+
+pub returns-in-Few-clause-ok : goal.returns-in-Few-clause-ok
+returns-in-Few-clause-ok g c =
+    let x = c.args.item in
+    let m = c.args.measure in
+    let same = sym (ap values_of c.in-Few.is) ∙ c.in_ok-widen.ensures.values in
+    on_ok_weaker c.push.result (λ h. values-push c.in-Few.few.items.items c.push.new.self.items.items x m h ∙ ap (λ z. z ++ (arc_value x, m) ∷ []) same) c.push.ensures.ok
