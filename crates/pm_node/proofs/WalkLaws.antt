@@ -98,3 +98,14 @@ in-range e h = omega (arith, e, h)
 
 pub past-range : {n m i : ℕ} → n ≡ m → n ≤ i → m ≤ i
 past-range e h = omega (arith, e, h)
+
+-- a child in normal form is not empty, and whole
+pub some-at : {Z : Type 0} (xs : List (Arc Node Z)) (i : ℕ) (x : Arc Node Z) → i < length xs → x ≡ get_or xs i x → IsNormal xs → 0 < length (node_tokens (arc_value x))
+some-at [] i x h e n = absurd (omega (arith, h))
+some-at (y ∷ ys) zero x h e n = subst (λ z. 0 < length (node_tokens (arc_value {X = Node} z))) (sym e) n.0
+some-at (y ∷ ys) (suc i) x h e n = some-at ys i x (omega (arith, h)) e n.2
+
+pub whole-at : {Z : Type 0} (xs : List (Arc Node Z)) (i : ℕ) (x : Arc Node Z) → i < length xs → x ≡ get_or xs i x → EachWhole xs → WholeBody (arc_value x).body
+whole-at [] i x h e w = absurd (omega (arith, h))
+whole-at (y ∷ ys) zero x h e w = let P : Arc Node _ → Type 0 = λ z. WholeBody (arc_value {X = Node} z).body in subst P (sym e) w.0
+whole-at (y ∷ ys) (suc i) x h e w = whole-at ys i x (omega (arith, h)) e w.1

@@ -14,9 +14,3 @@ pub record Stands {Z : Type 0} (xs : List (Arc Node Z)) (pos index rest : ℕ) :
   pub offset : length (list_tokens (take index xs)) + rest ≡ pos
   pub at_end : index ≡ length xs → rest ≡ 0
   pub inside : (x : Arc Node Z) → index < length xs → x ≡ get_or xs index x → rest < length (node_tokens (arc_value x))
-
--- n of the nodes from i on, and none from `to` on, were put behind those that were there
-pub record Appended {Z : Type 0} (before : List Token) (xs : List (Arc Node Z)) (i to n : ℕ) (after : List Token) : Type 0 where
-  pub some : 0 < n
-  pub within : i + n ≤ to
-  pub tokens : after ≡ before ++ list_tokens (part i (i + n) xs)

@@ -1,18 +1,23 @@
 -- A child nests less deep than its parent has tokens.
 use Rattle.std.specs.Prelude.{◌≡◌, ℕ, ◌+◌, ◌≤◌, max, List, [], ◌∷◌, ◌++◌, length}
-use Rattle.std.proofs.Common.{arith, length-append}
+use Rattle.std.proofs.Common.{refl, ap, ◌∙◌, arith, length-append}
 use Rattle.std.specs.declared.sync.Arc.{Arc}
+use Rattle.std.specs.declared.alloc.Global.{Global}
 use Rattle.std.specs.Arc.{arc_value}
 use Rattle.pm_tokens.specs.Tokens.{Attrs, Marks, Close}
+use Rattle.pm_sized.specs.declared.chunk.Chunk.{Chunk}
+use Rattle.pm_sized.specs.declared.chunks.Chunks.{Chunks}
+use Rattle.pm_sized.specs.declared.chunks.Chunks.TheVariants.{Few as AsFew, Many as AsMany}
+use Rattle.pm_sized.specs.Pairs.{paired, measures, chunk_pairs, all_pairs, pairs_of, AreChunks, IsLaid}
+use Rattle.pm_sized.specs.Parts.{items_in}
+use Rattle.pm_sized.proofs.PairLaws.{length-measures}
 use Rattle.pm_node.specs.declared.node.Node.{Node}
 use Rattle.pm_node.specs.declared.node.Body.{Body}
-use Rattle.pm_node.specs.declared.chunks.Piece.{Piece}
-use Rattle.pm_node.specs.declared.chunks.Chunks.{Chunks}
 use Rattle.pm_node.specs.declared.node.Body.TheVariants.{Text, Leaf as Childless, Children}
-use Rattle.pm_node.specs.declared.node.Fragment.TheDeep.{deep-Node, deep-Body, deep-Piece, deep-Chunks}
+use Rattle.pm_node.specs.declared.node.Fragment.TheDeep.{deep-Node, deep-Body}
+use Rattle.pm_node.specs.declared.node.Fragment.TheShapes.{weighed-Fragment-nodes-at-3, weighed-Fragment-nodes-at-6, weighed-Fragment-nodes-at-13, weighed-Fragment-nodes-at-19, split-Fragment-nodes-at-20}
 use Rattle.pm_node.specs.Trees.{node_tokens, body_tokens, list_tokens}
-use Rattle.pm_node.specs.Chunks.{piece_nodes, chunk_nodes, nodes_of}
-use denote.Param.Weighed.{most}
+use denote.Param.Weighed.{most, or_weight, w_pair, w_or, w_const}
 
 deep_le-body : (k : ℕ) (a : Attrs) (m : Marks) (b : Body) → deep-Body b ≤ length (body_tokens k a m b)
 deep_le-body k a m (Text us) = omega arith
@@ -32,9 +37,48 @@ length-list (x ∷ xs) ys =
     let t = node_tokens (arc_value x) in
     omega (arith, length-list xs ys, length-append t (list_tokens (xs ++ ys)), length-append t (list_tokens xs))
 
-pieces-fall : (ps : List Piece) → most deep-Piece ps ≤ length (list_tokens (chunk_nodes ps))
-pieces-fall [] = omega arith
-pieces-fall (p ∷ ps) = omega (arith, pieces-fall ps, nodes-fall (piece_nodes p), length-list (piece_nodes p) (chunk_nodes ps))
+-- the items of a chunk are those of its pairs
+items-paired : {T : Type 0} (xs : List T) (ms : List ℕ) → length ms ≡ length xs → items_in (paired xs ms) ≡ xs
+items-paired [] ms h = refl
+items-paired (x ∷ xs) [] h = absurd (omega (arith, h))
+items-paired (x ∷ xs) (m ∷ ms) h = let k : length ms ≡ length xs = omega (arith, h) in ap (λ z. x ∷ z) (items-paired xs ms k)
 
-pub falls : (c : Chunks) → max (deep-Chunks c) 0 ≤ length (list_tokens (nodes_of c))
-falls c = omega (arith, pieces-fall c.full.items, nodes-fall c.last.items, length-list (chunk_nodes c.full.items) c.last.items)
+items-append : {T : Type 0} (ps qs : List (T × ℕ)) → items_in (ps ++ qs) ≡ items_in ps ++ items_in qs
+items-append [] qs = refl
+items-append (p ∷ ps) qs = ap (λ z. p.0 ∷ z) (items-append ps qs)
+
+few-weight : (p : Arc Node Global × ℕ) → (weighed-Fragment-nodes-at-3).weight Node deep-Node p ≤ deep-Node (arc_value p.0)
+few-weight p = omega arith
+
+few-fall : (ps : List (Arc Node Global × ℕ)) → most ((weighed-Fragment-nodes-at-3).weight Node deep-Node) ps ≤ length (list_tokens (items_in ps))
+few-fall [] = omega arith
+few-fall (p ∷ ps) =
+    let n = arc_value p.0 in
+    let h : deep-Body n.body ≤ length (node_tokens n) = deep_le-body n.kind n.attrs n.marks n.body in
+    omega (arith, few-fall ps, few-weight p, h, length-append (node_tokens n) (list_tokens (items_in ps)))
+
+chunk-weight : (c : Arc (Chunk (Arc Node Global)) Global) → (weighed-Fragment-nodes-at-13).weight Node deep-Node c ≤ most (λ x. deep-Node (arc_value x)) (arc_value c).items.items
+chunk-weight c = omega arith
+
+many-fall : (cs : List (Arc (Chunk (Arc Node Global)) Global)) → AreChunks cs → most ((weighed-Fragment-nodes-at-13).weight Node deep-Node) cs ≤ length (list_tokens (items_in (all_pairs cs)))
+many-fall [] h = omega arith
+many-fall (c ∷ cs) h =
+    let v = arc_value c in
+    let own = items-paired v.items.items (measures v.starts.items v.size) (length-measures v.starts.items v.size ∙ h.0.counted.same) in
+    omega (
+      arith,
+      many-fall cs h.2,
+      chunk-weight c,
+      nodes-fall v.items.items,
+      ap (λ z. length (list_tokens z)) own,
+      ap (λ z. length (list_tokens z)) (items-append (chunk_pairs v) (all_pairs cs)),
+      length-list (items_in (chunk_pairs v)) (items_in (all_pairs cs)),
+    )
+
+-- how deep the deepest of the nodes nests
+abbrev pub deepest : Chunks (Arc Node Global) → ℕ
+deepest c = or_weight (w_pair weighed-Fragment-nodes-at-6 (w_const (Unit {0}))) (w_or (w_pair weighed-Fragment-nodes-at-19 (w_const (Unit {0}))) (w_const ⊥)) Node deep-Node (split-Fragment-nodes-at-20 Node c)
+
+pub chunks-fall : (c : Chunks (Arc Node Global)) → IsLaid c → deepest c ≤ length (list_tokens (items_in (pairs_of c)))
+chunks-fall (AsFew f) h = omega (arith, few-fall f.items.items)
+chunks-fall (AsMany m) h = omega (arith, many-fall m.chunks.items h.chunks)

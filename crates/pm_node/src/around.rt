@@ -111,9 +111,11 @@ fn same_behind(size: usize, to: usize, new_size: usize, new_to: usize) -> bool
     to <= size && new_to <= new_size && size - to == new_size - new_to
 }
 
-/// The node around a change in both of two lists, unless it is a text or a leaf in one of them.
+/// The node around a change in both of two lists, unless it is a text or a leaf in one of them. There is none where the change
+/// cuts the node in two: then the change is in the content around it.
 fn child_around(old: &Children<'_>, new: &Children<'_>, change: Difference) -> Option<Pair>
     requires order { change.from ≤ change.to }
+    requires new_order { change.from ≤ change.new_to }
     ensures before { IfSome result (λ p. IsPlace old.now p.before p.start) }
     ensures after { IfSome result (λ p. IsPlace new.now p.after p.start) }
     ensures inside { IfSome result (λ p. p.start < change.from) }
@@ -123,6 +125,7 @@ fn child_around(old: &Children<'_>, new: &Children<'_>, change: Difference) -> O
     let inside = start == new_start
         && start < change.from
         && change.to - start < old.get(before).size()
+        && change.new_to - start < new.get(after).size()
         && is_inner(old.get(before))
         && is_inner(new.get(after));
     if inside {

@@ -1,20 +1,21 @@
 //! The children of a fragment, by their numbers.
-ghost use Rattle.std.specs.Prelude.{◌≡◌, ◌+◌, ◌<◌, ◌≤◌, ◌^◌, length, get_or, IfSome};
+ghost use Rattle.std.specs.Prelude.{◌≡◌, ◌+◌, ◌<◌, ◌≤◌, length, get_or};
 ghost use Rattle.pm_node.specs.Trees.{list_tokens};
 ghost use Rattle.pm_node.specs.Among.{Stands};
-ghost use Rattle.pm_node.specs.Chunks.{nodes_of, IsBorrowed, IsChunkAt};
+ghost use Rattle.pm_node.specs.Chunks.{nodes_of, IsBorrowed};
+ghost use Rattle.pm_sized.specs.Bound.{find_bound};
 
-use crate::chunks::{CHUNK, Chunks, Piece};
 use crate::node::Node;
+use pm_sized::{Chunks, Steps};
 use std::alloc::Global;
 use std::marker::Model;
 use std::sync::Arc;
+use std::sync::ledger::Ledger;
 
 /// The nodes of a fragment in order, borrowed from it. A contract sees them as a list.
 #[derive(Drop)]
 pub struct Children<'a> {
-    nodes: &'a Chunks,
-    size: usize,
+    pub(crate) nodes: &'a Chunks<Arc<Node, Global>>,
 }
 
 impl<'a> Model for Children<'a> {
@@ -34,7 +35,7 @@ impl<'a> Model for Children<'a> {
 
     ghost view = { λ c. nodes_of c.nodes.now };
 
-    ghost invariant = { λ c. IsBorrowed c.size c.nodes.now };
+    ghost invariant = { λ c. IsBorrowed c.nodes.now };
 }
 
 /// Where a position stands among children.
@@ -47,18 +48,18 @@ pub struct Found {
 }
 
 impl<'a> Children<'a> {
-    pub(crate) fn new(nodes: &'a Chunks, size: usize) -> Children<'a>
-        requires { IsBorrowed size nodes.now }
+    pub(crate) fn new(nodes: &'a Chunks<Arc<Node, Global>>) -> Children<'a>
+        requires { IsBorrowed nodes.now }
         ensures { result ≡ nodes_of nodes.now }
     {
-        Children { nodes, size }
+        Children { nodes }
     }
 
     /// The number of tokens of all of them. It takes no memory.
     pub fn size(&self) -> usize
         ensures { result ≡ length (list_tokens self.now) }
     {
-        self.size
+        self.nodes.total()
     }
 
     /// How many there are. It takes no memory.
@@ -73,7 +74,7 @@ impl<'a> Children<'a> {
         requires { i < length self.now }
         ensures { result.now ≡ get_or self.now i result.now }
     {
-        self.nodes.get(i)
+        self.nodes.item(i)
     }
 
     /// Where a position stands among them, counted in tokens from the start of the first one. It takes no memory.
@@ -81,58 +82,24 @@ impl<'a> Children<'a> {
         requires { pos ≤ length (list_tokens self.now) }
         ensures { Stands self.now pos result.index result.rest }
     {
-        let mut rest = pos;
-        for (at, piece) in self.nodes.full.iter().enumerate() {
-            if rest < piece.size {
-                return found_among(&piece.chunk.nodes, rest).behind(at * CHUNK);
-            }
-            rest -= piece.size;
-        }
-        found_among(&self.nodes.last, rest).behind(self.nodes.full.len() * CHUNK)
-    }
-
-    /// The chunk that begins at child `i` and ends before `to`, if there is one. It takes no memory.
-    pub(crate) fn chunk_at(&self, i: usize, to: usize) -> Option<&'a Piece>
-        ensures { IfSome result (λ p. IsChunkAt self.now i to p.now) }
-    {
-        let at = i / CHUNK;
-        if i % CHUNK == 0 && at < self.nodes.full.len() && i < to && CHUNK <= to - i {
-            Some(&self.nodes.full[at])
-        } else {
-            None
-        }
-    }
-}
-
-impl Found {
-    /// The same place, where so many children stand before those that it was found among.
-    fn behind(self, count: usize) -> Found
-        requires { count + self.index < 2 ^ 64 }
-        ensures index { result.index ≡ count + self.index }
-        ensures rest { result.rest ≡ self.rest }
-    {
+        let found = self.nodes.locate(pos);
         Found {
-            index: count + self.index,
-            rest: self.rest,
+            index: found.index,
+            rest: pos - found.start,
         }
     }
-}
 
-/// Where a position stands among nodes.
-fn found_among(nodes: &[Arc<Node, Global>], pos: usize) -> Found
-    requires { pos ≤ length (list_tokens nodes.now) }
-    ensures { Stands nodes.now pos result.index result.rest }
-{
-    let mut rest = pos;
-    for (index, node) in nodes.iter().enumerate() {
-        let size = node.size();
-        if rest < size {
-            return Found { index, rest };
+    /// The same, with the steps of the search counted. Among c children it takes at most 6 steps plus the number of binary
+    /// digits of (c + 31) / 32.
+    pub fn find_counted<L: Ledger>(&self, pos: usize, steps: &mut Steps<L>) -> Found
+        requires { pos ≤ length (list_tokens self.now) }
+        ensures found { Stands self.now pos result.index result.rest }
+        ensures steps { steps.new ≤ steps.old + find_bound (length self.now) }
+    {
+        let found = self.nodes.find(pos, steps);
+        Found {
+            index: found.index,
+            rest: pos - found.start,
         }
-        rest -= size;
-    }
-    Found {
-        index: nodes.len(),
-        rest: 0,
     }
 }

@@ -1,175 +1,73 @@
-//! Lists of nodes in chunks, which several lists share.
-ghost use Rattle.std.specs.Prelude.{◌≡◌, ◌<◌, ◌^◌, false, true, [], ◌∷◌, ◌++◌, length, get_or, IsTrue, OnOk, OnErr};
-ghost use Rattle.pm_node.specs.Trees.{list_tokens, IsText};
-ghost use Rattle.pm_node.specs.Chunks.{nodes_of, piece_nodes, Laid, IsChunk, AreChunks, IsWhole, Closed, StartsApart, EndsApart};
+//! The nodes of a fragment, in chunks that several fragments share.
+ghost use Rattle.std.specs.Prelude.{◌≡◌, ◌+◌, ◌<◌, ◌≤◌, ◌^◌, if◌then◌else◌, ◌++◌, length, IfOk, OnErr};
+ghost use Rattle.pm_tokens.specs.Scan.{part};
+ghost use Rattle.pm_node.specs.Trees.{node_tokens, list_tokens, WholeBody, IsNormal, EachWhole};
+ghost use Rattle.pm_node.specs.Chunks.{nodes_of, IsKept, Follows, Begun};
 
-use crate::node::{Body, Node};
+use crate::children::Children;
+use crate::node::{Node, join_texts};
+use pm_sized::Chunks;
 use std::alloc::{AllocError, Global};
-use std::mem;
 use std::sync::Arc;
 
-/// The number of nodes in a chunk.
-pub(crate) const CHUNK: usize = 32;
-
-/// Neighbours among the children of a node, which all lists that have them share.
-#[cycle(tree)]
-#[derive(Drop)]
-pub(crate) struct Chunk {
-    pub(crate) nodes: Vec<Arc<Node, Global>>,
-}
-
-/// A shared chunk, the number of its tokens, and whether neither its first nor its last node is a text, as far as is known.
-#[cycle(tree)]
-#[derive(Drop)]
-pub(crate) struct Piece {
-    pub(crate) chunk: Arc<Chunk, Global>,
-    pub(crate) size: usize,
-    pub(crate) apart: bool,
-}
-
-/// Nodes in order: chunks of thirty-two, and at most as many behind them.
-#[cycle(tree)]
-#[derive(Drop)]
-pub(crate) struct Chunks {
-    pub(crate) full: Vec<Piece>,
-    pub(crate) last: Vec<Arc<Node, Global>>,
-}
-
-impl Chunks {
-    /// No nodes. It takes no memory.
-    pub(crate) fn new(alloc: Global) -> Chunks
-        ensures nodes { nodes_of result ≡ [] }
-        ensures laid { Laid result }
-    {
-        Chunks {
-            full: Vec::new(alloc),
-            last: Vec::new(alloc),
-        }
-    }
-
-    /// How many nodes there are. It takes no memory.
-    pub(crate) fn len(&self) -> usize
-        requires laid { Laid self.now }
-        requires room { length (nodes_of self.now) < 2 ^ 32 }
-        ensures { result ≡ length (nodes_of self.now) }
-    {
-        self.full.len() * CHUNK + self.last.len()
-    }
-
-    /// Node `i`, counted from 0. It takes no memory.
-    pub(crate) fn get(&self, i: usize) -> &Arc<Node, Global>
-        requires laid { Laid self.now }
-        requires within { i < length (nodes_of self.now) }
-        ensures { result.now ≡ get_or (nodes_of self.now) i result.now }
-    {
-        let at = i / CHUNK;
-        if at < self.full.len() {
-            &self.full[at].chunk.nodes[i % CHUNK]
-        } else {
-            &self.last[i - self.full.len() * CHUNK]
-        }
-    }
-
-    /// Puts a node behind the last one. For want of memory the nodes stay as they were.
-    pub(crate) fn push(&mut self, alloc: Global, node: Arc<Node, Global>) -> Result<(), AllocError>
-        requires laid { Laid self.old }
-        requires room { length (list_tokens (nodes_of self.old)) < 2 ^ 32 }
-        ensures laid { Laid self.new }
-        ensures ok { OnOk result (nodes_of self.new ≡ nodes_of self.old ++ node ∷ []) }
-        ensures err { OnErr result (nodes_of self.new ≡ nodes_of self.old) }
-    {
-        if self.last.len() == CHUNK {
-            close(alloc, &mut self.full, &mut self.last)?;
-        }
-        self.last.push(node)?;
-        Ok(())
-    }
-
-    /// Whether the nodes end with a whole chunk, so that another chunk can stand behind them. It takes no memory.
-    pub(crate) fn is_whole(&self) -> bool
-        ensures { IsTrue result → IsWhole self.now }
-    {
-        self.last.len() == 0 || self.last.len() == CHUNK
-    }
-
-    /// Puts the nodes of a chunk behind, which is shared. For want of memory the nodes stay as they were.
-    pub(crate) fn share(&mut self, alloc: Global, piece: &Piece) -> Result<(), AllocError>
-        requires laid { Laid self.old }
-        requires whole { IsWhole self.old }
-        requires chunk { IsChunk piece.now }
-        requires apart { piece.now.apart ≡ true }
-        requires room { length (list_tokens (nodes_of self.old)) < 2 ^ 32 }
-        ensures laid { Laid self.new }
-        ensures ok { OnOk result (nodes_of self.new ≡ nodes_of self.old ++ piece_nodes piece.now) }
-        ensures err { OnErr result (nodes_of self.new ≡ nodes_of self.old) }
-    {
-        let chunk = Arc::try_clone(&piece.chunk)?;
-        self.full.reserve(2)?;
-        if self.last.len() == CHUNK {
-            close(alloc, &mut self.full, &mut self.last)?;
-        }
-        self.full.push(Piece {
-            chunk,
-            size: piece.size,
-            apart: piece.apart,
-        })?;
-        Ok(())
-    }
-}
-
-/// The last nodes become a chunk. For want of memory the nodes stay as they were.
-fn close(
+/// Joins a text with the last node, where that is a text of equal marks: `true`. `false` says that the two don't meet, and
+/// then nothing changes. For want of memory the nodes stay as they were.
+pub(crate) fn join_last(
     alloc: Global,
-    full: &mut Vec<Piece>,
-    last: &mut Vec<Arc<Node, Global>>,
-) -> Result<(), AllocError>
-    requires count { length last.old.items ≡ CHUNK }
-    requires chunks { AreChunks full.old.items }
-    requires room { length (list_tokens last.old.items) < 2 ^ 32 }
-    ensures ok { OnOk result (Closed full.old full.new last.old last.new) }
-    ensures err_full { OnErr result (full.new.items ≡ full.old.items) }
-    ensures err_last { OnErr result (last.new.items ≡ last.old.items) }
-{
-    full.reserve(1)?;
-    let room = Vec::with_capacity(alloc, CHUNK)?;
-    let size = size_of_all(last);
-    let apart = ends_apart(last);
-    let nodes = mem::replace(last, room);
-    match Arc::new(alloc, Chunk { nodes }) {
-        Ok(chunk) => {
-            full.push(Piece { chunk, size, apart })?;
-            Ok(())
-        }
-        Err(refused) => {
-            *last = refused.value.nodes;
-            Err(AllocError)
-        }
-    }
-}
-
-/// The number of the nodes' tokens.
-fn size_of_all(nodes: &[Arc<Node, Global>]) -> usize
-    requires { length (list_tokens nodes.now) < 2 ^ 32 }
-    ensures { result ≡ length (list_tokens nodes.now) }
-{
-    let mut size = 0;
-    for node in nodes {
-        size += node.size();
-    }
-    size
-}
-
-/// Whether neither the first nor the last of the nodes is a text.
-fn ends_apart(nodes: &[Arc<Node, Global>]) -> bool
-    ensures starts { IsTrue result → StartsApart nodes.now }
-    ensures ends { IsTrue result → EndsApart nodes.now }
+    nodes: &mut Chunks<Arc<Node, Global>>,
+    node: &Node,
+) -> Result<bool, AllocError>
+    requires kept { IsKept nodes.old }
+    requires whole { WholeBody node.now.body }
+    requires some { 0 < length (node_tokens node.now) }
+    requires room { length (list_tokens (nodes_of nodes.old)) + length (node_tokens node.now) < 2 ^ 32 }
+    ensures kept { IsKept nodes.new }
+    ensures tokens { IfOk result (λ joined. list_tokens (nodes_of nodes.new) ≡ (if joined then list_tokens (nodes_of nodes.old) ++ node_tokens node.now else list_tokens (nodes_of nodes.old))) }
+    ensures ends { IfOk result (λ joined. Follows (nodes_of nodes.new) node.now joined) }
+    ensures err { OnErr result (list_tokens (nodes_of nodes.new) ≡ list_tokens (nodes_of nodes.old)) }
 {
     let len = nodes.len();
-    len > 0 && !is_text(&nodes[0]) && !is_text(&nodes[len - 1])
+    if len == 0 {
+        return Ok(false);
+    }
+    let joined = join_texts(alloc, nodes.item(len - 1), node)?;
+    match joined {
+        None => Ok(false),
+        Some(joined) => {
+            let size = joined.size();
+            let joined = Arc::new(alloc, joined)?;
+            nodes.set_last(alloc, joined, size)?;
+            Ok(true)
+        }
+    }
 }
 
-fn is_text(node: &Node) -> bool
-    ensures { result ≡ false → ¬ IsText node.now.body }
+/// Joins the first of the children from..to with the last node, where both are texts of equal marks. It answers the number
+/// of the first child that is still to be put behind. For want of memory the nodes stay as they were.
+pub(crate) fn join_first(
+    alloc: Global,
+    nodes: &mut Chunks<Arc<Node, Global>>,
+    source: &Children<'_>,
+    from: usize,
+    to: usize,
+) -> Result<usize, AllocError>
+    requires kept { IsKept nodes.old }
+    requires order { from ≤ to }
+    requires within { to ≤ length source.now }
+    requires normal { IsNormal source.now }
+    requires each { EachWhole source.now }
+    requires room { length (list_tokens (nodes_of nodes.old)) + length (list_tokens (part from to source.now)) < 2 ^ 32 }
+    ensures kept { IsKept nodes.new }
+    ensures ok { IfOk result (λ i. Begun (list_tokens (nodes_of nodes.old)) source.now from to i (nodes_of nodes.new)) }
+    ensures err { OnErr result (list_tokens (nodes_of nodes.new) ≡ list_tokens (nodes_of nodes.old)) }
 {
-    matches!(node.body, Body::Text(_))
+    if from == to {
+        return Ok(from);
+    }
+    let child = source.get(from);
+    let joined = join_last(alloc, nodes, child)?;
+    if joined {
+        return Ok(from + 1);
+    }
+    Ok(from)
 }

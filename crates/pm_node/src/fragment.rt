@@ -2,11 +2,10 @@
 ghost use Rattle.std.specs.Prelude.{◌≡◌, ◌<◌, ◌≤◌, ◌+◌, ◌^◌, length, slice_index_or, [], ◌++◌, ◌↔◌, IsTrue, IfOk, OnOk};
 ghost use Rattle.pm_tokens.specs.Scan.{part};
 ghost use Rattle.pm_tokens.specs.Kids.{children, text_tokens};
-ghost use Rattle.pm_node.specs.Among.{Appended};
 ghost use Rattle.pm_node.specs.Trees.{node_tokens, nodes_tokens, list_tokens, Meets, IsNormal, EachWhole};
 
 use crate::children::Children;
-use crate::chunks::CHUNK;
+use crate::chunks::join_first;
 use crate::node::{Body, Fragment, Node};
 use crate::units::Units;
 use pm_attrs::Attrs;
@@ -83,15 +82,13 @@ impl Fragment {
     pub fn copy(&self, alloc: Global) -> Result<Fragment, AllocError>
         ensures { IfOk result (λ f. f ≡ self.now) }
     {
-        let mut made = Fragment::new(alloc);
-        let _ = self.size();
-        let children = self.children();
-        made.append(alloc, &children, 0, children.len())?;
-        Ok(made)
+        Ok(Fragment {
+            nodes: self.nodes.copy(alloc)?,
+        })
     }
 
     /// Puts the children from..to of another fragment behind the last node. They are shared with it, whole chunks at once
-    /// where that can be. A text is joined with a text of equal marks before it. After an error the fragment may hold some
+    /// but for those at the two ends. A text is joined with a text of equal marks before it. After an error the fragment may hold some
     /// of them.
     pub fn append(
         &mut self,
@@ -107,37 +104,9 @@ impl Fragment {
         requires room { length self.old + length (list_tokens (part from to source.now)) < 2 ^ 32 }
         ensures { OnOk result (self.new ≡ self.old ++ list_tokens (part from to source.now)) }
     {
-        let mut i = from;
-        while i < to {
-            i += self.append_next(alloc, source, i, to)?;
-        }
+        let i = join_first(alloc, &mut self.nodes, source, from, to)?;
+        self.nodes.append(alloc, source.nodes, i, to)?;
         Ok(())
-    }
-
-    /// Puts child `i` behind the last node, or the whole chunk that begins with it and ends before `to`. It answers how many
-    /// children it put.
-    fn append_next(
-        &mut self,
-        alloc: Global,
-        source: &Children<'_>,
-        i: usize,
-        to: usize,
-    ) -> Result<usize, AllocError>
-        requires some { i < to }
-        requires within { to ≤ length source.now }
-        requires normal { IsNormal source.now }
-        requires each { EachWhole source.now }
-        requires room { length self.old + length (list_tokens (part i to source.now)) < 2 ^ 32 }
-        ensures { IfOk result (λ n. Appended self.old source.now i to n self.new) }
-    {
-        if let Some(piece) = source.chunk_at(i, to) {
-            if self.share(alloc, piece)? {
-                return Ok(CHUNK);
-            }
-        }
-        let child = Arc::try_clone(source.get(i))?;
-        self.push(alloc, child)?;
-        Ok(1)
     }
 
     /// The number of children: each leaf, each open up to its close, and each longest run of neighbouring units with equal

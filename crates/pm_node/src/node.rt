@@ -1,16 +1,16 @@
 //! Nodes, and lists of nodes.
-ghost use Rattle.std.specs.Prelude.{◌≡◌, ◌+◌, ◌<◌, ◌^◌, if◌then◌else◌, [], ◌++◌, length, IfOk, OnOk, OnErr};
+ghost use Rattle.std.specs.Prelude.{◌≡◌, ◌+◌, ◌<◌, ◌^◌, [], ◌++◌, length, IfOk, OnOk, OnErr};
 ghost use Rattle.std.specs.Arc.{arc_value};
 ghost use Rattle.pm_tokens.specs.Scan.{Balanced};
-ghost use Rattle.pm_node.specs.Chunks.{piece_nodes, IsChunk};
 ghost use Rattle.pm_node.specs.Trees.{node_tokens, list_tokens, Joined, IsNormal, WholeBody, EachWhole};
 
 use crate::children::Children;
-use crate::chunks::{Chunks, Piece};
+use crate::chunks::join_last;
 use crate::units::Units;
 use pm_attrs::Attrs;
 use pm_auto::TypeId;
 use pm_marks::{MarkSet, Same};
+use pm_sized::Chunks;
 use std::alloc::{AllocError, Global};
 use std::marker::Model;
 use std::sync::Arc;
@@ -39,8 +39,7 @@ pub enum Body {
 #[cycle(tree)]
 #[derive(Drop)]
 pub struct Fragment {
-    nodes: Chunks,
-    size: usize,
+    pub(crate) nodes: Chunks<Arc<Node, Global>>,
 }
 
 impl Model for Fragment {
@@ -52,18 +51,19 @@ impl Model for Fragment {
 
     ghost coded = { tokens_code };
 
-    ghost use Rattle.pm_node.specs.Trees.{list_tokens, Form};
-    ghost use Rattle.pm_node.specs.Chunks.{nodes_of, Laid};
+    ghost use Rattle.pm_node.specs.Trees.{list_tokens};
+    ghost use Rattle.pm_node.specs.Chunks.{nodes_of, IsKept};
 
     ghost view = { λ f. list_tokens (nodes_of f.nodes) };
 
-    ghost invariant = { λ f. Form f.size (nodes_of f.nodes) × Laid f.nodes };
+    ghost invariant = { λ f. IsKept f.nodes };
 
     ghost size = { length };
 
-    ghost use Rattle.pm_node.specs.Falls.{falls};
+    ghost use Rattle.std.proofs.Common.{arith};
+    ghost use Rattle.pm_node.specs.Falls.{chunks-fall};
 
-    ghost size_decreases = { λ f h. falls f.nodes };
+    ghost size_decreases = { λ f h. Prim.omega (arith, chunks-fall f.nodes h.laid) };
 }
 
 impl Node {
@@ -89,7 +89,6 @@ impl Fragment {
     {
         Fragment {
             nodes: Chunks::new(alloc),
-            size: 0,
         }
     }
 
@@ -99,7 +98,7 @@ impl Fragment {
         ensures bound { result < 2 ^ 32 }
         ensures whole { Balanced self.now }
     {
-        self.size
+        self.nodes.total()
     }
 
     /// The nodes in order. It takes no memory.
@@ -109,7 +108,7 @@ impl Fragment {
         ensures each { EachWhole result }
         ensures bound { length (list_tokens result) < 2 ^ 32 }
     {
-        Children::new(&self.nodes, self.size)
+        Children::new(&self.nodes)
     }
 
     /// Puts a node behind the last one. A text is joined with a text of equal marks before it, and an empty text is let
@@ -123,40 +122,21 @@ impl Fragment {
         if size == 0 {
             return Ok(());
         }
-        let len = self.nodes.last.len();
-        if len > 0 {
-            if let Some(joined) = join_texts(alloc, &self.nodes.last[len - 1], &node)? {
-                let joined = Arc::new(alloc, joined)?;
-                self.nodes.last[len - 1] = joined;
-                self.size += size;
-                return Ok(());
-            }
+        let joined = join_last(alloc, &mut self.nodes, &node)?;
+        if joined {
+            return Ok(());
         }
-        self.nodes.push(alloc, node)?;
-        self.size += size;
+        self.nodes.push(alloc, node, size)?;
         Ok(())
-    }
-
-    /// Puts the nodes of a chunk behind the last node, and shares the chunk, where it can stand there and no text can join
-    /// another one. `false` says that it can't, and then nothing changes.
-    pub(crate) fn share(&mut self, alloc: Global, piece: &Piece) -> Result<bool, AllocError>
-        requires chunk { IsChunk piece.now }
-        requires normal { IsNormal (piece_nodes piece.now) }
-        requires each { EachWhole (piece_nodes piece.now) }
-        requires room { length self.old + length (list_tokens (piece_nodes piece.now)) < 2 ^ 32 }
-        ensures { IfOk result (λ done. self.new ≡ (if done then self.old ++ list_tokens (piece_nodes piece.now) else self.old)) }
-    {
-        if !piece.apart || !self.nodes.is_whole() {
-            return Ok(false);
-        }
-        self.nodes.share(alloc, piece)?;
-        self.size += piece.size;
-        Ok(true)
     }
 }
 
 /// The text of two texts with equal marks, or `None` for other nodes.
-fn join_texts(alloc: Global, left: &Node, right: &Node) -> Result<Option<Node>, AllocError>
+pub(crate) fn join_texts(
+    alloc: Global,
+    left: &Node,
+    right: &Node,
+) -> Result<Option<Node>, AllocError>
     ensures { IfOk result (λ o. Joined left.now right.now o) }
 {
     match (&left.body, &right.body) {

@@ -6,6 +6,8 @@ use Rattle.pm_node.specs.declared.node.Node.{Node}
 use Rattle.pm_node.specs.declared.node.Body.TheVariants.{Children}
 use Rattle.pm_node.specs.Trees.{node_tokens}
 use Rattle.pm_node.specs.Documents.{doc_of}
+use Rattle.pm_tokens.specs.Kids.{children}
+use Rattle.pm_sized.specs.Bound.{find_bound}
 use Rattle.pm_resolve.specs.Places.{ended}
 use Rattle.pm_resolve.specs.declared.level.Level.{Level}
 
@@ -16,6 +18,11 @@ content_of n = (doc_of n).tokens
 -- the position is in the level's content, or at its start or end
 abbrev pub holds : ℕ → Level → Bool
 holds p l = nat_le l.start p && nat_le p (l.start + length (content_of l.node.now))
+
+-- the sum of the bounds of a search in the node of each level
+abbrev pub levels_bound : List Level → ℕ
+levels_bound [] = 0
+levels_bound (l ∷ ls) = find_bound (length (children (content_of l.node.now))) + levels_bound ls
 
 -- the level of a node around the position `pos`, whose content starts at `at`
 pub record IsLevel (pos at : ℕ) (n : Node) (l : Level) : Type 0 where

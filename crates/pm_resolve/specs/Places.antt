@@ -6,6 +6,7 @@ use Rattle.pm_attrs.specs.Attrs.{same_attrs}
 use Rattle.pm_tokens.specs.Tokens.{Marks, Token, Open, Close, Leaf, CodeUnit, Doc, marks_of}
 use Rattle.pm_tokens.specs.Scan.{depth_at, open_at}
 use Rattle.pm_tokens.specs.Kids.{children}
+use Rattle.pm_sized.specs.Bound.{find_bound}
 use Rattle.pm_schema.specs.declared.spec.SchemaSpec.{SchemaSpec}
 use Rattle.pm_schema.specs.Types.{mark_at, is_inclusive}
 
@@ -50,6 +51,11 @@ start_at d p (suc n) = suc (slice_index (opens_at d.tokens p) n)
 -- the position at the end of its content
 abbrev pub end_at : Doc → ℕ → ℕ → ℕ
 end_at d p n = start_at d p n + length (node_around d p n).tokens
+
+-- the sum of the bounds of a search in each of the nodes around the position from depth 0 to depth n
+abbrev pub search_bound : Doc → ℕ → ℕ → ℕ
+search_bound d p zero = find_bound (length (children d.tokens))
+search_bound d p (suc n) = search_bound d p n + find_bound (length (children (node_around d p (suc n)).tokens))
 
 -- a node that is no leaf, with its open and its close
 abbrev pub whole_tokens : Doc → List Token

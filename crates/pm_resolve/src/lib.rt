@@ -9,4 +9,4 @@ mod walk;
 
 pub use fault::PlaceError;
 pub use place::Place;
-pub use walk::resolve;
+pub use walk::{resolve, resolve_counted};

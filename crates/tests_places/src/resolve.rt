@@ -1,13 +1,18 @@
 //! Tables with ample memory: places of small documents, and the marks there.
+ghost use Rattle.std.specs.Prelude.{◌≡◌, ◌<◌};
+
 use pm_attrs::Attrs;
 use pm_auto::{Expr, TypeId};
 use pm_list::Listed;
 use pm_marks::{Mark, MarkId, MarkRules, MarkSet};
 use pm_node::{Body, Document, Fragment, Node, Units};
-use pm_resolve::{Place, PlaceError, resolve};
+use pm_resolve::{Place, PlaceError, resolve, resolve_counted};
 use pm_schema::{AttrSpecs, MarkSpec, NodeSpec, Schema, SchemaSpec};
+use pm_sized::Steps;
 use pm_value::Text;
 use std::alloc::{AllocError, Global};
+use std::marker::Brand;
+use std::sync::ledger::{Blank, Ledger};
 use std::test::Fail;
 
 const DOC: TypeId = 0;
@@ -143,6 +148,30 @@ fn a_place_tells_its_path(rt: HostRuntime) -> Result<(), Fail> {
     assert!(rt; place.shared_depth(3) == 1);
     assert!(rt; place.shared_depth(4) == 0);
     assert!(rt; resolve(alloc, &doc, 5).err() == Some(PlaceError::OutOfRange));
+    Ok(())
+}
+
+/// Whether position 10,001 of the document is at the start of its child 5,000, which has no content.
+fn is_halfway<L: Ledger>(blank: Blank, alloc: Global, doc: &Document) -> Result<bool, Fail>
+    requires name { blank.name ≡ L.name }
+    requires parts { blank.parts ≡ L.parts }
+    requires one { 0 < blank.parts }
+{
+    let mut steps: Steps<L> = Steps::open(blank);
+    let place = resolve_counted(alloc, doc, 10_001, &mut steps)?;
+    let outer = tells(&place, 0, 5_000, 0, 20_000);
+    Ok(place.depth() == 1 && outer && tells(&place, 1, 0, 10_001, 10_001))
+}
+
+#[test]
+fn a_place_among_many_is_found_by_halves(rt: HostRuntime) -> Result<(), Fail> {
+    let alloc = rt.alloc();
+    let mut nodes = Vec::new(alloc);
+    for _ in 0..10_000 {
+        nodes.push(paragraph(alloc, "")?)?;
+    }
+    let doc = Document::new(alloc, block(alloc, DOC, nodes)?)?;
+    assert!(rt; is_halfway::<Brand>(Blank::new(1), alloc, &doc)?);
     Ok(())
 }
 

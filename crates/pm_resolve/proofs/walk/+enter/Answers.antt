@@ -11,59 +11,60 @@ use Rattle.pm_node.specs.Documents.{content_tokens}
 use Rattle.pm_resolve.specs.Levels.{content_of, Enters}
 use Rattle.pm_resolve.proofs.AmongLaws.{next-there}
 use Rattle.pm_resolve.proofs.EnterLaws.{entered-lowest, entered-deeper, level-is, between-depth, flat-depth, enters-child}
+use Rattle.pm_resolve.proofs.SearchLaws.{step-bound}
 use Rattle.pm_resolve.proofs.walk.+enter.Goals as goal
 
-pub returns-else-found-gt0 : goal.returns-else-found-gt0
-returns-else-found-gt0 t c =
+pub returns-else-found-gt0-clause-entered : goal.returns-else-found-gt0-clause-entered
+returns-else-found-gt0-clause-entered g t c =
     let n = c.args.node.now in
     let xs = c.children-children.result in
     let e = c.children-children.ensures in
-    let i = c.find-found.result.index in
-    let r = c.find-found.result.rest in
+    let i = c.find_counted-found.result.index in
+    let r = c.find_counted-found.result.rest in
     let is : content_of n ≡ list_tokens xs = sym (e.tokens ∙ c.requires.content) in
-    let s = c.find-found.ensures in
+    let s = c.find_counted-found.ensures.found in
     entered-lowest c.in_ok-push.ensures.items (level-is n xs c.args.pos c.args.start i r is e.normal e.each s _ refl refl refl) (between-depth n xs c.args.pos c.args.start i r is e.normal e.each s (omega (arith, c.if-found-gt0.false)))
 
-pub returns-in_default : goal.returns-in_default
-returns-in_default t c =
+pub returns-in_default-clause-entered : goal.returns-in_default-clause-entered
+returns-in_default-clause-entered g t c =
     let n = c.args.node.now in
     let xs = c.children-children.result in
     let e = c.children-children.ensures in
-    let i = c.find-found.result.index in
-    let r = c.find-found.result.rest in
+    let i = c.find_counted-found.result.index in
+    let r = c.find_counted-found.result.rest in
     let is : content_of n ≡ list_tokens xs = sym (e.tokens ∙ c.requires.content) in
-    let s = c.find-found.ensures in
+    let s = c.find_counted-found.ensures.found in
     let x = c.get.result.now in
     let lt : i < length xs = next-there s (omega (arith, c.if-found-gt0.true)) in
     entered-lowest c.in_ok-push.ensures.items (level-is n xs c.args.pos c.args.start i r is e.normal e.each s _ refl refl refl)
     (flat-depth n xs c.args.pos c.args.start i r is e.normal e.each s x lt c.get.ensures (λ ts b. c.in_default.not-Children ts (ap (λ v. v.body) c.deref-child.ensures ∙ b)))
 
-pub returns-in-Children : goal.returns-in-Children
-returns-in-Children t c =
+pub returns-in-Children-clause-entered : goal.returns-in-Children-clause-entered
+returns-in-Children-clause-entered g t c =
     let n = c.args.node.now in
     let xs = c.children-children.result in
     let e = c.children-children.ensures in
-    let i = c.find-found.result.index in
-    let r = c.find-found.result.rest in
+    let i = c.find_counted-found.result.index in
+    let r = c.find_counted-found.result.rest in
     let is : content_of n ≡ list_tokens xs = sym (e.tokens ∙ c.requires.content) in
-    let s = c.find-found.ensures in
+    let s = c.find_counted-found.ensures.found in
     let x = c.get.result.now in
     let lt : i < length xs = next-there s (omega (arith, c.if-found-gt0.true)) in
     let body = ap (λ v. v.body) (sym c.deref-child.ensures) ∙ c.in-Children.is in
     let child : Enters c.args.pos c.args.start n ((c.args.pos - r) + 1) (arc_value x) =
     enters-child n xs c.args.pos c.args.start i r is e.normal e.each s x lt c.get.ensures c.in-Children.inner ((c.args.pos - r) + 1) body c.size.ensures.whole c.requires.started (omega (arith, c.if-found-gt0.true)) refl in
     let down = subst (λ v. Enters c.args.pos c.args.start n ((c.args.pos - r) + 1) v) (sym c.deref-child.ensures) child in
-    on_ok_weaker c.enter.result (λ more. entered-deeper c.in_ok-push.ensures.items (level-is n xs c.args.pos c.args.start i r is e.normal e.each s _ refl refl refl) down more) c.enter.ensures
+    on_ok_weaker c.enter.result (λ more. entered-deeper c.in_ok-push.ensures.items (level-is n xs c.args.pos c.args.start i r is e.normal e.each s _ refl refl refl) down more) c.enter.ensures.entered
 
 pub enter-requires : goal.enter-requires
-enter-requires t c =
+enter-requires g t c =
     let n = c.args.node.now in
     let xs = c.children-children.result in
     let e = c.children-children.ensures in
-    let i = c.find-found.result.index in
-    let r = c.find-found.result.rest in
+    let i = c.find_counted-found.result.index in
+    let r = c.find_counted-found.result.rest in
     let is : content_of n ≡ list_tokens xs = sym (e.tokens ∙ c.requires.content) in
-    let s = c.find-found.ensures in
+    let s = c.find_counted-found.ensures.found in
     let x = c.get.result.now in
     let lt : i < length xs = next-there s (omega (arith, c.if-found-gt0.true)) in
     let body = ap (λ v. v.body) (sym c.deref-child.ensures) ∙ c.in-Children.is in
@@ -75,5 +76,27 @@ enter-requires t c =
     let size = ap length (node_tokens_at (arc_value x) (Children c.in-Children.inner) body) in
     let m = c.deref-child.result.now in
     let held : content_tokens m.marks m.body ≡ c.in-Children.inner = ap (content_tokens m.marks) c.in-Children.is in
-    let g : length c.in-Children.inner < t = omega (arith, d, small, size, ap length e.tokens, length-append c.in-Children.inner (Close ∷ [])) in
-    (g, (sym held, (down.started, let k = down.within in omega (arith, k, ap (λ b. length (content_tokens m.marks b)) down.body, ap length held))))
+    let less : length c.in-Children.inner < t = omega (arith, d, small, size, ap length e.tokens, length-append c.in-Children.inner (Close ∷ [])) in
+    λ κs o. (less, (o, (sym held, (down.started, let k = down.within in omega (arith, k, ap (λ b. length (content_tokens m.marks b)) down.body, ap length held)))))
+
+pub returns-else-found-gt0-clause-steps : goal.returns-else-found-gt0-clause-steps
+returns-else-found-gt0-clause-steps g t c =
+    let n = c.args.node.now in
+    let xs = c.children-children.result in
+    let e = c.children-children.ensures in
+    step-bound n xs _ c.args.levels.now.items c.push.new.self.items c.args.steps.now c.find_counted-found.new.steps (sym (e.tokens ∙ c.requires.content)) e.normal e.each c.in_ok-push.ensures.items refl c.find_counted-found.ensures.steps
+
+pub returns-in_default-clause-steps : goal.returns-in_default-clause-steps
+returns-in_default-clause-steps g t c =
+    let n = c.args.node.now in
+    let xs = c.children-children.result in
+    let e = c.children-children.ensures in
+    step-bound n xs _ c.args.levels.now.items c.push.new.self.items c.args.steps.now c.find_counted-found.new.steps (sym (e.tokens ∙ c.requires.content)) e.normal e.each c.in_ok-push.ensures.items refl c.find_counted-found.ensures.steps
+
+pub returns-in-Children-clause-steps : goal.returns-in-Children-clause-steps
+returns-in-Children-clause-steps g t c =
+    let n = c.args.node.now in
+    let xs = c.children-children.result in
+    let e = c.children-children.ensures in
+    let one = step-bound n xs _ c.args.levels.now.items c.push.new.self.items c.args.steps.now c.find_counted-found.new.steps (sym (e.tokens ∙ c.requires.content)) e.normal e.each c.in_ok-push.ensures.items refl c.find_counted-found.ensures.steps in
+    on_ok_weaker c.enter.result (λ more. omega (arith, one, more)) c.enter.ensures.steps

@@ -1,36 +1,53 @@
-use Rattle.std.proofs.Common.{◌≡◌, ◌+◌, ◌++◌, length, length-append, append_assoc, arith, ap, sym, ◌∙◌}
+use Rattle.std.proofs.Common.{◌≡◌, ◌+◌, ◌<◌, ◌^◌, ◌++◌, length, length-append, arith, ap, sym, ◌∙◌}
 use Rattle.pm_tokens.specs.Scan.{part}
+use Rattle.pm_sized.specs.Pairs.{pairs_of}
+use Rattle.pm_sized.specs.Parts.{values_of}
+use Rattle.pm_sized.proofs.PartLaws.{length-values, total-values, values-part, values-append}
 use Rattle.pm_node.specs.Trees.{list_tokens}
-use Rattle.pm_node.proofs.TreeLaws.{list_tokens-append}
-use Rattle.pm_node.proofs.RunLaws.{part-at}
+use Rattle.pm_node.specs.Chunks.{nodes_of}
+use Rattle.pm_node.proofs.ChunkLaws.{length-items, total-sized, total-run, tokens-until, kept-until}
 use Rattle.pm_node.proofs.node.Fragment.append.Goals as goal
 
-pub append_next-requires-clause-room : goal.append_next-requires-clause-room
-append_next-requires-clause-room c =
-    let xs = c.args.source.now in
-    let f = c.args.from in
-    let i = c.loop-i.i in
-    let t = c.args.to in
-    omega (
-      arith,
-      c.requires.room,
-      ap (λ z. length (list_tokens z)) (part-at f i t xs c.loop-i.invariant.before c.loop-i.invariant.within),
-      ap length (list_tokens-append (part f i xs) (part i t xs)),
-      length-append (list_tokens (part f i xs)) (list_tokens (part i t xs)),
-      ap length c.loop-i.invariant.tokens,
-      length-append c.args.self.now (list_tokens (part f i xs)),
-    )
+pub append-requires-clause-within : goal.append-requires-clause-within
+append-requires-clause-within c = omega (arith, c.requires.within, ap length c.source.view_is, length-items (pairs_of c.source.inside.nodes.now), length-values (pairs_of c.source.inside.nodes.now))
 
-pub loop-i-preserved : goal.loop-i-preserved
-loop-i-preserved c =
+pub append-requires-clause-room : goal.append-requires-clause-room
+append-requires-clause-room c =
+    let src = c.source.inside.nodes.now in
     let xs = c.args.source.now in
-    let f = c.args.from in
-    let i = c.loop-i.i in
-    let j = i + c.in_ok-i.field-0 in
-    let a = c.in_ok-i.ensures in
-    let more : list_tokens (part f j xs) ≡ list_tokens (part f i xs) ++ list_tokens (part i j xs) = ap list_tokens (part-at f i j xs c.loop-i.invariant.before (omega arith)) ∙ list_tokens-append (part f i xs) (part i j xs) in
-    record {
-      before = omega (arith, c.loop-i.invariant.before);
-      within = a.within;
-      tokens = a.tokens ∙ (ap (λ z. z ++ list_tokens (part i j xs)) c.loop-i.invariant.tokens ∙ (append_assoc c.args.self.now (list_tokens (part f i xs)) (list_tokens (part i j xs)) ∙ ap (λ z. c.args.self.now ++ z) (sym more)));
-    }
+    let k = c.in_ok-i.ensures in
+    let s = c.join_first.new.nodes in
+    let old = list_tokens (nodes_of c.self.inside.nodes) in
+    let room : length old + length (list_tokens (part c.args.from c.args.to xs)) < 2 ^ 32 = omega (arith, c.requires.room, ap length c.self.view_is) in
+    total-run s src old xs c.args.from c.args.to c.in_ok-i.i k.kept c.source.invariant c.source.view_is k.ok room
+
+pub returns : goal.returns
+returns c =
+    let src = c.source.inside.nodes.now in
+    let xs = c.args.source.now in
+    let k = c.in_ok-i.ensures in
+    let s = c.join_first.new.nodes in
+    let old = list_tokens (nodes_of c.self.inside.nodes) in
+    let room : length old + length (list_tokens (part c.args.from c.args.to xs)) < 2 ^ 32 = omega (arith, c.requires.room, ap length c.self.view_is) in
+    tokens-until s c.append.new.self src old xs c.args.from c.args.to c.in_ok-i.i c.args.to c.source.view_is k.ok k.ok.within (omega arith) c.in_ok-append.ensures.ok ∙ ap (λ z. z ++ list_tokens (part c.args.from c.args.to xs)) c.self.view_is
+
+pub invariant_of-self-in_err-append : goal.invariant_of-self-in_err-append
+invariant_of-self-in_err-append c =
+    let src = c.source.inside.nodes.now in
+    let xs = c.args.source.now in
+    let k = c.in_ok-i.ensures in
+    let s = c.join_first.new.nodes in
+    let old = list_tokens (nodes_of c.self.inside.nodes) in
+    let room : length old + length (list_tokens (part c.args.from c.args.to xs)) < 2 ^ 32 = omega (arith, c.requires.room, ap length c.self.view_is) in
+    let h = c.in_err-append.ensures.err in
+    kept-until s c.append.new.self src old xs c.args.from c.args.to c.in_ok-i.i h.until c.source.view_is k.ok h.from_on h.within h.values k.kept c.in_err-append.ensures.laid c.source.invariant c.requires.normal c.requires.each room
+
+pub invariant_of-self-2 : goal.invariant_of-self-2
+invariant_of-self-2 c =
+    let src = c.source.inside.nodes.now in
+    let xs = c.args.source.now in
+    let k = c.in_ok-i.ensures in
+    let s = c.join_first.new.nodes in
+    let old = list_tokens (nodes_of c.self.inside.nodes) in
+    let room : length old + length (list_tokens (part c.args.from c.args.to xs)) < 2 ^ 32 = omega (arith, c.requires.room, ap length c.self.view_is) in
+    kept-until s c.append.new.self src old xs c.args.from c.args.to c.in_ok-i.i c.args.to c.source.view_is k.ok k.ok.within (omega arith) c.in_ok-append.ensures.ok k.kept c.in_ok-append.ensures.laid c.source.invariant c.requires.normal c.requires.each room
