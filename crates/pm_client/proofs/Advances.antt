@@ -125,6 +125,5 @@ module _ {Rules Doc Reason C : Type 0} (m : Meaning Rules Doc Reason C) (rules :
         room = λ base h2.
             room-of laws c rest s.standing r.front s.later (own_run c.name rest) (base-good m rules first h.log c kin laws) (r.own_is ∙ sym s.counted) r.rest_is s.pending_is kin.doc_is base h2 kin.cursors;
         have_maps = (over-of laws c rest s.standing r.front s.later (own_run c.name rest) (base-good m rules first h.log c kin laws) (r.own_is ∙ sym s.counted) r.rest_is s.pending_is kin.doc_is reaches.0 reaches.1).have_maps;
-        remembered = kin.remembered;
         short = long;
       }

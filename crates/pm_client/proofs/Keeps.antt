@@ -1,6 +1,6 @@
 -- Each call keeps how its client stands to the log, and each growth of the log keeps it too.
 use Rattle.std.specs.Prelude.{◌≡◌, ℕ, ◌+◌, ◌≤◌, ◌<◌, ◌⊎◌, true, false, nat_lt, List, [], ◌∷◌, ◌++◌, length, drop, Option, Some, Result, Ok, Err, refl}
-use Rattle.std.proofs.Common.{sym, subst, ap, ◌∙◌, inl, inr, arith, length-append, length-drop, append_assoc, append-nil}
+use Rattle.std.proofs.Common.{sym, subst, ap, ◌∙◌, inl, inr, arith, length-append, append_assoc, append-nil}
 use Rattle.std.proofs.Math.Seq.{drop-append_seam}
 use Rattle.std.proofs.lemmas.List.Elements.{All-from_recursion}
 use Rattle.std.proofs.lemmas.Bool.{ltb-true, ltb-false}
@@ -19,10 +19,12 @@ use Rattle.pm_authority.proofs.RunFolds.{changes-append, run-fold}
 use Rattle.pm_history.specs.declared.branches.Branches.{Branches}
 use Rattle.pm_history.specs.declared.branches.MadeBy.TheVariants.{Edit}
 use Rattle.pm_history.specs.Histories.{noted_all}
+use Rattle.pm_history.specs.Trims.{trimmed}
 use Rattle.pm_history.specs.Timelines.{Step, changes_of as steps_changes, items_from}
 use Rattle.pm_history.specs.Standing.{IsHistoryOf}
 use Rattle.pm_history.proofs.Grows.{history-new}
-use Rattle.pm_history.proofs.Rebased.{items-length}
+use Rattle.pm_history.proofs.Carried.{both-fold}
+use Rattle.pm_history.proofs.Trimmings.{history-trimmed}
 use Rattle.pm_history.proofs.Calls.{history-call}
 use Rattle.pm_client.specs.declared.client.Client.{Client}
 use Rattle.pm_client.specs.declared.taken.MessageKind.{MessageKind}
@@ -36,7 +38,7 @@ use Rattle.pm_client.specs.Cursors.{cursor, IsWithin}
 use Rattle.pm_client.proofs.RebaseLaws.{maps-fit, plain-paired, cursors-move, fork, over-can, rebased-applied}
 use Rattle.pm_client.specs.declared.rebasing.Rebasing.{Rebasing}
 use Rattle.pm_client.specs.Timelines.{IsTimeline, edit_steps}
-use Rattle.pm_client.proofs.TimelineLaws.{changes-are, timeline-append, edits-timeline, named-length, edits-length}
+use Rattle.pm_client.proofs.TimelineLaws.{changes-are, timeline-append, edits-timeline, edits-length}
 use Rattle.pm_client.proofs.Pasts.{past-carried}
 use Rattle.pm_client.proofs.Partings.{parted-edited, parted-confirmed, parted-foreign}
 use Rattle.pm_client.proofs.DropLaws.{parted-dropped, rebased-times, rebased-order, rebased-own}
@@ -125,8 +127,8 @@ module _ {Rules Doc Reason C : Type 0} (m : Meaning Rules Doc Reason C) (rules :
   -- own steps more, as the history has them
   pub kin-gone_on : Laws m → (cs : List C) (doc : Doc) (more : List (Step C)) (h : Branches C) → AllApply m rules c.doc (named c.name (c.serials + 1) cs) doc
       → IsTimeline c.name more (named c.name (c.serials + 1) cs) → IsHistoryOf m rules c.name (c.serials + length cs) first (kin.timeline ++ more) h
-      → length h.items ≡ length c.history.items + length cs → Kin m rules first log (gone_on m c cs doc h)
-  kin-gone_on laws cs doc more h applies more_are stands count =
+      → Kin m rules first log (gone_on m c cs doc h)
+  kin-gone_on laws cs doc more h applies more_are stands =
       let new : List (Named C) = named c.name (c.serials + 1) cs in
       let fits = maps-fit m rules laws c.doc doc new (doc-good laws) applies in
       record {
@@ -148,7 +150,6 @@ module _ {Rules Doc Reason C : Type 0} (m : Meaning Rules Doc Reason C) (rules :
         timeline_is = subst (IsTimeline c.name (kin.timeline ++ more)) (append_assoc kin.before c.pending new)
             (timeline-append c.name kin.timeline more (kin.before ++ c.pending) new kin.timeline_is more_are);
         history = stands;
-        remembered = omega (arith, count, kin.remembered, length-append c.pending new, named-length c.name (c.serials + 1) cs);
         messages = All-more _ _ c.messages (message-grows c.version c.pending new) kin.messages;
         answers = kin.answers;
       }
@@ -164,13 +165,15 @@ module _ {Rules Doc Reason C : Type 0} (m : Meaning Rules Doc Reason C) (rules :
       let applies : AllApply m rules c.doc new doc = run-fold m rules c.doc doc 0 new ran in
       let made : fold m rules c.doc (steps_changes ss) ≡ Some doc = ap (fold m rules c.doc) (changes-are ss ∙ ap changes_of edits.0.named_are) ∙ applies in
       let n : length ss ≡ length cs = edits-length c.name (c.serials + 1) cs in
-      let history : Branches C = noted_all c.history (items_from m rules c.doc ss) (Edit event true) in
+      let history : Branches C = trimmed (noted_all c.history (items_from m rules c.doc ss) (Edit event true)) in
+      let all : fold m rules first (steps_changes (kin.timeline ++ ss)) ≡ Some doc = both-fold m rules first c.doc doc kin.timeline ss timeline-applies made in
       let stands : IsHistoryOf m rules c.name (c.serials + length cs) first (kin.timeline ++ ss) history =
       subst (λ k. IsHistoryOf m rules c.name (c.serials + k) first (kin.timeline ++ ss) history) n
-      (history-call m rules c.name c.serials first c.doc doc kin.timeline ss c.history event true kin.history timeline-applies made edits.1) in
+      (history-trimmed m rules c.name (c.serials + length ss) first doc (kin.timeline ++ ss) (noted_all c.history (items_from m rules c.doc ss) (Edit event true)) all
+      (history-call m rules c.name c.serials first c.doc doc kin.timeline ss c.history event true kin.history timeline-applies made edits.1)) in
       let is : gone_on m c cs doc history ≡ next = cc in
       subst (Kin m rules first log) is
-      (kin-gone_on laws cs doc ss history applies edits.0 stands (length-append c.history.items (items_from m rules c.doc ss) ∙ ap (λ k. length c.history.items + k) (items-length m rules c.doc doc ss made ∙ n)))
+      (kin-gone_on laws cs doc ss history applies edits.0 stands)
 
   -- steps made
   pub kin-edited : Laws m → (cs : List C) (event : Option ℕ) (next : Client C Rules Doc Reason) → edited m rules c cs event ≡ Ok next → Kin m rules first log next
@@ -195,7 +198,6 @@ module _ {Rules Doc Reason C : Type 0} (m : Meaning Rules Doc Reason C) (rules :
     timeline = kin.timeline;
     timeline_is = kin.timeline_is;
     history = kin.history;
-    remembered = kin.remembered;
     messages = All-push (MessageStands c.version c.pending) c.messages (message_of c kind) kin.messages (new kind);
     answers = kin.answers;
   }
@@ -223,7 +225,6 @@ module _ {Rules Doc Reason C : Type 0} (m : Meaning Rules Doc Reason C) (rules :
     timeline = kin.timeline;
     timeline_is = kin.timeline_is;
     history = kin.history;
-    remembered = kin.remembered;
     messages = kin.messages;
     answers = kin.answers;
   }
@@ -247,7 +248,6 @@ module _ {Rules Doc Reason C : Type 0} (m : Meaning Rules Doc Reason C) (rules :
     timeline = kin.timeline;
     timeline_is = kin.timeline_is;
     history = kin.history;
-    remembered = kin.remembered;
     messages = kin.messages;
     answers = All-push (AnswerStands log c.version kin.standing) c.answers a kin.answers h;
   }
@@ -280,7 +280,6 @@ module _ {Rules Doc Reason C : Type 0} (m : Meaning Rules Doc Reason C) (rules :
     timeline = kin.timeline;
     timeline_is = kin.timeline_is;
     history = kin.history;
-    remembered = kin.remembered;
     messages = kin.messages;
     answers = All-more _ _ c.answers (answer-grows log more c.version kin.standing) kin.answers;
   }
@@ -314,7 +313,6 @@ module _ {Rules Doc Reason C : Type 0} (m : Meaning Rules Doc Reason C) (rules :
         timeline_is = subst (IsTimeline c.name kin.timeline)
             (ap (λ l. kin.before ++ l) s.pending_is ∙ sym (append_assoc kin.before s.standing s.later) ∙ ap (λ l. kin.before ++ s.standing ++ l) (sym rest)) kin.timeline_is;
         history = kin.history;
-        remembered = omega (arith, kin.remembered, length-drop kin.standing c.pending);
         messages = All-more _ _ c.messages (λ x a. message-passed c.version (c.version + kin.standing) c.pending (drop kin.standing c.pending) x (omega arith) a) kin.messages;
         answers = All-more _ _ c.answers (λ x a. answer-passed log c.version kin.standing 0 (c.version + kin.standing) x (omega arith) a) kin.answers;
       }
@@ -364,7 +362,6 @@ module _ {Rules Doc Reason C : Type 0} (m : Meaning Rules Doc Reason C) (rules :
         timeline = past.steps;
         timeline_is = past.timeline_is;
         history = past.history;
-        remembered = past.remembered;
         messages = All-more _ _ c.messages (λ x a. message-passed c.version (c.version + (kin.standing + length front)) c.pending r.kept x (omega (arith, some)) a) kin.messages;
         answers = All-more _ _ c.answers (λ x a. answer-passed log c.version kin.standing (length front) (c.version + (kin.standing + length front)) x (omega arith) a) kin.answers;
       }
@@ -393,7 +390,6 @@ module _ {Rules Doc Reason C : Type 0} (m : Meaning Rules Doc Reason C) (rules :
         timeline = kin.timeline;
         timeline_is = kin.timeline_is;
         history = kin.history;
-        remembered = kin.remembered;
         messages = kin.messages;
         answers = All-more (AnswerStands log c.version kin.standing) _ c.answers (λ x a. answer-accepted log steps c.version (length steps) x at (rw zero_standing at a)) kin.answers;
       }
@@ -426,7 +422,6 @@ kin-new m rules name doc good = record {
   timeline = [];
   timeline_is = record { named_are = refl; own_are = tt };
   history = history-new m rules name doc;
-  remembered = omega arith;
   messages = All-from_recursion _ [] tt;
   answers = All-from_recursion _ [] tt;
 }

@@ -1,5 +1,5 @@
 -- A cursor with side `After` before a named token stays before it over the mapping of a rebase.
-use Rattle.std.specs.Prelude.{◌≡◌, ℕ, zero, suc, pos, ◌+◌, ◌-◌, ◌≤◌, ◌<◌, Bool, false, List, [], ◌∷◌, ◌++◌, length, take, drop, slice_get, map, Option, Some, None, refl}
+use Rattle.std.specs.Prelude.{◌≡◌, ℕ, zero, suc, ◌+◌, ◌-◌, ◌≤◌, ◌<◌, Bool, false, List, [], ◌∷◌, ◌++◌, length, take, drop, slice_get, map, Option, Some, None, refl}
 use Rattle.std.proofs.Common.{arith, sym, ap, ◌∙◌, subst, length-drop}
 use Rattle.pm_map.specs.declared.side.Side.TheVariants.{After}
 use Rattle.pm_map.specs.declared.step_map.Span.{Span}

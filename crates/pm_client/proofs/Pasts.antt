@@ -1,18 +1,17 @@
 -- The history of a client whose later pending steps were carried over others' entries.
-use Rattle.std.specs.Prelude.{◌≡◌, ◌-◌, ◌≤◌, List, [], ◌∷◌, ◌++◌, length, take, map, Some, refl}
+use Rattle.std.specs.Prelude.{◌≡◌, ◌-◌, List, [], ◌∷◌, ◌++◌, length, map, Some, refl}
 use Rattle.std.specs.List.{AllByRecursion as Each}
 use Rattle.std.proofs.Common.{sym, subst, ap, ◌∙◌, arith, length-append, append_assoc}
 use Rattle.std.proofs.lemmas.List.{length-map}
 use Rattle.pm_change.specs.Changes.{Meaning, Laws, fold}
 use Rattle.pm_authority.specs.declared.named.Named.{Named}
 use Rattle.pm_authority.specs.Runs.{changes_of, AllApply}
-use Rattle.pm_history.specs.declared.item.Item.{Item}
-use Rattle.pm_history.specs.Histories.{foreign_items, last_items, rebased as rebased_last}
+use Rattle.pm_history.specs.Histories.{last_items}
 use Rattle.pm_history.specs.Timelines.{Step, changes_of as steps_changes}
+use Rattle.pm_history.specs.Remembers.{live_names}
 use Rattle.pm_history.specs.Standing.{IsHistoryOf}
-use Rattle.pm_history.proofs.Rebased.{none, maps_of as steps_maps, items-length, history-rebased}
-use Rattle.pm_history.specs.Tied.{tied_as, all_tied}
-use Rattle.pm_history.proofs.TiedLaws.{history-ties}
+use Rattle.pm_history.proofs.Carried.{all_items, all-ties, history-carried}
+use Rattle.pm_history.proofs.Rebased.{none, maps_of as steps_maps}
 use Rattle.pm_client.specs.declared.client.Client.{Client}
 use Rattle.pm_client.specs.declared.rebasing.Rebasing.{Rebasing}
 use Rattle.pm_client.specs.Clients.{carried_history}
@@ -38,7 +37,6 @@ module _ {Rules Doc Reason C : Type 0} (m : Meaning Rules Doc Reason C) (rules :
     pub steps : List (Step C)
     pub timeline_is : IsTimeline c.name steps (kin.before ++ (kin.stands.standing ++ front) ++ r.kept)
     pub history : IsHistoryOf m rules c.name c.serials first steps (carried_history c.history (length c.pending - kin.standing) (ranges_of m front) r.items)
-    pub remembered : length r.kept ≤ length (carried_history c.history (length c.pending - kin.standing) (ranges_of m front) r.items).items
 
   pub past-carried : Laws m → (base : Doc) (front : List (Named C)) (at : Doc) (r : Rebasing C Rules Doc Reason) → AllApply m rules first (kin.before ++ kin.stands.standing) at
       → AllApply m rules at front base → AllApply m rules at kin.stands.later c.doc → Each (IsForeign c.name) front
@@ -57,29 +55,22 @@ module _ {Rules Doc Reason C : Type 0} (m : Meaning Rules Doc Reason C) (rules :
       let eF : fold m rules at (steps_changes F) ≡ Some base = ap (fold m rules at) (changes-are F ∙ ap changes_of others.0.named_are) ∙ front_applies in
       let n : length t.back ≡ length s.later = sym (length-map t.back named_of) ∙ ap length t.back_is.named_are in
       let count : length t.back ≡ length c.pending - kin.standing = omega (arith, n, s.counted, ap length s.pending_is, length-append s.standing s.later) in
-      let enough : length t.back ≤ length c.history.items = omega (arith, count, kin.remembered) in
       let stood : IsHistoryOf m rules c.name c.serials first (t.front ++ t.back) c.history = subst (λ ss. IsHistoryOf m rules c.name c.serials first ss c.history) t.steps_are kin.history in
-      let old = last_items (length t.back) c.history.items in
-      let ties = history-ties m rules c.name c.serials first at c.doc t.front t.back c.history stood eA eG enough own in
+      let old = last_items (length t.back) (all_items m rules first (t.front ++ t.back) (live_names c.history) c.history.items stood.remembers) in
+      let ties = all-ties m rules c.name c.serials first at c.doc t.front t.back c.history stood eA eG own in
       let held = rebased-holds m rules old base laws begun [] [] t.back (record { kept_are = refl; applies = refl; items_are = refl; comes = none; own = tt }) own ties in
       let K = held.0 in
       let k : Holds m rules old base r t.back K =
       subst (λ so. Holds m rules old base so t.back K) (ap (rebased m rules begun) t.back_is.named_are ∙ sym is) held.1 in
-      let after = history-rebased m rules c.name c.serials first at c.doc base r.doc t.front t.back F K c.history stood eA eG others.1 eF k.applies k.comes enough in
+      let after = history-carried m rules c.name c.serials first at c.doc base r.doc t.front t.back F K c.history stood eA eG others.1 eF k.applies k.comes r.items k.items_are in
       let history : IsHistoryOf m rules c.name c.serials first (t.front ++ (F ++ K)) (carried_history c.history (length c.pending - kin.standing) (ranges_of m front) r.items) =
       subst (λ j. IsHistoryOf m rules c.name c.serials first (t.front ++ (F ++ K)) (carried_history c.history j (ranges_of m front) r.items)) count
-      (subst (λ rs. IsHistoryOf m rules c.name c.serials first (t.front ++ (F ++ K)) (rebased_last c.history (length t.back) rs (all_tied old r.items))) (sym (foreign-ranges m front))
-      (subst (λ is. IsHistoryOf m rules c.name c.serials first (t.front ++ (F ++ K)) (rebased_last c.history (length t.back) (steps_maps m F) is)) (sym k.items_are) after)) in
+      (subst (λ rs. IsHistoryOf m rules c.name c.serials first (t.front ++ (F ++ K)) (carried_history c.history (length t.back) rs r.items)) (sym (foreign-ranges m front)) after) in
       let kept_named : IsTimeline c.name K r.kept =
       own-timeline c.name K r.kept k.kept_are k.own (rw is (rebased-own m rules c.name begun s.later tt (Each-back (IsOwn c.name) s.standing s.later (rw s.pending_is at kin.own)))) in
-      let tied : List (Item C) = all_tied (last_items (length c.pending - kin.standing) c.history.items) r.items in
-      let kept-count : length r.kept ≡ length tied =
-      ap length k.kept_are ∙ length-map K named_of ∙ sym (items-length m rules base r.doc K k.applies) ∙ ap length (sym k.items_are)
-      ∙ length-map r.items (tied_as old) ∙ sym (length-map r.items (tied_as (last_items (length c.pending - kin.standing) c.history.items))) in
       record {
         steps = t.front ++ (F ++ K);
         timeline_is = subst (IsTimeline c.name (t.front ++ (F ++ K))) (regroup kin.before s.standing front r.kept)
             (timeline-append c.name t.front (F ++ K) (kin.before ++ s.standing) (front ++ r.kept) t.front_is (timeline-append c.name F K front r.kept others.0 kept_named));
         history = history;
-        remembered = omega (arith, kept-count, length-append (take (length c.history.items - (length c.pending - kin.standing)) c.history.items) (foreign_items (ranges_of m front) ++ tied), length-append (foreign_items (ranges_of m front)) tied);
       }

@@ -1,5 +1,5 @@
 -- A client's calls keep its cursors before their tokens.
-use Rattle.std.specs.Prelude.{◌≡◌, ℕ, zero, suc, pos, ◌+◌, ◌-◌, ◌<◌, List, [], ◌∷◌, ◌++◌, length, map, take, drop, slice_get, Option, Some, None, Result, Ok, Err, refl}
+use Rattle.std.specs.Prelude.{◌≡◌, ℕ, zero, suc, ◌+◌, ◌-◌, ◌<◌, List, [], ◌∷◌, ◌++◌, length, map, take, drop, slice_get, Option, Some, None, Result, Ok, Err, refl}
 use Rattle.std.specs.List.{AllByRecursion as Each}
 use Rattle.std.proofs.Common.{true, arith, sym, ap, ◌∙◌, subst, append_assoc, append-nil, length-append}
 use Rattle.std.proofs.Math.Seq.{drop-append_seam}
@@ -14,6 +14,7 @@ use Rattle.pm_authority.proofs.RunFolds.{run-fold}
 use Rattle.pm_history.specs.declared.branches.Branches.{Branches}
 use Rattle.pm_history.specs.declared.branches.MadeBy.TheVariants.{Edit}
 use Rattle.pm_history.specs.Histories.{noted_all}
+use Rattle.pm_history.specs.Trims.{trimmed}
 use Rattle.pm_history.specs.Timelines.{items_from}
 use Rattle.pm_client.specs.declared.client.Client.{Client}
 use Rattle.pm_client.specs.declared.rebasing.Rebasing.{Rebasing}
@@ -247,7 +248,7 @@ module _ {Rules Doc Reason C : Type 0} (m : Meaning Rules Doc Reason C) (rules :
   tried-keeps cs event next (Err e) ran h k = absurd (cc)
   tried-keeps cs event next (Ok doc) ran h k =
       let new : List (Named C) = named c.name (c.serials + 1) cs in
-      let history : Branches C = noted_all c.history (items_from m rules c.doc (edit_steps new)) (Edit event true) in
+      let history : Branches C = trimmed (noted_all c.history (items_from m rules c.doc (edit_steps new)) (Edit event true)) in
       let is : gone_on m c cs doc history ≡ next = cc in
       subst (λ d. KeepsTokens m log c d (m.size c.base)) is
       (gone_on-keeps cs doc history (run-fold m rules c.doc doc 0 new ran) (subst (Kin m rules first log) (sym is) k))

@@ -1,22 +1,25 @@
 -- Undoing and redoing the last event.
-use Rattle.std.specs.Prelude.{Result, Ok, Err, IfOk, OnOk, OnErr, ◌≡◌, ℕ, ◌+◌, List, [], ◌∷◌, ◌++◌, length, Option, Some, None, refl, All}
+use Rattle.std.specs.Prelude.{Result, Ok, Err, IfOk, OnOk, OnErr, ◌≡◌, ℕ, ◌+◌, List, [], ◌∷◌, ◌++◌, length, drop, Option, Some, None, refl, All}
 use Rattle.std.specs.List.{AllByRecursion as Each}
-use Rattle.std.proofs.Common.{sym, ap, subst, ◌∙◌, arith, length-append}
+use Rattle.std.proofs.Common.{sym, ap, subst, ◌∙◌, arith}
 use Rattle.std.proofs.lemmas.List.Elements.{All-from_recursion}
 use Rattle.pm_change.specs.Changes.{Meaning, Laws, fold}
+use Rattle.pm_change.specs.declared.name.Name.{Name}
 use Rattle.pm_authority.specs.declared.named.Named.{Named}
 use Rattle.pm_authority.specs.Runs.{AllApply}
 use Rattle.pm_history.specs.declared.branch.Event.{Event}
 use Rattle.pm_history.specs.declared.branches.Branches.{Branches}
 use Rattle.pm_history.specs.declared.direction.Direction.{Direction}
 use Rattle.pm_history.specs.declared.direction.Direction.TheVariants.{Undo, Redo}
+use Rattle.pm_history.specs.declared.item.Item.{Item}
 use Rattle.pm_history.specs.declared.undoing.Undone.{Undone}
 use Rattle.pm_history.specs.Histories.{event_of, names_in, without_last, last_event, last_of, undone}
 use Rattle.pm_history.specs.Timelines.{Step, items_from}
 use Rattle.pm_history.specs.Made.{made_steps, IsMade}
 use Rattle.pm_history.specs.Undos.{undo_event}
 use Rattle.pm_history.specs.Shows.{ShowsTo}
-use Rattle.pm_history.specs.Tidy.{NoRangeUndoes, IsTidy}
+use Rattle.pm_history.specs.Starts.{start_of}
+use Rattle.pm_history.specs.Tidy.{NoRangeUndoes, NamesDiffer, IsTidy}
 use Rattle.pm_history.specs.Unchanged.{NothingSince}
 use Rattle.pm_history.specs.Remembers.{live_names, Remembers}
 use Rattle.pm_history.specs.Standing.{IsHistoryOf}
@@ -24,6 +27,8 @@ use Rattle.pm_history.proofs.Grows.{undo-remembers, redo-remembers, history-show
 use Rattle.pm_history.proofs.Turned.{IsLast, history-undone}
 use Rattle.pm_history.proofs.Mades.{made-event}
 use Rattle.pm_history.proofs.Agrees.{undo-restores, undo-remembered}
+use Rattle.pm_history.proofs.Carried.{kept-differ}
+use Rattle.pm_history.proofs.Starts.{event-from, shows-from}
 use Rattle.pm_client.specs.declared.client.Client.{Client}
 use Rattle.pm_client.specs.Clients.{named, turned, event_turned, last_turned}
 use Rattle.pm_client.specs.Cursors.{HasRoomIn}
@@ -58,6 +63,18 @@ module _ {Rules Doc Reason C : Type 0} (m : Meaning Rules Doc Reason C) (rules :
   kin-shows =
       history-shows m rules laws (live_names c.history) first c.doc kin.timeline c.history.items kin.first_good (timeline-applies m rules first log c kin) kin.history.remembers
 
+  -- the items' names differ
+  pub kin-differ : NamesDiffer c.history.items
+  kin-differ = kept-differ m rules (live_names c.history) first kin.timeline c.history.items kin.history.remembers kin.history.tidy.names_differ
+
+  -- what an undo needs to look at
+  module _ (names : List Name) (items : List (Item C)) (are : NamesDiffer c.history.items → items ≡ drop (start_of names c.history.items) c.history.items) where
+    pub since-shows : ShowsTo m rules items c.doc
+    since-shows = shows-from m rules laws (start_of names c.history.items) c.history.items items c.doc (are kin-differ) kin-shows
+
+    pub since-event : (serial : ℕ) → undo_event m rules c.name names items c.doc serial ≡ undo_event m rules c.name names c.history.items c.doc serial
+    since-event serial = event-from m rules c.name names c.history.items items (start_of names c.history.items) c.doc serial refl (are kin-differ)
+
   -- the changes made, as steps of the client
   new-applies : (w : Undone Doc C) → IsMade m rules c.name c.doc (c.serials + 1) w → AllApply m rules c.doc (named c.name (c.serials + 1) w.made) w.doc
   new-applies w made = ap (fold m rules c.doc) (named-changes c.name (c.serials + 1) w.made) ∙ made.applies
@@ -91,7 +108,6 @@ module _ {Rules Doc Reason C : Type 0} (m : Meaning Rules Doc Reason C) (rules :
         history-undone m rules laws way c.name c.serials (c.serials + length w.made) (c.serials + 1) first c.doc kin.timeline c.history (others way c.history) e event w
         kin.first_good kin.history (timeline-applies m rules first log c kin) (is-last way c.history e last) (omega arith) refl made (omega (arith, made.serial_is)) refl in
         kin-gone_on m rules first log c kin laws w.made w.doc more history (new-applies w made) (made-timeline c.name (c.serials + 1) w.made w.items made.as_many) stands
-        (length-append c.history.items w.items ∙ ap (λ k. length c.history.items + k) made.as_many)
 
     -- cursors stand before their tokens
     pub turned-keeps : KeepsTokens m log c (event_turned m rules c way e).1 (m.size c.base)

@@ -12,6 +12,7 @@ use Rattle.pm_history.specs.declared.direction.Direction.TheVariants.{Undo, Redo
 use Rattle.pm_history.specs.declared.undoing.Undone.{Undone}
 use Rattle.pm_history.specs.Histories.{event_of, names_in, new_history, noted_all, last_items, last_of, rebased as rebased_last, undone}
 use Rattle.pm_history.specs.Tied.{all_tied}
+use Rattle.pm_history.specs.Trims.{trimmed}
 use Rattle.pm_history.specs.Timelines.{items_from}
 use Rattle.pm_history.specs.Undos.{undo_event}
 use Rattle.pm_authority.specs.declared.named.Named.{Named}
@@ -46,10 +47,10 @@ abbrev pub own_run : {C : Type 0} → ℕ → List (Named C) → ℕ
 own_run client [] = 0
 own_run client (n ∷ ns) = if n.name.client == client then own_run client ns + 1 else 0
 
--- In the history foreign steps with these ranges and the items of the steps kept stand in place of the last ones. Each step
--- kept undoes what it did before.
+-- In the history foreign steps with these ranges and the items of the steps kept stand in place of the last ones, or of all
+-- where fewer are left. Each step kept undoes what it did before. What no undo looks at is let go.
 abbrev pub carried_history : {C : Type 0} → Branches C → ℕ → List (List Span) → List (Item C) → Branches C
-carried_history h gone foreign kept = rebased_last h gone foreign (all_tied (last_items gone h.items) kept)
+carried_history h gone foreign kept = trimmed (rebased_last h gone foreign (all_tied (last_items gone h.items) kept))
 
 module _ {Rules Doc Reason C : Type 0} where
   -- a client of this name at version 0, with this document and nothing pending
@@ -132,7 +133,7 @@ module _ {Rules Doc Reason C : Type 0} (m : Meaning Rules Doc Reason C) (rules :
   -- event number.
   abbrev pub tried : Client C Rules Doc Reason → List C → Option ℕ → Result Doc (Refusal Reason) → Result (Client C Rules Doc Reason) (Refusal Reason)
   tried c cs event (Ok doc) =
-      Ok (gone_on m c cs doc (noted_all c.history (items_from m rules c.doc (edit_steps (named c.name (c.serials + 1) cs))) (Edit event true)))
+      Ok (gone_on m c cs doc (trimmed (noted_all c.history (items_from m rules c.doc (edit_steps (named c.name (c.serials + 1) cs))) (Edit event true))))
   tried c cs event (Err e) = Err e
 
   -- The client once these steps were made, one after another, or the first of them that does not apply to the document

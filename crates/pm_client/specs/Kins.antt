@@ -66,7 +66,7 @@ module _ {Rules Doc Reason C : Type 0} (m : Meaning Rules Doc Reason C) (rules :
   -- before the version give the base, and the pending steps, which are all the client's, make of it the client's
   -- document, within which the cursors are. The serials drawn are parted, the log past the version is as `Past` says, and
   -- each message and answer stands. The client's history stands for its timeline, which is the log before the version and
-  -- then the pending steps, and has an item for each pending step.
+  -- then the pending steps: its items are the last of these, and have every step whose name stands in an event.
   pub record Kin (log : List (Named C)) (c : Client C Rules Doc Reason) : Type 0 where
     pub before : List (Named C)
     pub past : List (Named C)
@@ -84,7 +84,6 @@ module _ {Rules Doc Reason C : Type 0} (m : Meaning Rules Doc Reason C) (rules :
     pub timeline : List (Step C)
     pub timeline_is : IsTimeline c.name timeline (before ++ c.pending)
     pub history : IsHistoryOf m rules c.name c.serials first timeline c.history
-    pub remembered : length c.pending ≤ length c.history.items
     pub messages : All (MessageStands c.version c.pending) c.messages
     pub answers : All (AnswerStands log c.version standing) c.answers
 

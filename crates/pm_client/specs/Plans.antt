@@ -33,12 +33,10 @@ module _ {Rules Doc Reason C : Type 0} where
     },
   )
 
-  -- A plan that may be carried out: what it confirms is pending, the history has an item for each pending step, and the
-  -- version stays a number of 64 bits.
+  -- A plan that may be carried out: what it confirms is pending, and the version stays a number of 64 bits.
   abbrev pub MayCarryOut : Client C Rules Doc Reason → Plan C Rules Doc Reason → Type 0
   MayCarryOut c (Confirm own base) = (own ≤ length c.pending) × (c.version + own < 2 ^ 64)
-  MayCarryOut c (Rebase own foreign base r dropped cursors) =
-      (own ≤ length c.pending) × (length c.pending ≤ length c.history.items) × (c.version + (own + length foreign.items) < 2 ^ 64)
+  MayCarryOut c (Rebase own foreign base r dropped cursors) = (own ≤ length c.pending) × (c.version + (own + length foreign.items) < 2 ^ 64)
   MayCarryOut c p = Unit {0}
 
 module _ {Rules Doc Reason C : Type 0} (m : Meaning Rules Doc Reason C) (rules : Rules) where
@@ -59,8 +57,8 @@ module _ {Rules Doc Reason C : Type 0} (m : Meaning Rules Doc Reason C) (rules :
     pub short : c.version + own < 2 ^ 64
 
   -- The entries past the version apply to the base one after another, their leading own ones may be confirmed, the later
-  -- pending steps may be carried over others', the maps of which have room for the cursors, the history has an item for each
-  -- pending step, and the version stays a number of 64 bits.
+  -- pending steps may be carried over others', the maps of which have room for the cursors, and the version stays a number
+  -- of 64 bits.
   pub record Fits (c : Client C Rules Doc Reason) (rest : List (Named C)) : Type 0 where
     pub leading : MayConfirm c (own_run c.name rest)
     pub applies : (end : Doc) × AllApply m rules c.base rest end
@@ -69,5 +67,4 @@ module _ {Rules Doc Reason C : Type 0} (m : Meaning Rules Doc Reason C) (rules :
     pub room : (base : Doc) → AllApply m rules c.base rest base
         → All (HasRoomIn (carried m rules c (own_run c.name rest) (drop (own_run c.name rest) rest) base).maps) c.cursors
     pub have_maps : All (NamedHasMap m) (drop (own_run c.name rest) rest)
-    pub remembered : length c.pending ≤ length c.history.items
     pub short : c.version + length rest < 2 ^ 64

@@ -104,7 +104,7 @@ impl<C: Change> Client<C> {
         self.cursors.as_slice()
     }
 
-    /// The items of the client's timeline, and the events that it can undo and redo.
+    /// The items that are kept of the client's timeline, and the events that it can undo and redo.
     pub fn history(&self) -> &Branches<C>
         ensures { result.now ≡ self.now.history }
     {

@@ -3,6 +3,8 @@ ghost use Rattle.std.specs.Prelude.{◌≡◌, ◌+◌, ◌↔◌, List, [], len
 ghost use Rattle.pm_authority.specs.declared.named.Named.{Named};
 ghost use Rattle.pm_history.specs.declared.direction.Direction.TheVariants.{Undo, Redo};
 ghost use Rattle.pm_history.specs.Histories.{last_of};
+ghost use Rattle.pm_history.specs.Made.{IsMade};
+ghost use Rattle.pm_history.specs.Undos.{undo_event};
 ghost use Rattle.pm_client.specs.declared.failing.UndoError.TheVariants.{NothingToUndo, NoMemory};
 ghost use Rattle.pm_client.specs.Clients.{named, edited, IsRefusal, turned, last_turned, undone_last, redone_last};
 ghost use Rattle.pm_client.specs.Cursors.{AreWithin, HasRoomIn};
@@ -18,7 +20,7 @@ use crate::failing::{EditError, UndoError};
 use crate::making::{Made, make_all};
 use crate::naming::name_steps;
 use crate::rebasing::maps_over;
-use pm_authority::Refusal;
+use pm_authority::{Name, Refusal};
 use pm_change::{Change, Failed};
 use pm_history::{Direction, Event, MadeBy, Undone, names_in, undo_event};
 use std::alloc::{AllocError, Global};
@@ -154,16 +156,26 @@ impl<C: Change> Client<C> {
             return Err(UndoError::NothingToUndo);
         };
         let number = event.number;
-        let made = undo_event(
-            alloc,
-            rules,
-            self.name,
-            event.names.as_slice(),
-            self.history.items(),
-            C::copy_doc(alloc, &self.doc)?,
-            self.serials.checked_add(1).ok_or(AllocError)?,
-        )?;
+        let made = self.made_of(alloc, rules, event.names.as_slice())?;
         self.take_turn(alloc, direction, number, made)
+    }
+
+    /// What undoing the steps of these names makes. It looks at the history from the first of these steps on, and at no step
+    /// before it.
+    fn made_of(
+        &self,
+        alloc: Global,
+        rules: &C::Rules,
+        names: &[Name],
+    ) -> Result<Undone<C::Doc, C>, AllocError>
+        requires { Stands C.means rules.now self.now }
+        ensures made { IfOk result (λ w. w ≡ undo_event C.means rules.now self.now.name names.now self.now.history.items self.now.doc (self.now.serials + 1)) }
+        ensures steps { IfOk result (IsMade C.means rules.now self.now.name self.now.doc (self.now.serials + 1)) }
+    {
+        let doc = C::copy_doc(alloc, &self.doc)?;
+        let serial = self.serials.checked_add(1).ok_or(AllocError)?;
+        let items = self.history.since(names);
+        undo_event(alloc, rules, self.name, names, items, doc, serial)
     }
 
     /// The steps that undo the last event were made. For want of memory the client is as it was.

@@ -220,8 +220,8 @@ impl<C: Change> Client<C> {
     }
 }
 
-/// Puts foreign steps with these maps, and the steps kept, in place of the last items of a history. Each step kept undoes
-/// what it did before. For want of memory the history is as it was.
+/// Puts foreign steps with these maps, and the steps kept, in place of the last items of a history, or of all where fewer are
+/// left. Each step kept undoes what it did before. For want of memory the history is as it was.
 fn carry_history<C: Change>(
     alloc: Global,
     history: &mut Branches<C>,
@@ -229,11 +229,10 @@ fn carry_history<C: Change>(
     foreign: Vec<StepMap>,
     kept: Listed<Item<C>>,
 ) -> Result<(), AllocError>
-    requires { gone ≤ length history.old.items }
     ensures carried { OnOk result (history.new ≡ carried_history history.old gone foreign.items kept) }
     ensures err { OnErr result (history.new ≡ history.old) }
 {
-    let at = history.items().len() - gone;
+    let at = history.items().len().saturating_sub(gone);
     let tied = tie(kept.into_vec(), &history.items()[at..]);
     history.rebased(alloc, gone, foreign, tied)
 }

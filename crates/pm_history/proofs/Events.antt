@@ -13,7 +13,7 @@ use Rattle.pm_history.specs.Pairs.{paired}
 use Rattle.pm_history.specs.Undos.{find}
 use Rattle.pm_history.specs.Tries.{first_of, item_from}
 use Rattle.pm_history.specs.Histories.{last_event, event_of, extended, last_number, without_last, holds, is_dropped, still_named, without_dropped, last_items, rebased, later_of}
-use Rattle.pm_history.specs.Drops.{is_lost, any_dropped, replaced}
+use Rattle.pm_history.specs.Drops.{is_lost, any_dropped, replaced, left_by}
 
 -- the last event
 pub extended-at : (es : List Event) (k : ℕ) (e : Event) (ns names : List Name) → k + 1 ≡ length es → e ≡ get_or es k e → names ≡ e.names ++ ns
@@ -47,7 +47,7 @@ last-off (x ∷ y ∷ es) = ap (λ k. take k (x ∷ y ∷ es)) (less (length es)
     less : (n : ℕ) → suc (suc n) - 1 ≡ suc (suc n - 1)
     less n = omega arith
 
-one-name : (a b : Name) → same_name a b ≡ true → a ≡ b
+pub one-name : (a b : Name) → same_name a b ≡ true → a ≡ b
 one-name a b h =
     let p = and_parts _ _ h in
     ap (λ c. record { client = c; serial = a.serial }) (eqb-true a.client b.client p.0) ∙ ap (λ s. record { client = b.client; serial = s }) (eqb-true a.serial b.serial p.1)
@@ -99,13 +99,19 @@ module _ {C : Type 0} where
 
   -- then all events stay as they are
   pub replaced-rebased : (h : Branches C) (count at : ℕ) (foreign : List (List Span)) (kept same its out : List (Item C)) → its ≡ h.items → at ≡ length h.items - count
-      → out ≡ drop at its → same ≡ kept → any_dropped out same ≡ false → replaced h count foreign kept ≡ rebased h count foreign kept
+      → out ≡ drop at its → same ≡ kept → any_dropped out same ≡ false → replaced h at foreign kept ≡ rebased h count foreign kept
   replaced-rebased h count at foreign kept same its out i a o s none =
       let gone = last_items count h.items in
       let g : out ≡ gone = o ∙ ap (drop at) i ∙ ap (λ k. drop k h.items) a in
       let known : any_dropped gone kept ≡ false = sym (ap (λ x. any_dropped x same) g ∙ ap (any_dropped gone) s) ∙ none in
-      ap (λ es. record (replaced h count foreign kept) { undo = es }) (sym (events-stay gone kept h.undo known))
+      let k : ℕ = length h.items - count in
+      ap (λ j. replaced h j foreign kept) a
+      ∙ ap (λ es. record (replaced h k foreign kept) { undo = es }) (sym (events-stay gone kept h.undo known))
       ∙ ap (λ es. record (rebased h count foreign kept) { redo = es }) (sym (events-stay gone kept h.redo known))
+
+  -- and else the dropped steps leave them
+  pub left-rebased : (h : Branches C) (count at : ℕ) (foreign : List (List Span)) (kept : List (Item C)) → at ≡ length h.items - count → left_by h at foreign kept ≡ rebased h count foreign kept
+  left-rebased h count at foreign kept a = ap (λ k. left_by h k foreign kept) a
 
   later-drop : (items : List (Item C)) (k : ℕ) → k < length items → later_of (first_of (drop k items)) ≡ Some (paired (drop (k + 1) items))
   later-drop [] k l = absurd (omega (arith, l))

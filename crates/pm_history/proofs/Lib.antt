@@ -22,4 +22,8 @@ pub mod Showing
 pub mod Mades
 pub mod Steps
 pub mod Trimmings
+pub mod Settled
+pub mod Whole
+pub mod Carried
+pub mod LatestLaws
 mod EventProofs

@@ -30,7 +30,7 @@ module _ {C : Type 0} where
       from true e k = k
       from false e k = (f n e h.0, k)
 
-  stand-length : (live : List Name) (is js : List (Item C)) → StandFor live is js → length is ≡ length js
+  pub stand-length : (live : List Name) (is js : List (Item C)) → StandFor live is js → length is ≡ length js
   stand-length live [] [] h = refl
   stand-length live [] (j ∷ js) h = absurd h
   stand-length live (i ∷ is) [] h = absurd h
@@ -67,7 +67,7 @@ module _ {C : Type 0} where
   stand-holds live n (i ∷ is) (j ∷ js) h =
       ap (λ o. one_step (Some n) o || holds n is) h.0.name_is ∙ ap (λ t. one_step (Some n) j.name || t) (stand-holds live n is js h.1)
 
-  holds-both : (n : Name) (xs ys : List (Item C)) → holds n (xs ++ ys) ≡ (holds n xs || holds n ys)
+  pub holds-both : (n : Name) (xs ys : List (Item C)) → holds n (xs ++ ys) ≡ (holds n xs || holds n ys)
   holds-both n [] ys = refl
   holds-both n (x ∷ xs) ys = ap (λ t. one_step (Some n) x.name || t) (holds-both n xs ys) ∙ or-assoc (one_step (Some n) x.name) (holds n xs) (holds n ys)
     where
@@ -135,7 +135,7 @@ module _ {Rules Doc Reason C : Type 0} (m : Meaning Rules Doc Reason C) (rules :
       foreign-at : (doc : Doc) (s : Step C) → s.own ≡ false → item_at m rules doc s ≡ foreign_item (m.step_map s.change)
       foreign-at doc s e = rw e refl
 
-  comes-steps : (doc end mid last : Doc) (gs ks : List (Step C)) → KeptOf m gs ks → fold m rules doc (changes_of gs) ≡ Some end → fold m rules mid (changes_of ks) ≡ Some last
+  pub comes-steps : (doc end mid last : Doc) (gs ks : List (Step C)) → KeptOf m gs ks → fold m rules doc (changes_of gs) ≡ Some end → fold m rules mid (changes_of ks) ≡ Some last
       → ComesFrom (items_from m rules doc gs) (items_from m rules mid ks)
   comes-steps doc end mid last gs ks none e f = nothing
   comes-steps doc end mid last gs ks (dropped g gs' ks' c) e f =

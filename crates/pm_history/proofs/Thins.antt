@@ -35,7 +35,7 @@ module _ {C : Type 0} where
   none-tied None y e = refl
   none-tied (Some n) y e = ap (one_step (Some n)) e
 
-  lacks-from : (n : Name) (xs ys : List (Item C)) → ComesFrom xs ys → Each (λ (i : Item C). one_step (Some n) i.name ≡ false) xs → Each (λ (i : Item C). one_step (Some n) i.name ≡ false) ys
+  pub lacks-from : (n : Name) (xs ys : List (Item C)) → ComesFrom xs ys → Each (λ (i : Item C). one_step (Some n) i.name ≡ false) xs → Each (λ (i : Item C). one_step (Some n) i.name ≡ false) ys
   lacks-from n xs ys nothing h = tt
   lacks-from n xs ys (lost x xs' ys' c) h = lacks-from n xs' ys' c h.1
   lacks-from n xs ys (foreign y xs' ys' e f c) h = (none-named (Some n) y e, lacks-from n xs' ys' c h)

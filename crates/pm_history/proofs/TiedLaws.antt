@@ -63,7 +63,7 @@ module _ {Rules Doc Reason C : Type 0} (m : Meaning Rules Doc Reason C) (rules :
             (each-both (λ (k : Step C). same_name g.name k.name ≡ false) (λ k. undoes_of (Some k.name) is ≡ k.undoes) gs apart (items-tie live x.0 end gs is s.1 d2.1 own.1 x.2)),
       )
 
-  differ-after : (xs ys : List (Item C)) → NamesDiffer (xs ++ ys) → NamesDiffer ys
+  pub differ-after : (xs ys : List (Item C)) → NamesDiffer (xs ++ ys) → NamesDiffer ys
   differ-after [] ys h = h
   differ-after (x ∷ xs) ys h = differ-after xs ys h.1
 

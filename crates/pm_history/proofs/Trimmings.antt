@@ -1,5 +1,5 @@
 -- Lemmas: trimming, and what stands for a timeline once it was trimmed.
-use Rattle.std.specs.Prelude.{◌≡◌, ℕ, suc, ◌+◌, ◌<◌, ◌==◌, ◌&&◌, ◌||◌, Bool, true, false, if◌then◌else◌, List, [], ◌∷◌, ◌++◌, length, drop, map, get_or, Option, Some, None, refl}
+use Rattle.std.specs.Prelude.{◌≡◌, ℕ, zero, suc, ◌+◌, ◌<◌, ◌==◌, ◌&&◌, ◌||◌, Bool, true, false, if◌then◌else◌, List, [], ◌∷◌, ◌++◌, length, drop, map, get_or, Option, Some, None, refl}
 use Rattle.std.specs.List.{AllByRecursion as Each}
 use Rattle.std.proofs.Common.{sym, ap, subst, ◌∙◌, inr, append_assoc, arith, length-drop}
 use Rattle.std.proofs.Math.Seq.{drop-cons}
@@ -38,12 +38,20 @@ pub named-append : (xs ys : List Name) (o : Option Name) → is_named (xs ++ ys)
 named-append [] ys o = refl
 named-append (x ∷ xs) ys o = ap (λ t. one_step (Some x) o || t) (named-append xs ys o) ∙ or-assoc (one_step (Some x) o) (is_named xs o) (is_named ys o)
 
--- a name that is among the first ones, and one that is not
-pub named_before : (xs ys : List Name) (o : Option Name) → is_named xs o ≡ true → is_named (xs ++ ys) o ≡ true
-named_before xs ys o h = named-append xs ys o ∙ ap (λ t. t || is_named ys o) h
+-- a name that is among the last ones, and one that is not
+pub named_late : (xs ys : List Name) (o : Option Name) → is_named ys o ≡ true → is_named (xs ++ ys) o ≡ true
+named_late xs ys o h = named-append xs ys o ∙ ap (λ t. is_named xs o || t) h ∙ or-true (is_named xs o)
+  where
+    or-true : (a : Bool) → (a || true) ≡ true
+    or-true true = refl
+    or-true false = refl
 
-pub named_behind : (xs ys : List Name) (o : Option Name) → is_named xs o ≡ false → is_named (xs ++ ys) o ≡ is_named ys o
-named_behind xs ys o h = named-append xs ys o ∙ ap (λ t. t || is_named ys o) h
+pub named_early : (xs ys : List Name) (o : Option Name) → is_named ys o ≡ false → is_named (xs ++ ys) o ≡ is_named xs o
+named_early xs ys o h = named-append xs ys o ∙ ap (λ t. is_named xs o || t) h ∙ or-false (is_named xs o)
+  where
+    or-false : (a : Bool) → (a || false) ≡ a
+    or-false true = refl
+    or-false false = refl
 
 -- a foreign step has no name
 pub named_none : (ns : List Name) → is_named ns None ≡ false
@@ -68,6 +76,12 @@ events-there es k o d l e =
     ap (λ xs. is_named (names_of xs) o) (drop-cons es k d l)
     ∙ named-append (get_or es k d).names (names_of (drop (suc k) es)) o
     ∙ ap (λ t. t || is_named (names_of (drop (suc k) es)) o) e
+
+-- a name of the last events
+pub events-later : (es : List Event) (k : ℕ) (o : Option Name) → is_named (names_of (drop k es)) o ≡ true → is_named (names_of es) o ≡ true
+events-later es zero o h = h
+events-later [] (suc k) o h = h
+events-later (e ∷ es) (suc k) o h = named_late e.names (names_of es) o (events-later es k o h)
 
 -- no name has a serial that the table does not have
 pub named_absent : (n : Name) (ns : List Name) → client_of n.serial ns ≡ None → is_named ns (Some n) ≡ false
@@ -98,10 +112,10 @@ not-each (n ∷ ns) o h = let p = or-none (one_step (Some n) o) (is_named ns o) 
 
 module _ {C : Type 0} where
   -- an item that stays as it is
-  abbrev Stays : List Name → Item C → Type 0
+  abbrev pub Stays : List Name → Item C → Type 0
   Stays live i = thinned live i ≡ i
 
-  thinned-as : (live : List Name) (i : Item C) (t : Bool) → is_named live i.name ≡ t → thinned live i ≡ record i { inverse = if◌then◌else◌ {A = List C} t i.inverse [] }
+  pub thinned-as : (live : List Name) (i : Item C) (t : Bool) → is_named live i.name ≡ t → thinned live i ≡ record i { inverse = if◌then◌else◌ {A = List C} t i.inverse [] }
   thinned-as live i t e = ap (λ b. record i { inverse = if◌then◌else◌ {A = List C} b i.inverse [] }) e
 
   thinned-twice : (live : List Name) (i : Item C) → thinned live (thinned live i) ≡ thinned live i
@@ -130,7 +144,7 @@ module _ {C : Type 0} where
   trimmed-twice live is =
       ap (λ k. map (thinned live) (drop k (trimmed_items live is))) (start-trimmed live is) ∙ thin-twice live (drop (start_of live is) is)
 
-  settled-start : (live : List Name) (is : List (Item C)) → trimmed_items live is ≡ is → start_of live is ≡ 0
+  pub settled-start : (live : List Name) (is : List (Item C)) → trimmed_items live is ≡ is → start_of live is ≡ 0
   settled-start live [] h = refl
   settled-start live (i ∷ is) h = from (is_named live i.name) refl h
     where
@@ -148,7 +162,7 @@ module _ {C : Type 0} where
       let b : map (thinned live) is ≡ is = cc in
       (a, each-stays live is b)
 
-  settled-stays : (live : List Name) (is : List (Item C)) → trimmed_items live is ≡ is → Each (Stays live) is
+  pub settled-stays : (live : List Name) (is : List (Item C)) → trimmed_items live is ≡ is → Each (Stays live) is
   settled-stays live is h = each-stays live is (sym (ap (λ k. map (thinned live) (drop k is)) (settled-start live is h)) ∙ h)
 
   -- where nothing is left to trim, the changes kept are those of the live steps

@@ -161,8 +161,3 @@ module _ {C : Type 0} where
   abbrev pub later_of : Option (Item C × List (Item C)) → Option (List Mirrored)
   later_of None = None
   later_of (Some p) = Some (paired p.1)
-
-  -- the changes that undo it
-  abbrev pub inverse_of : Option (Item C × List (Item C)) → Option (List C)
-  inverse_of None = None
-  inverse_of (Some p) = Some p.0.inverse

@@ -17,5 +17,6 @@ pub mod Tries
 pub mod Drops
 pub mod Tied
 pub mod EventLaws
+pub mod Recorded
 pub mod Trims
 pub mod Live

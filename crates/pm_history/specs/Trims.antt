@@ -1,10 +1,13 @@
 -- What a history need not remember, and how much it holds.
-use Rattle.std.specs.Prelude.{◌≡◌, ℕ, ◌+◌, ◌||◌, Bool, true, false, if◌then◌else◌, List, [], ◌∷◌, drop, map}
+use Rattle.std.specs.Prelude.{◌≡◌, ℕ, ◌+◌, ◌&&◌, ◌||◌, Bool, true, false, is_some, if◌then◌else◌, List, [], ◌∷◌, ◌++◌, drop, map, Option, Some, None}
 use Rattle.pm_change.specs.declared.name.Name.{Name}
 use Rattle.pm_history.specs.declared.item.Item.{Item}
 use Rattle.pm_history.specs.declared.branches.Branches.{Branches}
+use Rattle.pm_history.specs.declared.branches.MadeBy.{MadeBy}
+use Rattle.pm_history.specs.declared.branches.MadeBy.TheVariants as made_by
+use Rattle.pm_history.specs.Histories.{names_in}
 use Rattle.pm_history.specs.Starts.{is_named, start_of}
-use Rattle.pm_history.specs.Remembers.{live_names}
+use Rattle.pm_history.specs.Remembers.{names_of, live_names}
 
 module _ {C : Type 0} where
   -- the items from the first live step on; where no step is live, there is none
@@ -23,6 +26,12 @@ module _ {C : Type 0} where
   -- and maps, and what they were made to undo.
   abbrev pub trimmed : Branches C → Branches C
   trimmed h = record h { items = trimmed_items (live_names h) h.items }
+
+  -- Noting steps of an edit ends with a trimming; noting those of an undo or a redo does not.
+  abbrev pub trimmed_after : MadeBy → Branches C → Branches C
+  trimmed_after (made_by.Edit event first) h = trimmed h
+  trimmed_after (made_by.Undo event first) h = h
+  trimmed_after (made_by.Redo event first) h = h
 
   -- nothing is left to trim
   abbrev pub IsTrimmed : Branches C → Type 0
@@ -45,3 +54,21 @@ module _ {C : Type 0} where
   abbrev pub live_count : List Name → List (Item C) → ℕ
   live_count live [] = 0
   live_count live (i ∷ is) = (if is_named live i.name then 1 else 0) + live_count live is
+
+  -- The changes that undo the item that was found, where they are kept.
+  abbrev pub inverse_in : List Name → Option (Item C × List (Item C)) → Option (List C)
+  inverse_in live None = None
+  inverse_in live (Some p) = if has_inverse live p.0 then Some p.0.inverse else None
+
+  -- each of these items is that of an own step
+  abbrev pub are_own : List (Item C) → Bool
+  are_own [] = true
+  are_own (i ∷ is) = is_some i.name && are_own is
+
+  -- The live names behind an edit of these steps. Where it has an own one, nothing can be redone.
+  abbrev pub live_with : Branches C → List Name → List Name
+  live_with h [] = live_names h
+  live_with h (n ∷ ns) = names_of h.undo ++ n ∷ ns
+
+  abbrev pub live_after : Branches C → List (Item C) → List Name
+  live_after h is = live_with h (names_in is)

@@ -1,8 +1,8 @@
 //! What a client keeps of its steps, so that it can undo them.
 //!
 //! The timeline is each step that led to the client's document, its own and those of others. A history keeps an item for
-//! each step, and the events that can be undone and redone. Undoing an event carries the changes that undo its steps over
-//! all that came later. This crate knows nothing of documents.
+//! each step from the first one on that can be undone or redone, and the events of these. Undoing an event carries the
+//! changes that undo its steps over all that came later. This crate knows nothing of documents.
 #![tactic(auto)]
 
 mod branch;
@@ -11,6 +11,7 @@ mod direction;
 mod dropped;
 mod item;
 mod lane;
+mod latest;
 pub mod laws;
 mod live;
 mod tied;

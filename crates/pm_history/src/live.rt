@@ -98,7 +98,7 @@ pub fn live_names(alloc: Global, undo: &[Event], redo: &[Event]) -> Result<Liste
 }
 
 /// Puts the names of the steps of these events behind.
-fn put_names_of(names: &mut Listed<Name>, events: &[Event]) -> Result<(), AllocError>
+pub fn put_names_of(names: &mut Listed<Name>, events: &[Event]) -> Result<(), AllocError>
     ensures { OnOk result (names.new ≡ names.old ++ names_of events.now) }
 {
     for event in events {
@@ -108,7 +108,7 @@ fn put_names_of(names: &mut Listed<Name>, events: &[Event]) -> Result<(), AllocE
 }
 
 /// Puts these names behind.
-fn put_names(names: &mut Listed<Name>, more: &[Name]) -> Result<(), AllocError>
+pub fn put_names(names: &mut Listed<Name>, more: &[Name]) -> Result<(), AllocError>
     ensures { OnOk result (names.new ≡ names.old ++ more.now) }
 {
     for name in more {
@@ -117,20 +117,22 @@ fn put_names(names: &mut Listed<Name>, more: &[Name]) -> Result<(), AllocError>
     Ok(())
 }
 
-/// Whether the step of this name is live. Each name in the events is looked at.
-#[tactic(auto, using(crate::proofs::Trimmings::named_before, crate::proofs::Trimmings::named_behind))]
+/// Whether the step of this name is live. The events' names are looked at, from the last event on.
+#[tactic(auto, using(crate::proofs::Trimmings::named_early, crate::proofs::Trimmings::named_late))]
 pub fn is_live(undo: &[Event], redo: &[Event], name: Option<Name>) -> bool
     ensures { result ≡ is_named (names_of undo.now ++ names_of redo.now) name }
 {
-    is_named_in(undo, name) || is_named_in(redo, name)
+    is_named_in(redo, name) || is_named_in(undo, name)
 }
 
-/// Whether one of these events has the step of this name.
+/// Whether one of these events has the step of this name. The last one is looked at first.
 fn is_named_in(events: &[Event], name: Option<Name>) -> bool
     ensures { result ≡ is_named (names_of events.now) name }
 {
-    for event in events {
-        if is_named(event.names.as_slice(), name) {
+    let mut i = events.len();
+    while i > 0 {
+        i -= 1;
+        if is_named(events[i].names.as_slice(), name) {
             return true;
         }
     }

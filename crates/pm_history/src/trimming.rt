@@ -3,7 +3,7 @@ ghost use Rattle.std.specs.Prelude.{◌≡◌, ◌≤◌, ◌++◌, length, map}
 ghost use Rattle.pm_history.specs.Live.{IsTableOfNames};
 ghost use Rattle.pm_history.specs.Remembers.{names_of};
 ghost use Rattle.pm_history.specs.Starts.{start_of};
-ghost use Rattle.pm_history.specs.Trims.{thinned, trimmed_items, has_any, has_inverse, inverses};
+ghost use Rattle.pm_history.specs.Trims.{thinned, trimmed_items, are_own, has_any, has_inverse, inverses};
 
 use crate::branch::Event;
 use crate::item::Item;
@@ -81,6 +81,51 @@ where
     if !live.has(names, item.name) {
         item.inverse = Listed::new(alloc);
     }
+}
+
+/// The items, and of those that are not live no change that undoes them. Each is looked for among the names of these events,
+/// the last of which come first.
+pub fn thin_kept<C>(
+    alloc: Global,
+    items: Vec<Item<C>>,
+    undo: &[Event],
+    redo: &[Event],
+) -> Vec<Item<C>>
+where
+    C: Drop,
+    ensures { result.items ≡ map (thinned (names_of undo.now ++ names_of redo.now)) items.items }
+{
+    let mut items = items;
+    let count = items.len();
+    let mut i = 0;
+    while i < count {
+        thin_named(alloc, &mut items[i], undo, redo);
+        i += 1;
+    }
+    items
+}
+
+/// Lets the changes that undo a step go, unless these events have its name.
+fn thin_named<C>(alloc: Global, item: &mut Item<C>, undo: &[Event], redo: &[Event])
+where
+    C: Drop,
+    ensures { item.new ≡ thinned (names_of undo.now ++ names_of redo.now) item.old }
+{
+    if !is_live(undo, redo, item.name) {
+        item.inverse = Listed::new(alloc);
+    }
+}
+
+/// Whether each of these items is that of an own step.
+pub fn are_own<C>(items: &[Item<C>]) -> bool
+    ensures { result ≡ are_own items.now }
+{
+    for item in items {
+        if item.name.is_none() {
+            return false;
+        }
+    }
+    true
 }
 
 /// The number of these items whose changes that undo them are kept.

@@ -12,6 +12,7 @@ use Rattle.pm_history.specs.declared.direction.Direction.{Direction}
 use Rattle.pm_history.specs.declared.branches.Branches.{Branches}
 use Rattle.pm_history.specs.declared.branches.MadeBy.TheVariants.{Edit}
 use Rattle.pm_history.specs.Histories.{noted_all}
+use Rattle.pm_history.specs.Trims.{trimmed}
 use Rattle.pm_history.specs.Timelines.{items_from}
 use Rattle.pm_client.specs.declared.client.Client.{Client}
 use Rattle.pm_client.specs.declared.taken.Taken.{Taken}
@@ -35,7 +36,7 @@ module _ {Rules Doc Reason C : Type 0} (m : Meaning Rules Doc Reason C) (rules :
       from : (r : Result Doc (Refusal Reason)) → tried m rules c cs event r ≡ Ok next → (doc : Doc) × (h : Branches C) × (gone_on m c cs doc h ≡ next)
       from (Err e) h = absurd (cc)
       from (Ok doc) h =
-          let history : Branches C = noted_all c.history (items_from m rules c.doc (edit_steps (named c.name (c.serials + 1) cs))) (Edit event true) in
+          let history : Branches C = trimmed (noted_all c.history (items_from m rules c.doc (edit_steps (named c.name (c.serials + 1) cs))) (Edit event true)) in
           let same : gone_on m c cs doc history ≡ next = cc in
           (doc, history, same)
 

@@ -5,7 +5,7 @@ ghost use Rattle.pm_sheet.specs.Edits.{meaning, is_good};
 
 use crate::{Edit, Rules};
 use pm_change::{Change, Failed, Name};
-use pm_history::{Branches, Direction, Event, Item, MadeBy, undo_event};
+use pm_history::{Branches, Direction, Event, Held, Item, MadeBy, undo_event};
 use pm_list::Listed;
 use pm_map::{Span, StepMap};
 use std::alloc::{AllocError, Global};
@@ -309,5 +309,46 @@ fn what_was_undone_can_be_redone(rt: HostRuntime) -> Result<(), AllocError> {
     history.undone(Direction::Undo, made, items)?;
     assert!(rt; history.undo_events().len() == 2 && history.items().len() == 6);
     assert!(rt; is_of(alloc, history.redo_events(), 0, &[6])?);
+    Ok(())
+}
+
+/// How much a history holds behind three foreign steps, behind an edit, behind its undo, and behind another edit, and whether the
+/// maps behind the first edit are there still.
+fn held(alloc: Global) -> Result<(Listed<Held>, bool), AllocError> {
+    let mut history: Branches<u8> = Branches::new(alloc);
+    let mut all = Listed::new(alloc);
+    for _ in 0..3 {
+        history.note(alloc, StepMap::new(None, None, false))?;
+    }
+    all.push(history.held())?;
+    history.note_own(alloc, item(alloc, 1, None)?, edit(None, true))?;
+    all.push(history.held())?;
+    let _ = history.pop(Direction::Undo);
+    let undo = MadeBy::Undo {
+        event: None,
+        first: true,
+    };
+    history.note_own(alloc, item(alloc, 2, Some(1))?, undo)?;
+    all.push(history.held())?;
+    history.note_own(alloc, item(alloc, 3, None)?, edit(None, true))?;
+    all.push(history.held())?;
+    let is_there = history.later(alloc, named(1))?.is_some();
+    Ok((all, is_there))
+}
+
+/// So many items, each with the changes that undo it.
+fn both(count: u64) -> Held {
+    Held {
+        items: count,
+        inverses: count,
+    }
+}
+
+#[test]
+fn a_history_holds_what_is_live(rt: HostRuntime) -> Result<(), AllocError> {
+    let (all, is_there) = held(rt.alloc())?;
+    let expected = [both(0), both(1), both(2), both(1)];
+    assert!(rt; all.as_slice() == expected.as_slice());
+    assert!(rt; !is_there);
     Ok(())
 }
