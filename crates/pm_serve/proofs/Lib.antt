@@ -1,3 +1,4 @@
 pub mod Cuts
+pub mod Timely
 pub mod Gathers
 pub mod Steps

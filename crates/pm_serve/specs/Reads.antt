@@ -1,16 +1,11 @@
 -- How a line is read.
-use Rattle.std.specs.Prelude.{◌≡◌, ◌≢◌, ◌⊎◌, ℕ, false, List, [], ◌∷◌, ◌++◌, take, Option}
+use Rattle.std.specs.Prelude.{◌≡◌, ◌≢◌, ℕ, false, List, [], ◌∷◌, ◌++◌, take, Option}
 use Rattle.std.specs.Io.KnownBytes.{Consumes, IsAtEnd}
 use Rattle.pm_io.specs.Faults.{Rose}
 use Rattle.pm_serve.specs.declared.unread.TheConstants.{KEPT}
 use Rattle.pm_serve.specs.declared.lines.Came.{Came}
 use Rattle.pm_serve.specs.declared.lines.Came.TheVariants.{Line, Last, End, Failed, Spent}
 use Rattle.pm_serve.specs.Bytes.{has_lf}
-
--- Bytes were taken from the source only while those that were there had no LF: if any came, then all but those of the last read
--- had none, with what was there before.
-abbrev pub InTime : List ℕ → List ℕ → Type 0
-InTime before taken = (taken ≡ []) ⊎ ((front : List ℕ) × (last : List ℕ) × (taken ≡ front ++ last) × (has_lf (before ++ front) ≡ false))
 
 -- A whole line came: what was there and what was taken is the line, its LF, and what is there now. At most KEPT bytes of the line
 -- are kept.
@@ -21,7 +16,6 @@ pub record LineCame (left rest : Option (List ℕ)) (before after line : List �
   pub split : before ++ taken ≡ whole ++ 10 ∷ after
   pub one : has_lf whole ≡ false
   pub kept : line ≡ take KEPT whole
-  pub in_time : InTime before taken
 
 -- the input ended behind these bytes, in which there is no LF
 pub record EndCame (left rest : Option (List ℕ)) (before after line : List ℕ) : Type 0 where

@@ -2,11 +2,13 @@
 #![tactic(auto)]
 
 mod lines;
+mod piecewise;
 mod service;
 mod serving;
 mod unread;
 
 pub use lines::{Came, next_line};
+pub use piecewise::Piecewise;
 pub use service::{Reply, Service};
 pub use serving::{Served, serve};
 pub use unread::{KEPT, Kept, Unread};

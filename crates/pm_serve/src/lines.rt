@@ -1,8 +1,9 @@
 //! The next line of a source.
 ghost use Rattle.pm_serve.specs.Reads.{Reads, ReadFaults, IsLast};
+ghost use Rattle.pm_serve.specs.Pieces.{AskedInTime};
 
+use crate::piecewise::Piecewise;
 use crate::unread::{Filled, Kept, Passing, Unread};
-use pm_io::Source;
 
 /// What came when a line was asked for.
 #[derive(Clone, Copy, Debug, PartialEq, Eq)]
@@ -21,9 +22,11 @@ pub enum Came {
 
 /// Reads the next line, of which `line` then has at most the first `KEPT` bytes, without the LF. The source is asked for more
 /// bytes only while no whole line is there.
-pub fn next_line<R: Source>(source: &mut R, unread: &mut Unread, line: &mut Kept) -> Came
+pub fn next_line<R: Piecewise>(source: &mut R, unread: &mut Unread, line: &mut Kept) -> Came
     ensures reads { Reads result (R.left source.old) (R.left source.new) unread.old unread.new line.new }
     ensures faults { ReadFaults result (R.faults source.old) (R.faults source.new) }
+    // Each read was made while no whole line was there.
+    ensures in_time { AskedInTime unread.old (R.pieces source.old) (R.pieces source.new) }
 {
     line.clear();
     for _ in 0..u64::MAX {

@@ -1,12 +1,14 @@
 //! One line after another.
 ghost use Rattle.std.specs.Prelude.{◌≡◌, ◌⊎◌};
 ghost use Rattle.pm_io.specs.Faults.{Rose};
+ghost use Rattle.pm_serve.specs.Pieces.{AskedInTime};
 ghost use Rattle.pm_serve.specs.Serves.{Steps, Serves, StepFaults, ServeFaults};
 
 use crate::lines::{Came, next_line};
+use crate::piecewise::Piecewise;
 use crate::service::{Reply, Service};
 use crate::unread::{Kept, Unread};
-use pm_io::{Sink, Source, WriteFault, write_all};
+use pm_io::{Sink, WriteFault, write_all};
 use std::alloc::{AllocError, Global};
 
 /// How serving ended.
@@ -34,7 +36,7 @@ pub(crate) enum Next {
 }
 
 /// Answers one line after another. A line for which there is no memory is answered by `no_memory`, and changes nothing.
-pub fn serve<S: Service, R: Source, W: Sink>(
+pub fn serve<S: Service, R: Piecewise, W: Sink>(
     alloc: Global,
     service: &mut S,
     no_memory: &[u8],
@@ -57,9 +59,9 @@ pub fn serve<S: Service, R: Source, W: Sink>(
     Served::Spent
 }
 
-/// Reads a line and writes its answer. The source is asked for bytes only while no whole line is there (`in_time` of
-/// `LineCame`), and not behind the answer.
-fn serve_next<S: Service, R: Source, W: Sink>(
+/// Reads a line and writes its answer. The source is asked for bytes only while no whole line is there, so not between the line
+/// and its answer, and not behind the answer.
+fn serve_next<S: Service, R: Piecewise, W: Sink>(
     alloc: Global,
     service: &mut S,
     no_memory: &[u8],
@@ -72,6 +74,8 @@ fn serve_next<S: Service, R: Source, W: Sink>(
     ensures steps { Steps S.replies S.last no_memory.now result service.old service.new (R.left source.old) (R.left source.new) unread.old unread.new (W.written sink.old) (W.written sink.new) }
     ensures good { S.good service.new }
     ensures faults { StepFaults result (R.faults source.old) (R.faults source.new) (W.faults sink.old) (W.faults sink.new) }
+    // Each read was made while no whole line was there.
+    ensures in_time { AskedInTime unread.old (R.pieces source.old) (R.pieces source.new) }
 {
     match next_line(source, unread, line) {
         Came::Line => match answer(alloc, service, no_memory, line, sink) {

@@ -2,7 +2,8 @@
 ghost use Rattle.std.specs.Prelude.{◌≤◌, vec_len, vec_capacity};
 ghost use Rattle.pm_serve.specs.declared.unread.TheConstants.{KEPT};
 
-use pm_io::{Got, Source};
+use crate::piecewise::Piecewise;
+use pm_io::Got;
 use std::alloc::{AllocError, Global};
 use std::marker::Model;
 
@@ -47,6 +48,7 @@ pub enum Filled {
 impl Unread {
     ghost use Rattle.std.specs.Prelude.{◌≡◌, ◌≢◌, ◌∷◌, ◌++◌, [], IfOk};
     ghost use Rattle.pm_serve.specs.Bytes.{CameOf, FaultsOf, Passes};
+    ghost use Rattle.pm_serve.specs.Pieces.{Gave};
 
     /// No bytes, with room for a piece.
     pub fn new(alloc: Global) -> Result<Unread, AllocError>
@@ -60,14 +62,15 @@ impl Unread {
     }
 
     /// Asks the source for more bytes, once. All that came before must be passed on.
-    pub fn fill<R: Source>(&mut self, source: &mut R) -> Filled
+    pub fn fill<R: Piecewise>(&mut self, source: &mut R) -> Filled
         requires { self.old ≡ [] }
         ensures came { CameOf result (R.left source.old) (R.left source.new) self.new }
         ensures faults { FaultsOf result (R.faults source.old) (R.faults source.new) }
+        ensures gave { Gave (R.pieces source.old) (R.pieces source.new) (self.new ∷ []) }
     {
         self.at = 0;
         self.end = 0;
-        match source.read(&mut self.piece) {
+        match source.read_piece(&mut self.piece) {
             Got::Failed => Filled::Failed,
             Got::End | Got::Bytes(0) => Filled::End,
             Got::Bytes(n) => {

@@ -1,38 +1,78 @@
 use Rattle.std.proofs.Common.{◌∙◌, refl}
-use Rattle.pm_serve.proofs.Gathers.{start, whole-line, further, filled, ended, at-end}
+use Rattle.pm_serve.proofs.Gathers.{start, whole-line, further, filled, ended, at-end, asked-now, asked-then}
 use Rattle.pm_serve.proofs.lines.next_line.Goals as goal
 
 pub loop-init : goal.loop-init
 loop-init g c = record {
-  gathered = start (g.R.Source.left c.args.source.now) c.args.unread.now c.clear.new.self c.clear.ensures;
+  gathered = start (g.R.Source.left c.args.source.now) (g.R.Piecewise.pieces c.args.source.now) c.args.unread.now c.clear.new.self c.clear.ensures;
   same = refl;
 }
 
 pub returns-in-Line-clause-reads : goal.returns-in-Line-clause-reads
 returns-in-Line-clause-reads g c =
-    whole-line (g.R.Source.left c.args.source.now) (g.R.Source.left c.loop.source) c.args.unread.now c.loop.unread c.pass_on.new.self c.loop.line c.pass_on.new.line c.loop.invariant.gathered c.in-Line.ensures
+    whole-line (g.R.Source.left c.args.source.now) (g.R.Source.left c.loop.source) (g.R.Piecewise.pieces c.args.source.now) (g.R.Piecewise.pieces c.loop.source)
+    c.args.unread.now c.loop.unread c.pass_on.new.self c.loop.line c.pass_on.new.line c.loop.invariant.gathered c.in-Line.ensures
+
+pub returns-in-Line-clause-in_time : goal.returns-in-Line-clause-in_time
+returns-in-Line-clause-in_time g c =
+    asked-now (g.R.Source.left c.args.source.now) (g.R.Source.left c.loop.source) (g.R.Piecewise.pieces c.args.source.now) (g.R.Piecewise.pieces c.loop.source)
+    c.args.unread.now c.loop.unread c.loop.line c.loop.invariant.gathered
 
 pub returns-in-End-clause-reads : goal.returns-in-End-clause-reads
 returns-in-End-clause-reads g c =
     let left = g.R.Source.left c.args.source.now in
     let rest = g.R.Source.left c.loop.source in
     let then = g.R.Source.left c.fill.new.source in
+    let old = g.R.Piecewise.pieces c.args.source.now in
+    let new = g.R.Piecewise.pieces c.loop.source in
     let before = c.args.unread.now in
     let line = c.pass_on.new.line in
     let came = c.in-End.ensures.came in
     at-end c.last_of.result left then before c.fill.new.self line c.last_of.ensures
-    (ended left rest then before c.fill.new.self line
-    (further left rest before c.loop.unread c.pass_on.new.self c.loop.line line c.loop.invariant.gathered c.in-All.ensures) came.0 came.1 came.2)
+    (ended left rest then old new before c.fill.new.self line
+    (further left rest old new before c.loop.unread c.pass_on.new.self c.loop.line line c.loop.invariant.gathered c.in-All.ensures) came.0 came.1 came.2)
+
+pub returns-in-End-clause-in_time : goal.returns-in-End-clause-in_time
+returns-in-End-clause-in_time g c =
+    let left = g.R.Source.left c.args.source.now in
+    let rest = g.R.Source.left c.loop.source in
+    let old = g.R.Piecewise.pieces c.args.source.now in
+    let new = g.R.Piecewise.pieces c.loop.source in
+    let newer = g.R.Piecewise.pieces c.fill.new.source in
+    let before = c.args.unread.now in
+    let line = c.pass_on.new.line in
+    asked-then left rest old new newer before line c.fill.new.self
+    (further left rest old new before c.loop.unread c.pass_on.new.self c.loop.line line c.loop.invariant.gathered c.in-All.ensures) c.in-End.ensures.gave
+
+pub returns-in-Failed-clause-in_time : goal.returns-in-Failed-clause-in_time
+returns-in-Failed-clause-in_time g c =
+    let left = g.R.Source.left c.args.source.now in
+    let rest = g.R.Source.left c.loop.source in
+    let old = g.R.Piecewise.pieces c.args.source.now in
+    let new = g.R.Piecewise.pieces c.loop.source in
+    let newer = g.R.Piecewise.pieces c.fill.new.source in
+    let before = c.args.unread.now in
+    let line = c.pass_on.new.line in
+    asked-then left rest old new newer before line c.fill.new.self
+    (further left rest old new before c.loop.unread c.pass_on.new.self c.loop.line line c.loop.invariant.gathered c.in-All.ensures) c.in-Failed.ensures.gave
+
+pub returns-clause-in_time : goal.returns-clause-in_time
+returns-clause-in_time g c =
+    asked-now (g.R.Source.left c.args.source.now) (g.R.Source.left c.loop.source) (g.R.Piecewise.pieces c.args.source.now) (g.R.Piecewise.pieces c.loop.source)
+    c.args.unread.now c.loop.unread c.loop.line c.loop.invariant.gathered
 
 pub loop-preserved : goal.loop-preserved
 loop-preserved g c =
     let left = g.R.Source.left c.args.source.now in
     let rest = g.R.Source.left c.loop.source in
     let then = g.R.Source.left c.fill.new.source in
+    let old = g.R.Piecewise.pieces c.args.source.now in
+    let new = g.R.Piecewise.pieces c.loop.source in
+    let newer = g.R.Piecewise.pieces c.fill.new.source in
     let before = c.args.unread.now in
     let line = c.pass_on.new.line in
     record {
-      gathered = filled left rest then before line c.fill.new.self
-          (further left rest before c.loop.unread c.pass_on.new.self c.loop.line line c.loop.invariant.gathered c.in-All.ensures) c.in-Some.ensures.came.0;
+      gathered = filled left rest then old new newer before line c.fill.new.self
+          (further left rest old new before c.loop.unread c.pass_on.new.self c.loop.line line c.loop.invariant.gathered c.in-All.ensures) c.in-Some.ensures.came.0 c.in-Some.ensures.gave;
       same = c.in-Some.ensures.faults ∙ c.loop.invariant.same;
     }
