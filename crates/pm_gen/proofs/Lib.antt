@@ -1,3 +1,4 @@
 pub mod Choices
 pub mod Steps
 pub mod Digits
+pub mod TurnLines

@@ -4,6 +4,13 @@ use Rattle.pm_gen.specs.declared.session.TheConstants.{SCHEMA, DOCUMENT}
 use Rattle.pm_gen.specs.Turns.{turn_at, after_turn}
 use Rattle.pm_gen.specs.Lines.{joined, quoted, name, turn_line}
 
+-- the first two lines, without their ends
+abbrev pub schema_text : List ℕ
+schema_text = SCHEMA.now
+
+abbrev pub document_text : List ℕ
+document_text = DOCUMENT.now
+
 -- a name behind another one
 abbrev pub further_name : ℕ → List ℕ
 further_name client = joined (codes "," ∷ quoted (name client))
@@ -29,4 +36,4 @@ line text = text ++ 10 ∷ []
 
 -- the schema, the document and the names, and then so many rounds in which each client has its turn
 abbrev pub generated : (clients rounds number : ℕ) → List ℕ
-generated clients rounds number = line SCHEMA.now ++ line DOCUMENT.now ++ line (names clients) ++ turn_lines clients 0 (clients * rounds) number
+generated clients rounds number = line schema_text ++ line document_text ++ line (names clients) ++ turn_lines clients 0 (clients * rounds) number
