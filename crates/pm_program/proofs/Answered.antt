@@ -1,11 +1,11 @@
 -- What was written belongs to the command and the input.
-use Rattle.std.proofs.Common.{◌≡◌, ℕ, List, inl, inr, subst, sym}
-use Rattle.std.specs.Prelude.{◌⊎◌, Option, Result}
+use Rattle.std.proofs.Common.{◌≡◌, ℕ, List, inl, inr, subst}
+use Rattle.std.specs.Prelude.{Option, Result}
 use Rattle.std.specs.Io.KnownBytes.{Consumes}
 use Rattle.pm_program.specs.declared.call.Status.{Status}
 use Rattle.pm_program.specs.declared.call.Status.TheVariants.{Done, SessionRefused, Usage, ReadFault, WriteFault, NoMemory}
 use Rattle.pm_program.specs.declared.words.Command.{Command}
-use Rattle.pm_program.specs.Files.{file_of, ReadsInput}
+use Rattle.pm_program.specs.Files.{file_of}
 use Rattle.pm_program.specs.Headline.{Writes, Agrees}
 use Rattle.pm_head.specs.declared.fault.Refusal.{Refusal}
 use Rattle.pm_script.specs.declared.session.Session.{Session}
@@ -52,11 +52,3 @@ whole-of asked input NoMemory old new a (inr e) = absurd (cc)
 -- and it is the output for the bytes that were read
 pub answers-read : (asked : Command) (input : List ℕ) (status : Status) (left rest old new : Option (List ℕ)) → Consumes left rest input → Answered asked input status old new → IsAnswer status → AnswersRead asked status left rest old new
 answers-read asked input status left rest old new read a h = record { input = input; read = read; written = whole-of asked input status old new a h }
-
--- what was read, or not, is told of the command that was asked for
-pub read-to-end : (command asked : Command) (X : Type 0) → command ≡ asked → ReadsInput asked → (ReadsInput command → X) → X
-read-to-end command asked X same reads h = h (subst ReadsInput (sym same) reads)
-
-pub unread-by : (command asked : Command) (X : Type 0) → command ≡ asked → ReadsInput command ⊎ X → ReadsInput asked ⊎ X
-unread-by command asked X same (inl reads) = inl (subst ReadsInput same reads)
-unread-by command asked X same (inr h) = inr h

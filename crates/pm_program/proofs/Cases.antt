@@ -10,7 +10,7 @@ use Rattle.pm_report.specs.Words.{◌&◌, line}
 use Rattle.pm_program.specs.declared.call.Status.{Status}
 use Rattle.pm_program.specs.declared.call.Status.TheVariants.{Done, SessionRefused, Usage, ReadFault, WriteFault, NoMemory}
 use Rattle.pm_program.specs.declared.words.Command.{Command}
-use Rattle.pm_program.specs.declared.words.Command.TheVariants.{Check, Replay, Run, Gen}
+use Rattle.pm_program.specs.declared.words.Command.TheVariants.{Check}
 use Rattle.pm_program.specs.Files.{file_of}
 use Rattle.pm_program.specs.Output.{refusal, counts_of, IsTextOf, status_for, IsOutput, Answered, IsAnswer}
 use Rattle.pm_program.specs.Cases.{IsByCase, Tells}
@@ -74,19 +74,3 @@ one-check input text other a b x y = at x.found y.found x.is y.is x.written y.wr
     at (Ok s) (Err fault) h k v w = absurd (session-apart input s fault h k)
     at (Err fault) (Ok t) h k v w = absurd (session-apart input t fault k h)
     at (Err fault) (Err g) h k v w = v ∙ ap refusal (one-refusal input fault g h k) ∙ sym w
-
-refused-text : (command : Command) (fault : Refusal) (text : List ℕ) → IsTextOf command (Err fault) text → text ≡ refusal fault
-refused-text Check fault text h = h
-refused-text Replay fault text h = h
-refused-text Run fault text h = h
-refused-text (Gen asked) fault text h = h
-
--- the line that refuses an input is one, whatever the command
-pub one-line : (command : Command) (input text other : List ℕ) → IsOutput command input text SessionRefused → IsOutput command input other SessionRefused → text ≡ other
-one-line command input text other x y = at x.found y.found x.is y.is x.says y.says x.written y.written
-  where
-    at : (f g : Result Session Refusal) → SessionIs (file_of command input) f → SessionIs (file_of command input) g → SessionRefused ≡ status_for f → SessionRefused ≡ status_for g
-        → IsTextOf command f text → IsTextOf command g other → text ≡ other
-    at (Ok s) g h k e d v w = absurd (cc)
-    at (Err fault) (Ok t) h k e d v w = absurd (cc)
-    at (Err fault) (Err g) h k e d v w = refused-text command fault text v ∙ ap refusal (one-refusal (file_of command input) fault g h k) ∙ sym (refused-text command g other w)

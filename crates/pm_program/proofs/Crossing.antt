@@ -7,8 +7,7 @@ use Rattle.pm_value.proofs.text.Text.TheSendSync as Text
 use Rattle.pm_value.proofs.value.Fields.TheLaws.TheKnot as Values
 use Rattle.pm_marks.proofs.set.MarkSet.TheSendSync as MarkSet
 use Rattle.pm_node.proofs.units.Units.TheSendSync as Units
-use Rattle.pm_node.proofs.node.Fragment.TheLaws.TheKnot as Nodes
-use Rattle.pm_apply.proofs.Crossing.{attrs_send, attrs_sync, slice_send, slice_sync}
+use Rattle.pm_apply.proofs.Crossing.{attrs_send, attrs_sync, fragment_send, fragment_sync, slice_send, slice_sync}
 use Rattle.pm_ops.specs.contracts.op.Op as op
 
 pub op_send : IsSend op.the_row
@@ -20,7 +19,7 @@ op_send =
         (
           (search sendable, (search sendable, (search (sendable, slice_send) depth 20, tt))),
           (
-            (search sendable, (search (sendable, crosses, Nodes.crosses, attrs_send, attrs_sync, MarkSet.the_send, MarkSet.the_sync, Units.the_send, Units.the_sync) depth 20, tt)),
+            (search sendable, (search (sendable, crosses, fragment_send, attrs_send, MarkSet.the_send, Units.the_send) depth 20, tt)),
             (
               (search sendable, (search sendable, tt)),
               (
@@ -61,7 +60,7 @@ op_sync =
         (
           (search sendable, (search sendable, (search (sendable, slice_sync) depth 20, tt))),
           (
-            (search sendable, (search (sendable, crosses, Nodes.crosses, attrs_send, attrs_sync, MarkSet.the_send, MarkSet.the_sync, Units.the_send, Units.the_sync) depth 20, tt)),
+            (search sendable, (search (sendable, crosses, fragment_sync, attrs_sync, MarkSet.the_sync, Units.the_sync) depth 20, tt)),
             (
               (search sendable, (search sendable, tt)),
               (

@@ -4,6 +4,7 @@ pub mod Reports
 pub mod Runs
 pub mod TooLong
 pub mod Answered
+pub mod Obeyed
 pub mod Cases
 pub mod TwinWraps
 pub mod SameWrappings
@@ -12,3 +13,4 @@ pub mod SameTexts
 pub mod Built
 pub mod SameReports
 pub mod OneOutput
+pub mod Made

@@ -1,17 +1,20 @@
--- What `check` and `replay` write for an input is one text, with one status.
+-- What `check` and `replay` write for an input is one text, with one status, and so is what `gen` writes.
 use Rattle.std.proofs.Common.{◌≡◌, ℕ, List, refl, ap, ◌∙◌, sym}
 use Rattle.std.specs.Prelude.{Result, Ok, Err}
+use Rattle.pm_gen.specs.declared.asking.Asked.{Asked}
 use Rattle.pm_head.specs.declared.fault.Refusal.{Refusal}
 use Rattle.pm_script.specs.declared.session.Session.{Session}
 use Rattle.pm_script.specs.Sessions.{SessionIs}
 use Rattle.pm_script.proofs.OneSession.{session-apart, one-refusal}
 use Rattle.pm_program.specs.declared.call.Status.{Status}
 use Rattle.pm_program.specs.declared.call.Status.TheVariants.{Done}
-use Rattle.pm_program.specs.declared.words.Command.TheVariants.{Check, Replay}
+use Rattle.pm_program.specs.declared.words.Command.TheVariants.{Check, Replay, Gen}
+use Rattle.pm_program.specs.Files.{file_of}
 use Rattle.pm_program.specs.Output.{refusal, counts_of, IsTextOf, IsOutput}
+use Rattle.pm_program.specs.Summing.{summary_in}
 use Rattle.pm_program.specs.OneOutput.{HasOneOutput}
 use Rattle.pm_program.proofs.Cases.{one-status, one-check}
-use Rattle.pm_program.proofs.SameReports.{one-report}
+use Rattle.pm_program.proofs.SameReports.{one-report, one-room}
 
 -- what `check` writes of a session that the input is
 counted : (input : List ℕ) (s : Session) → SessionIs input (Ok s) → IsOutput Check input (counts_of s) Done
@@ -30,8 +33,21 @@ one-replay input text other a b x y = at x.found y.found x.is y.is x.written y.w
     at (Err refused) (Ok t) h k v w = absurd (session-apart input t refused k h)
     at (Err refused) (Err g) h k v w = v ∙ ap refusal (one-refusal input refused g h k) ∙ sym w
 
+-- what `gen` writes is one
+one-gen : (asked : Asked) (input text other : List ℕ) (a b : Status) → IsOutput (Gen asked) input text a → IsOutput (Gen asked) input other b → text ≡ other
+one-gen asked input text other a b x y = at x.found y.found x.is y.is x.written y.written
+  where
+    at : (f g : Result Session Refusal) → SessionIs (file_of (Gen asked) input) f → SessionIs (file_of (Gen asked) input) g → IsTextOf (Gen asked) f text → IsTextOf (Gen asked) g other → text ≡ other
+    at (Ok s) (Ok t) h k v w = v ∙ ap (summary_in asked) (one-room (file_of (Gen asked) input) s t h k) ∙ sym w
+    at (Ok s) (Err refused) h k v w = absurd (session-apart (file_of (Gen asked) input) s refused h k)
+    at (Err refused) (Ok t) h k v w = absurd (session-apart (file_of (Gen asked) input) t refused k h)
+    at (Err refused) (Err g) h k v w = v ∙ ap refusal (one-refusal (file_of (Gen asked) input) refused g h k) ∙ sym w
+
 pub check-output : (input : List ℕ) → HasOneOutput Check input
 check-output input text other a b x y = (one-check input text other a b x y, one-status Check input text other a b x y)
 
 pub replay-output : (input : List ℕ) → HasOneOutput Replay input
 replay-output input text other a b x y = (one-replay input text other a b x y, one-status Replay input text other a b x y)
+
+pub gen-output : (asked : Asked) (input : List ℕ) → HasOneOutput (Gen asked) input
+gen-output asked input text other a b x y = (one-gen asked input text other a b x y, one-status (Gen asked) input text other a b x y)

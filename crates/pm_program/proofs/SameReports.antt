@@ -43,5 +43,9 @@ module _ (s t : Session) (e : SameSession s t) (bs : IsBuilt s.head.schema) (bt 
       (λ i. report s.head.schema.spec (e.head.clients i) (with_numbers (e.lines i) (playing-alike i).0) (playing-alike i).1 (settled-alike i))
       ∙ report-alike s.head.schema.spec t.head.schema.spec e.head.types t.head.clients (with_numbers t.lines (playing t).0) (playing t).1 (room_settled t)
 
+-- the rooms of two sessions of the input, once their editors have settled, are one
+pub one-room : (input : List ℕ) (s t : Session) → SessionIs input (Ok s) → SessionIs input (Ok t) → room_settled s ≡ room_settled t
+one-room input s t is it = settled-alike s t (one-session input s t is it) (session-built input s is) (session-built input t it)
+
 pub one-report : (input : List ℕ) (s t : Session) → SessionIs input (Ok s) → SessionIs input (Ok t) → report_of s ≡ report_of t
 one-report input s t is it = reports-alike s t (one-session input s t is it) (session-built input s is) (session-built input t it)

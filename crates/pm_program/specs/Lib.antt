@@ -9,5 +9,6 @@ pub mod Running
 pub mod Finding
 pub mod Output
 pub mod Headline
+pub mod Obeyed
 pub mod Cases
 pub mod OneOutput

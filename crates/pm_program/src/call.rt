@@ -2,21 +2,20 @@
 ghost use Rattle.std.specs.Prelude.{◌≡◌, ◌⊎◌, ◌↔◌, ℕ, List, None, Some, map, string_bytes};
 ghost use Rattle.std.specs.Io.KnownBytes.{IsAtEnd};
 ghost use Rattle.pm_io.specs.Faults.{Rose};
+ghost use Rattle.pm_gen.specs.declared.asking.Asked.{Asked};
 ghost use Rattle.pm_program.specs.Words.{command_of, plain_command_of};
 ghost use Rattle.pm_program.specs.Files.{file_of, ReadsInput};
 ghost use Rattle.pm_program.specs.Output.{IsAnswer, Answered, AnswersRead, IsPastLimit};
 ghost use Rattle.pm_program.specs.Cases.{Tells, IsByCase};
 ghost use Rattle.pm_program.specs.Sounds.{AllSound};
-ghost use Rattle.pm_program.specs.Headline.{Writes, Agrees, Silent, number_of};
+ghost use Rattle.pm_program.specs.Headline.{Silent, number_of};
 
-use crate::answer::{Answer, answer_to};
-use crate::finding::{found_for, found_in};
 use crate::making::EditMaker;
-use crate::running::answer_on_threads;
+use crate::obeying::{obey, obey_on_threads};
 use crate::words::{Command, command_of, plain_command_of};
-use pm_io::{Gate, ReadError, Sink, Source, write_all};
+use pm_io::{Gate, Sink, Source};
 use pm_workers::Crew;
-use std::alloc::{AllocError, Global};
+use std::alloc::Global;
 use std::sync::Wait;
 use std::thread::Threads;
 
@@ -110,6 +109,9 @@ pub fn run<R: Source, W: Sink, G: Gate + Sync, T: Threads + Wait + Sync>(
     // With an answer, what was written is the output for the bytes that were read, also of a source that does not tell them.
     ensures answers { (asked : Command) → command_of (map string_bytes words.now) ≡ Some asked → IsAnswer result
         → AnswersRead asked result (R.left source.old) (R.left source.new) (W.written sink.old) (W.written sink.new) }
+    // The file that `gen` makes is a session, so that no line of it is refused.
+    ensures session { (numbers : Asked) → command_of (map string_bytes words.now) ≡ Some (Command.Gen numbers)
+        → result ≡ Status.SessionRefused → ⊥ }
 {
     match command_of(words) {
         Some(Command::Run) => {
@@ -118,49 +120,9 @@ pub fn run<R: Source, W: Sink, G: Gate + Sync, T: Threads + Wait + Sync>(
                 maker: &EditMaker,
                 gate,
             };
-            run_session(alloc, &crew, source, sink)
+            obey_on_threads(alloc, &crew, source, sink)
         }
         _ => plain(alloc, words, source, sink),
-    }
-}
-
-/// Plays the session that a source gives, with a thread for each client.
-fn run_session<R: Source, W: Sink, G: Gate + Sync, T: Threads + Wait + Sync>(
-    alloc: Global,
-    crew: &Crew<EditMaker, G, T>,
-    source: &mut R,
-    sink: &mut W,
-) -> Status
-    ensures usage { result ≡ Status.Usage → ⊥ }
-    ensures silent { Silent result (W.written sink.old) (W.written sink.new) }
-    ensures output { (input : List ℕ) → R.left source.old ≡ Some input
-        → Answered Command.Run input result (W.written sink.old) (W.written sink.new) }
-    ensures read_fault { result ≡ Status.ReadFault → Rose (R.faults source.old) (R.faults source.new) }
-    ensures write_fault { result ≡ Status.WriteFault → Rose (W.faults sink.old) (W.faults sink.new) }
-    ensures no_read_fault { (result ≡ Status.ReadFault) ⊎ (R.faults source.new ≡ R.faults source.old) }
-    ensures no_write_fault { (result ≡ Status.WriteFault) ⊎ (W.faults sink.new ≡ W.faults sink.old) }
-    ensures read_whole { result ≡ Status.Done → IsAtEnd (R.left source.new) }
-    ensures read_enough { result ≡ Status.SessionRefused
-        → IsAtEnd (R.left source.new) ⊎ IsPastLimit (R.left source.old) (R.left source.new) }
-    ensures complete { ¬ Rose (R.faults source.old) (R.faults source.new)
-        → ¬ Rose (W.faults sink.old) (W.faults sink.new)
-        → IsAnswer result ⊎ (result ≡ Status.NoMemory) }
-    ensures tells { (input : List ℕ) → R.left source.old ≡ Some input → Tells input result }
-    ensures by_case { (input : List ℕ) → R.left source.old ≡ Some input
-        → ¬ Rose (R.faults source.old) (R.faults source.new)
-        → ¬ Rose (W.faults sink.old) (W.faults sink.new)
-        → IsByCase input result }
-    ensures answers { IsAnswer result
-        → AnswersRead Command.Run result (R.left source.old) (R.left source.new) (W.written sink.old) (W.written sink.new) }
-{
-    let found = match found_in(alloc, source) {
-        Ok(found) => found,
-        Err(ReadError::ReadFault) => return Status::ReadFault,
-        Err(_) => return Status::NoMemory,
-    };
-    match answer_on_threads(alloc, crew, found) {
-        Ok(answer) => deliver(sink, &answer),
-        Err(AllocError) => Status::NoMemory,
     }
 }
 
@@ -217,34 +179,12 @@ pub fn plain<R: Source, W: Sink>(
     // With an answer, what was written is the output for the bytes that were read, also of a source that does not tell them.
     ensures answers { (asked : Command) → plain_command_of (map string_bytes words.now) ≡ Some asked → IsAnswer result
         → AnswersRead asked result (R.left source.old) (R.left source.new) (W.written sink.old) (W.written sink.new) }
+    // The file that `gen` makes is a session, so that no line of it is refused.
+    ensures session { (numbers : Asked) → plain_command_of (map string_bytes words.now) ≡ Some (Command.Gen numbers)
+        → result ≡ Status.SessionRefused → ⊥ }
 {
     let Some(command) = plain_command_of(words) else {
         return Status::Usage;
     };
-    let found = match found_for(alloc, command, source) {
-        Ok(found) => found,
-        Err(ReadError::ReadFault) => return Status::ReadFault,
-        Err(_) => return Status::NoMemory,
-    };
-    match answer_to(alloc, command, &found) {
-        Ok(answer) => deliver(sink, &answer),
-        Err(AllocError) => Status::NoMemory,
-    }
-}
-
-/// Writes an answer.
-fn deliver<W: Sink>(sink: &mut W, answer: &Answer) -> Status
-    requires { IsAnswer answer.now.status }
-    ensures writes { Writes result (W.written sink.old) (W.written sink.new) (string_bytes answer.now.text) }
-    ensures agrees { Agrees result answer.now.status }
-    ensures fault { result ≡ Status.WriteFault → Rose (W.faults sink.old) (W.faults sink.new) }
-    ensures no_fault { (result ≡ Status.WriteFault) ⊎ (W.faults sink.new ≡ W.faults sink.old) }
-    ensures no_usage { result ≡ Status.Usage → ⊥ }
-    ensures no_read { result ≡ Status.ReadFault → ⊥ }
-    ensures memory { result ≡ Status.NoMemory → ⊥ }
-{
-    match write_all(sink, answer.text.as_bytes()) {
-        Ok(()) => answer.status,
-        Err(_) => Status::WriteFault,
-    }
+    obey(alloc, command, source, sink)
 }

@@ -5,6 +5,7 @@ mod answer;
 mod call;
 mod finding;
 mod making;
+mod obeying;
 mod one_output;
 mod replaying;
 mod running;

@@ -35,13 +35,52 @@ impl Sink for Fives {
     }
 }
 
-// A schema, a paragraph "ab", one client, and a push of nothing.
+// A schema, a paragraph "ab", one client, a letter put in front, and a push.
 const SESSION: &str =
     r#"{"nodes":[{"name":"doc","content":"paragraph+"},{"name":"paragraph","content":"text*"},{"name":"text"}]}
 {"type":"doc","content":[{"type":"paragraph","content":[{"type":"text","text":"ab"}]}]}
 ["a"]
+{"c":"a","op":"step","step":{"stepType":"replace","from":1,"to":1,"slice":{"content":[{"type":"text","text":"x"}]}}}
 {"c":"a","op":"push"}
 "#;
+
+// What `replay` writes of it.
+const REPORT: &str = r#"4 made 1
+5 accepted 0 1; confirmed 1
+client a 1 [] [] [] {"content":[{"content":[{"text":"xab","type":"text"}],"type":"paragraph"}],"type":"doc"}
+log 1
+1 a 1 {"from":1,"slice":{"content":[{"text":"x","type":"text"}]},"stepType":"replace","to":1}
+settled a 1 [] []
+final {"content":[{"content":[{"text":"xab","type":"text"}],"type":"paragraph"}],"type":"doc"}
+"#;
+
+// The words, the number of the read that fails, the status, how many bytes are written, and with what they begin. The second
+// read is the last, which finds the end. Wrong words are told before anything is read, and `gen` reads nothing.
+const ENDS: [(&str, u64, Status, usize, &str); 17] = [
+    ("", 1, Status::Usage, 0, ""),
+    ("replay x", 1, Status::Usage, 0, ""),
+    ("run x", 1, Status::Usage, 0, ""),
+    ("gen 0 1 1", 1, Status::Usage, 0, ""),
+    ("gen 1 1", 1, Status::Usage, 0, ""),
+    ("gen 1 1 1 1", 1, Status::Usage, 0, ""),
+    ("--help", 1, Status::Usage, 0, ""),
+    (
+        "gen 1 0 7",
+        1,
+        Status::Done,
+        42,
+        "gen 1 0 7\nlines 0\nlog 0\ndropped 0\nsize 12\n",
+    ),
+    ("check", 1, Status::ReadFault, 0, ""),
+    ("check", 2, Status::ReadFault, 0, ""),
+    ("check", 3, Status::Done, 7, "ok 2 4\n"),
+    ("replay", 1, Status::ReadFault, 0, ""),
+    ("replay", 2, Status::ReadFault, 0, ""),
+    ("replay", 3, Status::Done, 359, REPORT),
+    ("run", 1, Status::ReadFault, 0, ""),
+    ("run", 2, Status::ReadFault, 0, ""),
+    ("run", 3, Status::Done, 369, "order 4 5\n4 made 1\n"),
+];
 
 // The words of a text, which blanks part.
 fn words(rt: &impl AllocGlobal, text: &str) -> Result<Vec<String>, Fail> {
@@ -52,78 +91,48 @@ fn words(rt: &impl AllocGlobal, text: &str) -> Result<Vec<String>, Fail> {
     Ok(words)
 }
 
-// What these words do with the session, where a read of this number fails and the sink has this much room: the status, and
-// whether what was written begins with this.
+// What these words do with the session, where this read and this call of the sink fail, which takes five bytes at a call: the
+// status, how many bytes were written, and whether they and these agree as far as both go.
 fn ends<T: AllocGlobal + Threads + Wait + Sync>(
     rt: &T,
     given: &str,
     failing_read: u64,
-    room: usize,
-    front: &str,
-) -> Result<(Status, bool), Fail> {
+    failing_call: u64,
+    whole: &str,
+) -> Result<(Status, usize, bool), Fail> {
     let alloc = rt.alloc();
     let words = words(rt, given)?;
     let bytes = Vec::from_slice(alloc, SESSION.as_bytes())?;
     let mut source = MemSource::new(bytes, vec![in alloc; failing_read; 1]?);
-    let mut sink = MemSink::new(alloc, room, Vec::new(alloc))?;
+    let mut sink = Fives {
+        bytes: Vec::new(alloc),
+        calls: 0,
+        fail: failing_call,
+        faults: 0,
+    };
     let status = run(alloc, rt, &words, &mut source, &mut sink, &OpenGate);
-    Ok((status, sink.written().starts_with(front.as_bytes())))
+    let written = sink.bytes.as_slice();
+    let common = written.len().min(whole.len());
+    let agrees = written[..common] == whole.as_bytes()[..common];
+    Ok((status, written.len(), agrees))
 }
 
 #[test]
-fn words_and_failing_ends_are_told(rt: HostRuntime) -> Result<(), Fail> {
-    for (given, failing_read, room, want, front) in [
-        ("", 9u64, 1000usize, Status::Usage, ""),
-        ("replay x", 9, 1000, Status::Usage, ""),
-        ("gen 0 1 1", 9, 1000, Status::Usage, ""),
-        ("gen 1 1", 9, 1000, Status::Usage, ""),
-        ("gen 1 1 1 1", 9, 1000, Status::Usage, ""),
-        (
-            "gen 1 0 7",
-            1,
-            1000,
-            Status::Done,
-            "gen 1 0 7\nlines 0\nlog 0\ndropped 0\nsize 12\n",
-        ),
-        ("gen 1 0 7", 9, 5, Status::WriteFault, ""),
-        ("--help", 9, 1000, Status::Usage, ""),
-        ("replay", 1, 1000, Status::ReadFault, ""),
-        ("replay", 2, 1000, Status::ReadFault, ""),
-        ("check", 2, 1000, Status::ReadFault, ""),
-        ("replay", 9, 5, Status::WriteFault, ""),
-        ("check", 9, 1000, Status::Done, "ok 1 4\n"),
-        ("replay", 9, 1000, Status::Done, "4 accepted 0 0; stale\n"),
-        ("run x", 9, 1000, Status::Usage, ""),
-        ("run", 2, 1000, Status::ReadFault, ""),
-        ("run", 9, 5, Status::WriteFault, ""),
-        (
-            "run",
-            9,
-            1000,
-            Status::Done,
-            "order 4\n4 accepted 0 0; stale\n",
-        ),
-    ] {
-        let (status, is_begun) = ends(&rt, given, failing_read, room, front)?;
-        assert!(rt; status == want && is_begun);
+fn words_and_failing_reads_are_told(rt: HostRuntime) -> Result<(), Fail> {
+    for (given, failing_read, want, size, front) in ENDS {
+        let (status, written, agrees) = ends(&rt, given, failing_read, 0, front)?;
+        assert!(rt; status == want && written == size && agrees);
     }
     Ok(())
 }
 
+// At whichever call the sink fails, it has taken five bytes at each call before.
 #[test]
-fn a_sink_that_fails_later_keeps_a_front(rt: HostRuntime) -> Result<(), Fail> {
-    let alloc = rt.alloc();
-    let words = words(&rt, "replay")?;
-    let mut source = SureSource::new(Vec::from_slice(alloc, SESSION.as_bytes())?);
-    let mut sink = Fives {
-        bytes: Vec::new(alloc),
-        calls: 0,
-        fail: 2,
-        faults: 0,
-    };
-    let status = run(alloc, &rt, &words, &mut source, &mut sink, &OpenGate);
-    assert_eq!(rt; status, Status::WriteFault);
-    assert_eq!(rt; sink.bytes.as_slice(), b"4 acc".as_slice());
+fn a_sink_that_fails_keeps_a_front(rt: HostRuntime) -> Result<(), Fail> {
+    for call in 0..72usize {
+        let (status, written, agrees) = ends(&rt, "replay", 9, call as u64 + 1, REPORT)?;
+        assert!(rt; status == Status::WriteFault && written == 5 * call && agrees);
+    }
     Ok(())
 }
 

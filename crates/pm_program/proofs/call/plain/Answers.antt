@@ -1,31 +1,66 @@
-use Rattle.std.proofs.Common.{◌≡◌, map, string_bytes, inl}
-use Rattle.std.specs.Prelude.{Some}
-use Rattle.pm_program.specs.Finding.{found_of}
-use Rattle.pm_program.specs.Words.{plain_command_of}
-use Rattle.pm_program.proofs.Answered.{answered-found, answer-of, answers-read}
-use Rattle.pm_program.proofs.Cases.{tells, by-case}
+use Rattle.std.proofs.Common.{◌≡◌, inr, subst}
+use Rattle.pm_program.specs.declared.words.Command.TheVariants.{Gen}
+use Rattle.pm_program.specs.Words.{IsBounded}
+use Rattle.pm_program.proofs.Obeyed.{as-asked, tells-of, by-case-of}
+use Rattle.pm_program.proofs.Made.{made-session}
 use Rattle.pm_program.proofs.call.plain.Goals as goal
 
-pub returns-in-Ok-answer_to-clause-output : goal.returns-in-Ok-answer_to-clause-output
-returns-in-Ok-answer_to-clause-output g c asked input is left =
+pub returns-clause-silent : goal.returns-clause-silent
+returns-clause-silent g c = c.obey.ensures.silent
+
+pub returns-clause-read_fault : goal.returns-clause-read_fault
+returns-clause-read_fault g c = c.obey.ensures.read_fault
+
+pub returns-clause-write_fault : goal.returns-clause-write_fault
+returns-clause-write_fault g c = c.obey.ensures.write_fault
+
+pub returns-clause-no_read_fault : goal.returns-clause-no_read_fault
+returns-clause-no_read_fault g c = c.obey.ensures.no_read_fault
+
+pub returns-clause-no_write_fault : goal.returns-clause-no_write_fault
+returns-clause-no_write_fault g c = c.obey.ensures.no_write_fault
+
+pub returns-clause-output : goal.returns-clause-output
+returns-clause-output g c asked input is left =
     let same : c.in-Some.command ≡ asked = cc in
-    answered-found c.in-Some.command asked input (string_bytes c.in-Ok-answer_to.answer.text) (found_of c.in-Ok.found) c.in-Ok-answer_to.answer.status c.deliver.result _ _
-    same (c.in-Ok.ensures.is input left) c.in-Ok-answer_to.ensures.text c.in-Ok-answer_to.ensures.says c.deliver.ensures.writes c.deliver.ensures.agrees
+    (as-asked c.in-Some.command asked c.obey.result _ _ _ _ _ _ _ _ same c.obey.ensures).output input left
 
-pub returns-in-Ok-answer_to-clause-tells : goal.returns-in-Ok-answer_to-clause-tells
-returns-in-Ok-answer_to-clause-tells g c asked input is left =
-    tells asked input c.deliver.result _ _ (returns-in-Ok-answer_to-clause-output g c asked input is left)
-
-pub returns-in-Ok-answer_to-clause-by_case : goal.returns-in-Ok-answer_to-clause-by_case
-returns-in-Ok-answer_to-clause-by_case g c asked input is left no_read no_write =
-    by-case asked input c.deliver.result _ _ (returns-in-Ok-answer_to-clause-output g c asked input is left)
-    (inl (answer-of c.deliver.result c.deliver.ensures.no_usage c.deliver.ensures.no_read (λ e. no_write (c.deliver.ensures.fault e)) c.deliver.ensures.memory))
-
-pub returns-in-Ok-answer_to-clause-answers : goal.returns-in-Ok-answer_to-clause-answers
-returns-in-Ok-answer_to-clause-answers g c asked is h =
+pub returns-clause-read_whole : goal.returns-clause-read_whole
+returns-clause-read_whole g c asked is reads done =
     let same : c.in-Some.command ≡ asked = cc in
-    let read = c.in-Ok.ensures.took in
-    answers-read asked read.0 c.deliver.result _ _ _ _ read.1
-    (answered-found c.in-Some.command asked read.0 (string_bytes c.in-Ok-answer_to.answer.text) (found_of c.in-Ok.found) c.in-Ok-answer_to.answer.status c.deliver.result _ _
-    same read.2 c.in-Ok-answer_to.ensures.text c.in-Ok-answer_to.ensures.says c.deliver.ensures.writes c.deliver.ensures.agrees)
-    h
+    (as-asked c.in-Some.command asked c.obey.result _ _ _ _ _ _ _ _ same c.obey.ensures).read_whole reads done
+
+pub returns-clause-read_enough : goal.returns-clause-read_enough
+returns-clause-read_enough g c asked is reads refused =
+    let same : c.in-Some.command ≡ asked = cc in
+    (as-asked c.in-Some.command asked c.obey.result _ _ _ _ _ _ _ _ same c.obey.ensures).read_enough reads refused
+
+pub returns-clause-made : goal.returns-clause-made
+returns-clause-made g c asked is =
+    let same : c.in-Some.command ≡ asked = cc in
+    (as-asked c.in-Some.command asked c.obey.result _ _ _ _ _ _ _ _ same c.obey.ensures).made
+
+pub returns-clause-complete : goal.returns-clause-complete
+returns-clause-complete g c asked is no_read no_write =
+    let same : c.in-Some.command ≡ asked = cc in
+    (as-asked c.in-Some.command asked c.obey.result _ _ _ _ _ _ _ _ same c.obey.ensures).complete no_read no_write
+
+pub returns-clause-tells : goal.returns-clause-tells
+returns-clause-tells g c asked input is left =
+    let same : c.in-Some.command ≡ asked = cc in
+    tells-of asked c.obey.result _ _ _ _ _ _ _ _ (as-asked c.in-Some.command asked c.obey.result _ _ _ _ _ _ _ _ same c.obey.ensures) input left
+
+pub returns-clause-by_case : goal.returns-clause-by_case
+returns-clause-by_case g c asked input is left no_read no_write =
+    let same : c.in-Some.command ≡ asked = cc in
+    by-case-of asked c.obey.result _ _ _ _ _ _ _ _ (as-asked c.in-Some.command asked c.obey.result _ _ _ _ _ _ _ _ same c.obey.ensures) input left no_read no_write
+
+pub returns-clause-answers : goal.returns-clause-answers
+returns-clause-answers g c asked is h =
+    let same : c.in-Some.command ≡ asked = cc in
+    (as-asked c.in-Some.command asked c.obey.result _ _ _ _ _ _ _ _ same c.obey.ensures).answers h
+
+pub returns-clause-session : goal.returns-clause-session
+returns-clause-session g c numbers is e =
+    let same : c.in-Some.command ≡ Gen numbers = cc in
+    made-session numbers c.obey.result _ _ _ _ (subst IsBounded same c.in-Some.ensures.bounds) (returns-clause-answers g c (Gen numbers) is (inr e)) e

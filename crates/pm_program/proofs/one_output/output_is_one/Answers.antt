@@ -1,5 +1,5 @@
 use Rattle.pm_program.proofs.SameReports.{one-report}
-use Rattle.pm_program.proofs.OneOutput.{one-count, check-output, replay-output}
+use Rattle.pm_program.proofs.OneOutput.{one-count, check-output, replay-output, gen-output}
 use Rattle.pm_program.proofs.one_output.output_is_one.Goals as goal
 
 pub returns-clause-one_report : goal.returns-clause-one_report
@@ -13,3 +13,6 @@ returns-clause-check c = λ text other a b x y. check-output c.args.input.now te
 
 pub returns-clause-replay : goal.returns-clause-replay
 returns-clause-replay c = λ text other a b x y. replay-output c.args.input.now text other a b x y
+
+pub returns-clause-made : goal.returns-clause-made
+returns-clause-made c = λ asked text other a b x y. gen-output asked c.args.input.now text other a b x y
