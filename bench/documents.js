@@ -1,8 +1,9 @@
 // The parts that crates/pm_bench_docs times, taken of ProseMirror on the same lines, and the lines themselves.
 //
 //   node documents.js lines NAME           writes lines: a schema, a document, and steps. NAME is schema or wide (many types), paragraphs
-//                                          or letters (long documents), short (replace steps in 20,000 paragraphs), or a kind of steps,
-//                                          in 2,000 paragraphs
+//                                          or letters (long documents), short (replace steps in 20,000 paragraphs), a kind of steps,
+//                                          in 2,000 paragraphs, or changed-N, inserted-N, deleted-N or split-N (letters changed, and
+//                                          paragraphs inserted, deleted and split, in N paragraphs, of which 50 have ten letters)
 //   node documents.js PART REPEATS         times a part on the lines of standard input, and writes a number that says what was computed
 //                                          and the nanoseconds, the least of all repeats
 
@@ -94,15 +95,39 @@ function steps(stepType, paragraph) {
   return all.map(step => ({...step, stepType}))
 }
 
+// So many paragraphs, of which 50 that stand evenly apart have ten letters and the others none, and 50 steps of a kind, each for
+// the document as it is.
+function edited(kind, count) {
+  const written = i => Math.floor(i * count / 50), starts = [], all = []
+  const doc = docOf(Array.from({length: count}, () => []))
+  for (let i = 0; i < 50; i++) doc.content[written(i)].content.push({text: letters(10, i), type: "text"})
+  for (let i = 0, pos = 0; i < count; i++) {
+    starts.push(pos)
+    pos += 2 + 10 * doc.content[i].content.length
+  }
+  const half = count >> 1
+  for (let i = 0; i < 50; i++) {
+    const from = starts[written(i)] + 4, inside = 2 + i % 9
+    all.push({
+      changed: {from, slice: {content: [{text: "a", type: "text"}]}, to: from + 1},
+      inserted: {from: 0, slice: {content: [{content: [{text: letters(10, i), type: "text"}], type: "paragraph"}]}, to: 0},
+      deleted: {from: starts[half - i], to: starts[half - i + 1]},
+      split: {from: inside, slice: {content: [{type: "paragraph"}, {type: "paragraph"}], openEnd: 1, openStart: 1}, to: inside},
+    }[kind])
+  }
+  return [BASIC, doc, ...all.map(step => ({...step, stepType: "replace"}))]
+}
+
 function lines(name) {
   const first = {content: [{type: "type_1"}], type: "doc"}
+  const [, kind, count] = /^(changed|inserted|deleted|split)-(\d+)$/.exec(name) || []
   const all = {
     schema: () => [manyTypes(200), first],
     wide: () => [manyTypes(4), first],
     paragraphs: () => [BASIC, paragraphs()],
     letters: () => [BASIC, oneText()],
     short: () => [BASIC, tokens(20000), ...steps("replace", 20)],
-  }[name] || (() => [BASIC, tokens(2000, name.startsWith("remove") ? EM : {}), ...steps(name, 200)])
+  }[name] || (kind && (() => edited(kind, Number(count)))) || (() => [BASIC, tokens(2000, name.startsWith("remove") ? EM : {}), ...steps(name, 200)])
   process.stdout.write(all().map(value => JSON.stringify(value) + "\n").join(""))
 }
 
@@ -159,6 +184,7 @@ const WHOLE = {
   write: [({doc}) => doc.toJSON(), json => json.content.length],
   // The keys stand in another order than in the line.
   print: [({written}) => JSON.stringify(written), text => text.length],
+  text: [({doc}) => JSON.stringify(doc.toJSON()), text => text.length],
 }
 
 const EACH = {

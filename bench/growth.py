@@ -73,6 +73,8 @@ row("types that may be absent, in a row", "check", 240)(lambda n: session(conten
 row("node types with 990 states each", "check", 10)(lambda n: session(content("p", [{"name": f"t{it}", "content": f"((t{it}?){{30}}){{33}}"} for it in range(n)])))
 row("node types with 4,000 places and 1,000 states each", "check", 1)(lambda n: session(content("p", [{"name": f"t{it}", "content": f"(((t{it}|t{it}|t{it}|t{it})?){{37}}){{27}}"} for it in range(n)])))
 row("node types with 4,032 places each", "check", 4)(lambda n: session(content("p", [{"name": f"t{it}", "content": f"((t{it}?){{63}}){{64}}*"} for it in range(n)])))
+row("types that each lead on to a place of their own", "check", 249)(lambda n: session(content("p", [*({"name": f"a{it}"} for it in range(n)), {"name": "y"}, {"name": "z", "content": "(" + "l|" * (2 * n) + "|".join(f"a{it} y?" for it in range(n)) + ")*"}])))
+row("suffixes one upon another, after a choice of 500", "check", 25)(lambda n: session(content("(" + "p|" * 499 + "p)" + "+" * n)))
 row("node types that may hold each other", "check", 500)(lambda n: session(content("p", [{"name": f"t{it}", "content": "g*", "group": "g"} for it in range(n)])))
 row("node types, each needing the next", "check", 500)(lambda n: session(content("p", [{"name": f"t{it}", "content": f"t{it + 1}" if it + 1 < n else "p"} for it in range(n)])))
 row("node types, each needing the one before", "check", 500)(lambda n: session(content("p", [{"name": f"t{it}", "content": f"t{it - 1}" if it else "p"} for it in range(n)])))

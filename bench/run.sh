@@ -95,6 +95,7 @@ document() {
   part "  checked" "$1" check 10
   part "  written" "$1" write 10
   part "  printed" "$1" print 10
+  part "  as a line" "$1" text 10
   part "  1,000 copies" "$1" copy 10
   memory "  greatest memory of ours, KB" "$1" "$documents"
   memory "  and of node, KB" "$1" node "$here/documents.js"
@@ -160,6 +161,12 @@ edits short "20,000 paragraphs"
 title "50 steps in 400,000 tokens, milliseconds" "ours" "ProseMirror"
 for kind in replace replaceAround addMark removeMark addNodeMark removeNodeMark; do step $kind; done
 
+title "50 edits of whole documents, milliseconds" "ours" "ProseMirror"
+for count in 2000 20000 200000; do
+  for kind in changed inserted deleted split; do part "$kind, in $count paragraphs" "$kind-$count" apply 7; done
+done
+part "resolved, in 200000 paragraphs" changed-200000 resolve 7
+
 # ./pm builds the program where it is missing or older than a source.
 title "the word check, milliseconds" "ours" "ProseMirror"
 "$here/../pm" check </dev/null >"$work/empty" || true
@@ -168,6 +175,10 @@ node "$here/check.js" "$here/../crates/pm_program/out/pm_program" $((10 * tries)
 title "the word replay, milliseconds" "ours" "ProseMirror"
 node "$here/undos.js" "$here/../crates/pm_program/out/pm_program" 5000 1000 $tries
 for lines in 1000 10000 100000; do node "$here/typing.js" "$here/../crates/pm_program/out/pm_program" $lines; done
+
+# The middle of seven runs each, with their spread, and a head of its own.
+echo
+node "$here/edits.js" "$here/../crates/pm_program/out/pm_program" 50 7 2000 20000
 
 title "the word gen, milliseconds" "ours" "ProseMirror"
 node "$here/generated.js" "$here/../crates/pm_program/out/pm_program" 4 2500 1 $tries

@@ -4,6 +4,7 @@ use crate::round::Round;
 use crate::time::nanos_since;
 use anyhow::{Result, ensure};
 use pm_docjson::{read_node, write_node};
+use pm_doctext::push_document;
 use pm_node::Document;
 use pm_schema::Schema;
 use pm_schemajson::read_schema;
@@ -98,6 +99,23 @@ pub fn print<R: Clock + AllocGlobal>(
     let json = write_node(rt.alloc(), schema, document.top())?;
     let start = Instant::now(rt)?;
     let text = json.to_string(rt.alloc())?;
+    let nanos = nanos_since(rt, &start)?;
+    ensure!(text.as_str() == line, "another line was written");
+    let check = text.len() as u64;
+    Ok(Round { check, nanos })
+}
+
+/// Times writing a document as the text of a line, which has to be the line that it was read from. What was computed is the
+/// number of bytes.
+pub fn text<R: Clock + AllocGlobal>(
+    rt: &R,
+    schema: &Schema,
+    document: &Document,
+    line: &str,
+) -> Result<Round> {
+    let start = Instant::now(rt)?;
+    let mut text = String::new(rt.alloc());
+    push_document(rt.alloc(), schema, &mut text, document)?;
     let nanos = nanos_since(rt, &start)?;
     ensure!(text.as_str() == line, "another line was written");
     let check = text.len() as u64;

@@ -36,6 +36,7 @@ fn round_of<R: Clock + AllocGlobal>(rt: &R, part: Part, inputs: &Inputs) -> Resu
         Part::Copy => documents::copy(rt, &inputs.document),
         Part::Write => documents::write(rt, &inputs.schema, &inputs.document),
         Part::Print => documents::print(rt, &inputs.schema, &inputs.document, inputs.line.as_str()),
+        Part::Text => documents::text(rt, &inputs.schema, &inputs.document, inputs.line.as_str()),
         Part::Each(call) => over_steps(rt, call, inputs),
     }
 }

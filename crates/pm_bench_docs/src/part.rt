@@ -17,6 +17,8 @@ pub enum Part {
     Write,
     /// `Value::to_string`.
     Print,
+    /// `push_document`.
+    Text,
     /// A call for each of the steps.
     Each(Call),
 }
@@ -67,6 +69,7 @@ fn part_of(name: &str) -> Option<Part> {
         "copy" => Some(Part::Copy),
         "write" => Some(Part::Write),
         "print" => Some(Part::Print),
+        "text" => Some(Part::Text),
         _ => Some(Part::Each(call_of(name)?)),
     }
 }
