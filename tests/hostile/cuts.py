@@ -1,17 +1,17 @@
-"""Plays cut sessions and inputs at each limit, and compares the first line of the output with what the rules give.
+"""Plays cut sessions, and inputs and words at each limit, and compares the first line of the output with what the rules give.
 
 usage: cuts.py [--short]
 
 A session is cut after each of its bytes. A cut inside line N leaves a line that is no JSON: `refused N 5`, but where an
 earlier line has a fault already. A cut behind none, one or two lines: line 1, 2 or 3 is missing. Every other cut is a
 session with fewer lines, and the same with and without its last line end. WORDS names the words that are tried. With
---short examples/plan.session alone is cut.
+--short examples/plan.session alone is cut, and no words are played that make 100,000 lines.
 """
 import os, sys
 
 sys.path.insert(0, os.path.dirname(os.path.abspath(__file__)))
 from playing import *
-from limits import limits
+from limits import limits, long_words, words
 
 SHORT = "--short" in sys.argv
 
@@ -88,6 +88,16 @@ def limit_fault(name, word, make, status, first):
     return f"{name}: {word} ended with {played.status}, {line[:80]!r} in place of {status}, {first!r}"
 
 
+def words_fault(given, status, first):
+    """What is wrong with what these words do; whatever the input is, `gen` does not read it."""
+    played = play(given, b"\xff", longest=300)
+    line = played.out.partition(b"\n")[0].decode()
+    told = played.err if status == 0 else played.err.partition(b" ")[0] + b" "
+    if (played.status, line, told) == (status, first, TOLD[status]):
+        return None
+    return f"the words {given}: status {played.status}, {line[:80]!r} in place of {status}, {first!r}"
+
+
 def tasks():
     cut = [f"{TOP}/examples/plan.session"]
     other = []
@@ -100,6 +110,8 @@ def tasks():
     for path in other:
         for at in range(os.path.getsize(path) + 1):
             yield "refusal", path, at
+    for at in [*words(), *([] if SHORT else long_words())]:
+        yield "words", *at
     for at, (_, _, wants) in enumerate(limits()):
         for word in WORDS:
             # The outcome of a line under `run` is that under `replay` in these inputs. Where no first line is given, the
@@ -115,7 +127,7 @@ def judge(task):
         at, word, status, first = rest
         name, make, _ = limits()[at]
         return limit_fault(name, word, make, status, first)
-    return (cut_fault if kind == "cut" else refusal_fault)(*rest)
+    return {"cut": cut_fault, "refusal": refusal_fault, "words": words_fault}[kind](*rest)
 
 
 if __name__ == "__main__":

@@ -1,4 +1,4 @@
-"""The inputs at each limit of docs/FORMATS.md: one below, at it, and one above, with the first line that each gives.
+"""The inputs and the words at each limit of docs/FORMATS.md: one below, at it, and one above, with the first line that each gives.
 
 No line is long enough for a list of 4,294,967,296 tokens, so that limit has no row.
 """
@@ -234,6 +234,30 @@ def numbers():
         line = f'{{"c":"a","op":"cursor","pos":0,"side":{side}}}'
         told = ok(1, 2, "4 cursor 0") if is_well else {"any": refused(4, 6)}
         yield row(f"the side {side}", lambda line=line: session(ops=[line]), **told)
+
+
+def words():
+    """Words of `gen` at each of its limits, and of other forms: the words, the status, and the first line."""
+    yield from (([*it.split(" ")], 0, f"gen {' '.join(it.split(' ')[1:])}") for it in ("gen 1 1 1", "gen 31 1 1", "gen 32 1 1", "gen 1 0 0"))
+    yield from (([*it.split(" ")], 2, "") for it in ("gen 0 1 1", "gen 33 1 1", "gen 1 100001 1", "gen 2 50001 1", "gen 32 3126 1"))
+    yield from (([*f"gen 1 1 {it}".split(" ")], 0, f"gen 1 1 {it}") for it in (0, 2**64 - 2, 2**64 - 1))
+    yield from (([*f"gen 1 1 {it}".split(" ")], 2, "") for it in (2**64, 10**20 - 1))
+    # A number has one to twenty digits, which may begin with zeros, and nothing else.
+    for at in range(3):
+        for digits, is_well in ((1, True), (19, True), (20, True), (21, False)):
+            numbers = ["1", "1", "1"]
+            numbers[at] = "1".zfill(digits)
+            yield ["gen", *numbers], *((0, "gen 1 1 1") if is_well else (2, ""))
+        for text in ("", "-1", "+1", "1.0", " 1", "1 ", "x", "0x1", "\u0661", "1e0"):
+            numbers = ["1", "1", "1"]
+            numbers[at] = text
+            yield ["gen", *numbers], 2, ""
+    yield from ((it, 2, "") for it in ([], [""], ["gen"], ["gen", "1", "1"], ["gen", "1", "1", "1", "1"], ["check", ""], ["replay", "run"], ["run", "run"], ["Check"], ["check "], ["--help"]))
+
+
+def long_words():
+    """Words of `gen` that make as many lines as may be, or one less."""
+    return [([*it.split(" ")], 0, it) for it in ("gen 1 99999 1", "gen 1 100000 1", "gen 2 49999 1", "gen 2 50000 1")]
 
 
 ROWS = []
