@@ -13,9 +13,11 @@ pub mod TrimLaws
 mod PartLaws
 mod SetLaws
 mod BitLaws
+mod GroupLaws
 mod OnceLaws
 mod StateLaws
 mod KnownLaws
+mod PrintLaws
 mod TypeLaws
 pub mod TreeLaws
 pub mod AcceptLaws

@@ -1,11 +1,11 @@
 -- Reading sets of places from one place on.
-use Rattle.std.proofs.Common.{◌≡◌, ℕ, zero, suc, ◌+◌, ◌<◌, List, [], ◌∷◌, ◌++◌, length, drop, get_or, ◌≤◌, Bool, true, false, ◌||◌, ◌&&◌, cond, eqb, refl, sym, ◌∙◌, subst, arith, add-one, append_assoc}
+use Rattle.std.proofs.Common.{◌≡◌, ℕ, zero, suc, ◌+◌, ◌<◌, List, [], ◌∷◌, ◌++◌, length, drop, get_or, ◌≤◌, Bool, true, false, ◌||◌, ◌&&◌, eqb, refl, sym, ◌∙◌, subst, arith, add-one}
 use Rattle.std.proofs.Math.Seq.{drop-cons}
 use Rattle.std.proofs.lemmas.Bool.{eqb-true}
 use Rattle.pm_auto.specs.declared.places.Row.{Row}
 use Rattle.pm_auto.specs.Core.{when}
 use Rattle.pm_auto.specs.Runs.{look, next_rows, end_rows}
-use Rattle.pm_auto.specs.States.{has, kinds, once, Below}
+use Rattle.pm_auto.specs.States.{has, Below}
 
 pub or-assoc : (a b c : Bool) → a || (b || c) ≡ (a || b) || c
 or-assoc true b c = refl
@@ -19,10 +19,6 @@ pub look-get : (rs : List Row) (k : ℕ) (r : Row) → k < length rs → r ≡ g
 look-get [] k r l is = absurd (omega arith)
 look-get (x ∷ rs) zero r l is = sym is
 look-get (x ∷ rs) (suc k) r l is = look-get rs k r (omega arith) is
-
-pub has-when : (j : ℕ) (b : Bool) (xs ys : List ℕ) → has j (when b xs ++ ys) ≡ cond b (has j xs) false || has j ys
-has-when j true xs ys = has-append j xs ys
-has-when j false xs ys = refl
 
 pub drop-past : {X : Type 0} (xs : List X) (i : ℕ) → length xs ≤ i → drop i xs ≡ []
 drop-past [] zero h = refl
@@ -63,13 +59,3 @@ module _ (rs : List Row) (ps : List ℕ) (i : ℕ) (l : i < length ps) (b : Belo
 
     pub next-at : (k : ℕ) → next_rows rs k (drop i ps) ≡ when (eqb r.kind k) r.follow ++ next_rows rs k (drop (i + 1) ps)
     next-at k = rw (here, row-is) refl
-
-    pub kinds-at : kinds rs (drop i ps) ≡ r.kind ∷ kinds rs (drop (i + 1) ps)
-    kinds-at = rw (here, row-is) refl
-
-    -- a type that was seen, and one that wasn't
-    pub once-seen : (list : List ℕ) (all : List ℕ) → all ≡ list ++ once list (kinds rs (drop i ps)) → has r.kind list ≡ true → all ≡ list ++ once list (kinds rs (drop (i + 1) ps))
-    once-seen list all e h = e ∙ rw (kinds-at, h) refl
-
-    pub once-new : (list : List ℕ) (all : List ℕ) → all ≡ list ++ once list (kinds rs (drop i ps)) → has r.kind list ≡ false → all ≡ (list ++ r.kind ∷ []) ++ once (list ++ r.kind ∷ []) (kinds rs (drop (i + 1) ps))
-    once-new list all e h = e ∙ rw (kinds-at, h) (sym (append_assoc list (r.kind ∷ []) (once (list ++ r.kind ∷ []) (kinds rs (drop (i + 1) ps)))))

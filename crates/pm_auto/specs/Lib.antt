@@ -8,7 +8,9 @@ pub mod Numbers
 pub mod Runs
 pub mod States
 pub mod Bits
+pub mod Groups
 pub mod Known
+pub mod Prints
 pub mod Walks
 pub mod Found
 pub mod Types

@@ -3,34 +3,44 @@ ghost use Rattle.std.specs.Prelude.{◌≡◌, ◌<◌, ◌*◌, Bool, true, fal
 ghost use Rattle.pm_auto.specs.States.{Below, Apart, Edges_of, Too_many, set_at};
 ghost use Rattle.pm_auto.specs.Automata.{Is_automaton};
 ghost use Rattle.pm_auto.specs.Bits.{as_set, Is_table};
+ghost use Rattle.pm_auto.specs.Groups.{Are_twins};
 ghost use Rattle.pm_auto.specs.Known.{All_known};
+ghost use Rattle.pm_auto.specs.Prints.{print_of, Are_prints};
 ghost use Rattle.pm_auto.specs.Found.{Found, Grows, Placed, Only_wide};
 
 use crate::auto::{Auto, Edge, State};
 use crate::error::AutoError;
-use crate::known::{Known, print, recall};
+use crate::groups::{group, list_at, twins};
+use crate::known::{Known, print, print_of_list, recall};
 use crate::places::Row;
-use crate::sets::{BitSet, PlaceSet, after, as_list, follow_table, types};
+use crate::sets::{BitSet, PlaceSet, after, as_list, follow_table};
 use pm_list::Listed;
 use std::alloc::Global;
 
 /// The most states that an automaton may have.
 const MAX_STATES: usize = 1000;
 
-/// Whether the two are the same set.
-fn same(a: &PlaceSet, b: &PlaceSet) -> bool
+/// Whether the two are the same set. Sets whose prints differ are not compared.
+fn same(a: &PlaceSet, print: u64, b: &PlaceSet, other: u64) -> bool
+    requires first { print ≡ print_of a.now }
+    requires second { other ≡ print_of b.now }
     ensures equal { result ≡ true → a.now ≡ b.now }
     ensures different { result ≡ false → a.now ≡ b.now → ⊥ }
 {
+    if print != other {
+        return false;
+    }
     a.ends == b.ends && a.places.as_slice() == b.places.as_slice()
 }
 
 /// The number of the state among those found, if it is one of them.
-fn find(sets: &[PlaceSet], set: &PlaceSet) -> Option<State>
+fn find(sets: &[PlaceSet], prints: &[u64], set: &PlaceSet, print: u64) -> Option<State>
+    requires prints { Are_prints sets.now prints.now }
+    requires print { print ≡ print_of set.now }
     ensures { MatchOption result (Apart set.now sets.now) (λ i. (i < length sets.now) × (set_at sets.now i ≡ set.now)) }
 {
     for (i, other) in sets.iter().enumerate() {
-        if same(set, other) {
+        if same(set, print, other, prints[i]) {
             return Some(i);
         }
     }
@@ -38,17 +48,25 @@ fn find(sets: &[PlaceSet], set: &PlaceSet) -> Option<State>
 }
 
 /// The number of the state, which is put at the end where it is new.
-fn place(sets: &mut Listed<PlaceSet>, set: PlaceSet) -> Result<State, AutoError>
+fn place(
+    sets: &mut Listed<PlaceSet>,
+    prints: &mut Listed<u64>,
+    set: PlaceSet,
+) -> Result<State, AutoError>
+    requires { Are_prints sets.old prints.old }
     ensures ok { IfOk result (λ t. Placed sets.old set t sets.new) }
+    ensures prints { OnOk result (Are_prints sets.new prints.new) }
     ensures err { IfErr result (λ e. Only_wide (Apart set sets.old × (999 < length sets.old)) e) }
 {
-    if let Some(state) = find(sets.as_slice(), &set) {
+    let print = print_of_list(&set);
+    if let Some(state) = find(sets.as_slice(), prints.as_slice(), &set, print) {
         return Ok(state);
     }
     let state = sets.len();
     if state >= MAX_STATES {
         return Err(AutoError::TooWide);
     }
+    prints.push(print)?;
     sets.push(set)?;
     Ok(state)
 }
@@ -58,12 +76,15 @@ fn reach(
     alloc: Global,
     rows: &[Row],
     sets: &mut Listed<PlaceSet>,
+    prints: &mut Listed<u64>,
     known: &mut Listed<Known>,
     next: BitSet,
 ) -> Result<State, AutoError>
     requires room { length rows.now < 64 * length next.words }
+    requires prints { Are_prints sets.old prints.old }
     requires known { All_known rows.now sets.old known.old }
     ensures ok { IfOk result (λ t. Placed sets.old (as_set rows.now next) t sets.new) }
+    ensures prints { OnOk result (Are_prints sets.new prints.new) }
     ensures known { OnOk result (All_known rows.now sets.new known.new) }
     ensures err { IfErr result (λ e. Only_wide (Apart (as_set rows.now next) sets.old × (999 < length sets.old)) e) }
 {
@@ -72,7 +93,7 @@ fn reach(
         return Ok(state);
     }
     let set = as_list(alloc, rows, &next)?;
-    let state = match place(sets, set) {
+    let state = match place(sets, prints, set) {
         Ok(state) => state,
         Err(error) => return Err(error),
     };
@@ -90,30 +111,38 @@ fn edges_of(
     alloc: Global,
     rows: &[Row],
     table: &[Listed<u64>],
+    twins: &[usize],
     sets: &mut Listed<PlaceSet>,
+    prints: &mut Listed<u64>,
     known: &mut Listed<Known>,
     at: State,
 ) -> Result<Listed<Edge>, AutoError>
     requires table { Is_table rows.now table.now }
+    requires twins { Are_twins rows.now twins.now }
     requires found { Found rows.now sets.old }
+    requires prints { Are_prints sets.old prints.old }
     requires known { All_known rows.now sets.old known.old }
     requires within { at < length sets.old }
     ensures edges { IfOk result (λ es. Edges_of rows.now sets.new (set_at sets.old at) es) }
     ensures grows { OnOk result (Grows sets.old sets.new) }
     ensures found { OnOk result (Found rows.now sets.new) }
+    ensures prints { OnOk result (Are_prints sets.new prints.new) }
     ensures known { OnOk result (All_known rows.now sets.new known.new) }
     ensures err { IfErr result (λ e. Only_wide (Too_many rows.now (set_at sets.old 0)) e) }
 {
     let places = sets.as_slice()[at].places.as_slice();
-    let kinds = types(alloc, rows, places)?;
+    let groups = group(alloc, rows, twins, places)?;
     let mut edges = Listed::new(alloc);
-    for kind in kinds.as_slice() {
-        let next = after(alloc, rows, table, &sets.as_slice()[at], *kind)?;
-        let to = match reach(alloc, rows, sets, known, next) {
+    for head in groups.heads.as_slice() {
+        let row = &rows[*head];
+        let kind = row.kind;
+        let same = list_at(groups.lists.as_slice(), twins[*head]);
+        let next = after(alloc, rows, table, same, kind)?;
+        let to = match reach(alloc, rows, sets, prints, known, next) {
             Ok(to) => to,
             Err(error) => return Err(error),
         };
-        edges.push(Edge { kind: *kind, to })?;
+        edges.push(Edge { kind, to })?;
     }
     Ok(edges)
 }
@@ -125,13 +154,25 @@ pub fn explore(alloc: Global, rows: &[Row], start: PlaceSet) -> Result<Auto, Aut
     ensures err { IfErr result (λ e. Only_wide (Too_many rows.now start) e) }
 {
     let table = follow_table(alloc, rows)?;
+    let twins = twins(alloc, rows)?;
+    let mut prints = Listed::new(alloc);
+    prints.push(print_of_list(&start))?;
     let mut sets = Listed::new(alloc);
     sets.push(start)?;
     let mut known: Listed<Known> = Listed::new(alloc);
     let mut edges: Listed<Listed<Edge>> = Listed::new(alloc);
     'states: while edges.len() < sets.len() {
         let at = edges.len();
-        let next = edges_of(alloc, rows, table.as_slice(), &mut sets, &mut known, at)?;
+        let next = edges_of(
+            alloc,
+            rows,
+            table.as_slice(),
+            twins.as_slice(),
+            &mut sets,
+            &mut prints,
+            &mut known,
+            at,
+        )?;
         edges.push(next)?;
     }
     Ok(Auto { sets, edges })

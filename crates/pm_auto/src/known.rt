@@ -1,9 +1,10 @@
 //! The states that were found, as bits.
 ghost use Rattle.std.specs.Prelude.{◌≡◌, true, IfSome};
 ghost use Rattle.pm_auto.specs.Known.{Recalls};
+ghost use Rattle.pm_auto.specs.Prints.{print_of, print_from};
 
 use crate::auto::State;
-use crate::sets::BitSet;
+use crate::sets::{BitSet, PlaceSet};
 
 /// A state that was found, with the print of its set.
 #[derive(Drop)]
@@ -40,4 +41,22 @@ fn is_same(a: &BitSet, b: &BitSet) -> bool
     ensures { result ≡ true → a.now ≡ b.now }
 {
     a.ends == b.ends && a.words.as_slice() == b.words.as_slice()
+}
+
+/// A number of the state's places, which equal states share.
+pub(crate) fn print_of_list(set: &PlaceSet) -> u64
+    ensures { result ≡ print_of set.now }
+{
+    print_of_places(set.places.as_slice())
+}
+
+/// A number of the list, which equal lists share.
+fn print_of_places(places: &[usize]) -> u64
+    ensures { result ≡ print_from 0 places.now }
+{
+    let mut print: u64 = 0;
+    for place in places {
+        print = print.wrapping_mul(31).wrapping_add(*place as u64);
+    }
+    print
 }

@@ -9,6 +9,7 @@ pub mod error;
 mod explore;
 pub mod expr;
 mod fills;
+mod groups;
 mod known;
 mod layout;
 mod mixed;

@@ -1,7 +1,7 @@
 //! Sets of places.
-ghost use Rattle.std.specs.Prelude.{◌≡◌, ◌<◌, ◌*◌, IfOk, length, []};
+ghost use Rattle.std.specs.Prelude.{◌≡◌, ◌<◌, ◌*◌, IfOk, length};
 ghost use Rattle.pm_auto.specs.Runs.{next_rows, end_rows};
-ghost use Rattle.pm_auto.specs.States.{has, in_order as ordered, step, kinds, once, Below};
+ghost use Rattle.pm_auto.specs.States.{in_order as ordered, Below};
 ghost use Rattle.pm_auto.specs.Bits.{picked, as_set, Holds, Is_table};
 
 use crate::bits::{bits_of, is_set, join, no_bits};
@@ -22,18 +22,6 @@ pub struct PlaceSet {
 pub(crate) struct BitSet {
     pub words: Listed<u64>,
     pub ends: bool,
-}
-
-/// Whether the number is in the list.
-pub(crate) fn contains(list: &[usize], number: usize) -> bool
-    ensures { result ≡ has number list.now }
-{
-    for other in list {
-        if *other == number {
-            return true;
-        }
-    }
-    false
 }
 
 /// How many numbers are in the set.
@@ -120,20 +108,19 @@ fn may_end(rows: &[Row], places: &[usize], kind: TypeId) -> bool
     false
 }
 
-/// The state after a type.
+/// The state after a type, where these are the places of the type.
 pub(crate) fn after(
     alloc: Global,
     rows: &[Row],
     table: &[Listed<u64>],
-    set: &PlaceSet,
+    places: &[usize],
     kind: TypeId,
 ) -> Result<BitSet, AllocError>
     requires table { Is_table rows.now table.now }
-    requires places { Below (length rows.now) set.now.places }
+    requires places { Below (length rows.now) places.now }
     ensures room { IfOk result (λ b. length rows.now < 64 * length b.words) }
-    ensures is { IfOk result (λ b. as_set rows.now b ≡ step rows.now kind set.now) }
+    ensures is { IfOk result (λ b. as_set rows.now b ≡ record { places = ordered (next_rows rows.now kind places.now) 0 rows.now; ends = end_rows rows.now kind places.now }) }
 {
-    let places = set.places.as_slice();
     let words = followers(alloc, rows, table, places, kind)?;
     Ok(BitSet {
         words: Listed::from_vec(words),
@@ -150,23 +137,4 @@ pub(crate) fn as_list(alloc: Global, rows: &[Row], set: &BitSet) -> Result<Place
         places: choose(alloc, rows, set.words.as_slice())?,
         ends: set.ends,
     })
-}
-
-/// The types of the places, each once, in the order of their first places.
-pub(crate) fn types(
-    alloc: Global,
-    rows: &[Row],
-    places: &[usize],
-) -> Result<Listed<TypeId>, AllocError>
-    requires { Below (length rows.now) places.now }
-    ensures { IfOk result (λ l. l ≡ once [] (kinds rows.now places.now)) }
-{
-    let mut list = Listed::new(alloc);
-    for place in places {
-        let row = &rows[*place];
-        if !contains(list.as_slice(), row.kind) {
-            list.push(row.kind)?;
-        }
-    }
-    Ok(list)
 }

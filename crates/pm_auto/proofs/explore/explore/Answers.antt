@@ -12,11 +12,12 @@ states-preserved c =
     let n = grows-length c.states.sets c.edges_of.new.sets g in (
       c.in_ok-next.ensures.found,
       grows-at c.states.sets c.edges_of.new.sets 0 g (omega (arith, l)) ∙ inv.1,
-      subst (All_edges c.args.rows.now c.edges_of.new.sets c.edges_of.new.sets) (sym c.in_ok-push-2.ensures.ok)
+      subst (All_edges c.args.rows.now c.edges_of.new.sets c.edges_of.new.sets) (sym c.in_ok-push-3.ensures.ok)
           (edges-more c.args.rows.now c.states.sets c.edges_of.new.sets c.states.edges c.in_ok-next.next g l inv.2
           (subst (λ (i : ℕ). Edges_of c.args.rows.now c.edges_of.new.sets (set_at c.states.sets i) c.in_ok-next.next) c.len-at.ensures c.in_ok-next.ensures.edges)),
-      rw c.in_ok-push-2.ensures.ok (rw (length-append c.states.edges (c.in_ok-next.next ∷ [])) (omega (arith, l, n))),
+      rw c.in_ok-push-3.ensures.ok (rw (length-append c.states.edges (c.in_ok-next.next ∷ [])) (omega (arith, l, n))),
       c.in_ok-next.ensures.known,
+      c.in_ok-next.ensures.prints,
     )
 
 pub invariant_of-result : goal.invariant_of-result

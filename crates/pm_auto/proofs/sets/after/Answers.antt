@@ -1,5 +1,4 @@
-use Rattle.std.proofs.Common.{refl, subst, List, ℕ, length, arith}
-use Rattle.pm_auto.specs.Bits.{Holds}
+use Rattle.std.proofs.Common.{refl, arith}
 use Rattle.pm_auto.specs.Runs.{next_rows}
 use Rattle.pm_auto.proofs.BitLaws.{holds-order}
 use Rattle.pm_auto.proofs.sets.after.Goals as goal
@@ -9,10 +8,4 @@ returns-clause-room c = rw c.from_vec.ensures (let n = c.in_ok-words.ensures.roo
 
 pub returns-clause-is : goal.returns-clause-is
 returns-clause-is c =
-    rw (
-      c.from_vec.ensures,
-      c.may_end.ensures,
-      c.as_slice-places.ensures,
-      holds-order (next_rows c.args.rows.now c.args.kind c.args.set.now.places) c.in_ok-words.words.items c.args.rows.now
-          (subst (λ (ps : List ℕ). Holds (length c.args.rows.now) c.in_ok-words.words.items (next_rows c.args.rows.now c.args.kind ps)) c.as_slice-places.ensures c.in_ok-words.ensures),
-    ) refl
+    rw (c.from_vec.ensures, c.may_end.ensures, holds-order (next_rows c.args.rows.now c.args.kind c.args.places.now) c.in_ok-words.words.items c.args.rows.now c.in_ok-words.ensures) refl
