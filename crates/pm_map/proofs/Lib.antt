@@ -9,3 +9,4 @@ pub mod Joins
 pub mod Stretches
 pub mod Starts
 pub mod Firsts
+pub mod Numbered

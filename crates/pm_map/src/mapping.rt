@@ -73,6 +73,21 @@ impl Mapping {
         self.maps
     }
 
+    /// How many maps it has.
+    pub fn len(&self) -> usize
+        ensures { result ≡ length self.now }
+    {
+        self.maps.len()
+    }
+
+    /// Map number `i`, counted from 0. It takes no memory.
+    pub fn map_at(&self, i: usize) -> StepMap
+        requires { i < length self.now }
+        ensures { result ≡ partner self.now i }
+    {
+        self.maps[i].map.copy()
+    }
+
     /// Puts an unpaired map behind the last one. For want of memory the mapping stays as it was.
     pub fn push(&mut self, map: StepMap) -> Result<(), AllocError>
         ensures ok { OnOk result (self.new ≡ pushed self.old map) }
