@@ -8,7 +8,9 @@ use Rattle.pm_history.specs.declared.branch.Event.{Event}
 use Rattle.pm_history.specs.declared.branches.Branches.{Branches}
 use Rattle.pm_history.specs.declared.branches.MadeBy.TheVariants.{Edit}
 use Rattle.pm_history.specs.Histories.{event_of, extended, put_event, is_number, last_number, without_last, with_event, opens, recorded}
-use Rattle.pm_history.specs.EventLaws.{HasNumber, IsOpenFor, EditsEvents, MovesEvents}
+use Rattle.pm_history.specs.EventLaws.{HasNumber, IsOpenFor, IsLastOf, EditsEvents, MovesEvents}
+use Rattle.pm_history.specs.Turns.{HaveLostNumbered}
+use Rattle.pm_history.proofs.Taken.{lost-last, lost-without, none-numbered}
 
 last-number : (rest : List Event) (e : Event) → last_number (rest ++ e ∷ []) ≡ e.number
 last-number [] e = refl
@@ -89,6 +91,14 @@ module _ {C : Type 0} (h : Branches C) where
     emptied = λ event n ns. (refl, refl);
   }
 
+  -- the last event that has a number
+  lost-of : (k : ℕ) (front back : List Event) (e : Event) → IsLastOf h k front back e → HaveLostNumbered k h.undo (Some e) (front ++ back)
+  lost-of k front back e s = (
+    record { front = front; back = back; old_are = s.undo_are; new_are = refl },
+    ap (is_number (Some k)) s.number_is ∙ eq-eqb k k refl,
+    none-numbered k back s.none_behind,
+  )
+
   pub moves-events : (items : List (Item C)) → MovesEvents h items
   moves-events items = record {
     left = λ rest e u. (ap without_last u ∙ last-gone rest e, refl);
@@ -97,4 +107,8 @@ module _ {C : Type 0} (h : Branches C) where
     left_redo = λ rest e u. (ap without_last u ∙ last-gone rest e, refl);
     moved_back = λ e n ns q. ap (λ l. with_event h.undo (event_of e.number l)) q ∙ one-more h.undo e.number n ns;
     lost_redo = λ e q. ap (λ l. with_event h.undo (event_of e.number l)) q;
+    taken = λ k front back e s. lost-last k h.undo (front ++ back) e (lost-of k front back e s);
+    left_event = λ k front back e s. (sym (lost-without k h.undo (front ++ back) e (lost-of k front back e s)), refl);
+    moved_event = λ k e n ns q. ap (λ l. with_event h.redo (event_of e.number l)) q ∙ one-more h.redo e.number n ns;
+    lost_event = λ k e q. ap (λ l. with_event h.redo (event_of e.number l)) q;
   }

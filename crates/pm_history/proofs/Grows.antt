@@ -1,4 +1,4 @@
--- Lemmas: a history goes on standing for its timeline, and what holds of its last event.
+-- Lemmas: a history goes on standing for its timeline, and what holds of the event that is taken.
 use Rattle.std.specs.Prelude.{◌≡◌, ℕ, false, List, [], ◌∷◌, ◌++◌, Some, refl}
 use Rattle.std.specs.List.{AllByRecursion as Each}
 use Rattle.std.proofs.Common.{sym, ap, subst, ◌∙◌, ⊎_elim, inl, inr, append_assoc}
@@ -9,8 +9,11 @@ use Rattle.pm_change.proofs.Folds.{fold-append, fold-good}
 use Rattle.pm_history.specs.declared.item.Item.{Item}
 use Rattle.pm_history.specs.declared.branch.Event.{Event}
 use Rattle.pm_history.specs.declared.branches.Branches.{Branches}
+use Rattle.pm_history.specs.declared.turn.Turn.{Turn}
+use Rattle.pm_history.specs.declared.turn.Turn.TheVariants.{Undo, Redo, UndoEvent}
 use Rattle.pm_history.specs.Items.{same_name, one_step}
 use Rattle.pm_history.specs.Histories.{new_history}
+use Rattle.pm_history.specs.Turns.{HaveLost, event_for, left_of}
 use Rattle.pm_history.specs.Timelines.{Step, changes_of, items_from}
 use Rattle.pm_history.specs.Tidy.{NoneUndoes, NoRangeUndoes, Differ, IsTidy}
 use Rattle.pm_history.specs.Remembers.{names_of, live_names, Lacks, StandFor, Remembers}
@@ -18,6 +21,7 @@ use Rattle.pm_history.specs.Shows.{ShowsTo}
 use Rattle.pm_history.specs.Standing.{IsHistoryOf}
 use Rattle.pm_history.proofs.Folding.{changes-append}
 use Rattle.pm_history.proofs.Keeps.{stand-shows}
+use Rattle.pm_history.proofs.Taken.{taken}
 
 pub each-front : {A : Type 0} (P : A → Type 0) (xs ys : List A) → Each P (xs ++ ys) → Each P xs
 each-front P [] ys h = tt
@@ -43,14 +47,18 @@ pub names-append : (es fs : List Event) → names_of (es ++ fs) ≡ names_of es 
 names-append [] fs = refl
 names-append (e ∷ es) fs = ap (λ ns. e.names ++ ns) (names-append es fs) ∙ sym (append_assoc e.names (names_of es) (names_of fs))
 
--- the names of the last event are among those of all events
-last-names : (P : Name → Type 0) (es rest : List Event) (e : Event) → es ≡ rest ++ e ∷ [] → Each P (names_of es) → Each P e.names
-last-names P es rest e u h =
-    each-front P e.names [] (each-back P (names_of rest) (e.names ++ []) (subst (Each P) (ap names_of u ∙ names-append rest (e ∷ [])) h))
+-- the names of events, and those of one of them
+pub names-lost : (es rest : List Event) (e : Event) (l : HaveLost es e rest) → names_of es ≡ names_of l.front ++ (e.names ++ names_of l.back)
+names-lost es rest e l = ap names_of l.old_are ∙ names-append l.front (e ∷ l.back)
 
-last-differ : (es rest : List Event) (e : Event) → es ≡ rest ++ e ∷ [] → Differ (names_of es) → Differ e.names
-last-differ es rest e u h =
-    differ-front e.names [] (differ-back (names_of rest) (e.names ++ []) (subst Differ (ap names_of u ∙ names-append rest (e ∷ [])) h))
+-- the names of one of the events are among those of all events
+lost-names : (P : Name → Type 0) (es rest : List Event) (e : Event) → HaveLost es e rest → Each P (names_of es) → Each P e.names
+lost-names P es rest e l h =
+    each-front P e.names (names_of l.back) (each-back P (names_of l.front) (e.names ++ names_of l.back) (subst (Each P) (names-lost es rest e l) h))
+
+lost-differ : (es rest : List Event) (e : Event) → HaveLost es e rest → Differ (names_of es) → Differ e.names
+lost-differ es rest e l h =
+    differ-front e.names (names_of l.back) (differ-back (names_of l.front) (e.names ++ names_of l.back) (subst Differ (names-lost es rest e l) h))
 
 pub stands-fewer : {C : Type 0} (live ns : List Name) (is js : List (Item C)) → ((P : Name → Type 0) → Each P live → Each P ns) → StandFor live is js → StandFor ns is js
 stands-fewer live ns [] [] pick h = tt
@@ -89,33 +97,34 @@ module _ {Rules Doc Reason C : Type 0} (m : Meaning Rules Doc Reason C) (rules :
     lacks = pick (Lacks (items_from m rules first h.gone)) h.lacks;
   }
 
-  -- what an undo of the last event asks of the history
-  pub undo-remembers : (client drawn : ℕ) (first : Doc) (steps : List (Step C)) (h : Branches C) (rest : List Event) (e : Event) → IsHistoryOf m rules client drawn first steps h
-      → h.undo ≡ rest ++ e ∷ [] → Remembers m rules e.names first steps h.items × IsTidy (items_from m rules first steps) e.names
-      × Each (λ n. NoRangeUndoes (Some n) (items_from m rules first steps)) e.names
-  undo-remembers client drawn first steps h rest e s u = (
-    remembers-fewer (live_names h) e.names first steps h.items (λ P k. last-names P h.undo rest e u (each-front P (names_of h.undo) (names_of h.redo) k)) s.remembers,
-    record {
-      names_differ = s.tidy.names_differ;
-      once = s.tidy.once;
-      differ = last-differ h.undo rest e u (differ-front (names_of h.undo) (names_of h.redo) s.tidy.differ);
-    },
-    none-moves e.names (items_from m rules first steps) (last-names (λ n. NoneUndoes n (items_from m rules first steps)) h.undo rest e u (each-front _ (names_of h.undo) (names_of h.redo) s.live)),
-  )
+  -- what the undo of an event asks of the history, where its names are among the live ones
+  module _ (client drawn : ℕ) (first : Doc) (steps : List (Step C)) (h : Branches C) (s : IsHistoryOf m rules client drawn first steps h) where
+    event-remembers : (ns : List Name) → ((P : Name → Type 0) → Each P (live_names h) → Each P ns) → Differ ns
+        → Remembers m rules ns first steps h.items × IsTidy (items_from m rules first steps) ns × Each (λ n. NoRangeUndoes (Some n) (items_from m rules first steps)) ns
+    event-remembers ns pick differ = (
+      remembers-fewer (live_names h) ns first steps h.items pick s.remembers,
+      record { names_differ = s.tidy.names_differ; once = s.tidy.once; differ = differ },
+      none-moves ns (items_from m rules first steps) (pick (λ n. NoneUndoes n (items_from m rules first steps)) s.live),
+    )
 
-  -- and what a redo asks
-  pub redo-remembers : (client drawn : ℕ) (first : Doc) (steps : List (Step C)) (h : Branches C) (rest : List Event) (e : Event) → IsHistoryOf m rules client drawn first steps h
-      → h.redo ≡ rest ++ e ∷ [] → Remembers m rules e.names first steps h.items × IsTidy (items_from m rules first steps) e.names
-      × Each (λ n. NoRangeUndoes (Some n) (items_from m rules first steps)) e.names
-  redo-remembers client drawn first steps h rest e s u = (
-    remembers-fewer (live_names h) e.names first steps h.items (λ P k. last-names P h.redo rest e u (each-back P (names_of h.undo) (names_of h.redo) k)) s.remembers,
-    record {
-      names_differ = s.tidy.names_differ;
-      once = s.tidy.once;
-      differ = last-differ h.redo rest e u (differ-back (names_of h.undo) (names_of h.redo) s.tidy.differ);
-    },
-    none-moves e.names (items_from m rules first steps) (last-names (λ n. NoneUndoes n (items_from m rules first steps)) h.redo rest e u (each-back _ (names_of h.undo) (names_of h.redo) s.live)),
-  )
+    -- an event to undo, and one to redo
+    undo-remembers : (rest : List Event) (e : Event) → HaveLost h.undo e rest
+        → Remembers m rules e.names first steps h.items × IsTidy (items_from m rules first steps) e.names × Each (λ n. NoRangeUndoes (Some n) (items_from m rules first steps)) e.names
+    undo-remembers rest e l =
+        event-remembers e.names (λ P k. lost-names P h.undo rest e l (each-front P (names_of h.undo) (names_of h.redo) k))
+        (lost-differ h.undo rest e l (differ-front (names_of h.undo) (names_of h.redo) s.tidy.differ))
+
+    redo-remembers : (rest : List Event) (e : Event) → HaveLost h.redo e rest
+        → Remembers m rules e.names first steps h.items × IsTidy (items_from m rules first steps) e.names × Each (λ n. NoRangeUndoes (Some n) (items_from m rules first steps)) e.names
+    redo-remembers rest e l =
+        event-remembers e.names (λ P k. lost-names P h.redo rest e l (each-back P (names_of h.undo) (names_of h.redo) k))
+        (lost-differ h.redo rest e l (differ-back (names_of h.undo) (names_of h.redo) s.tidy.differ))
+
+    pub turn-remembers : (turn : Turn) (e : Event) → event_for turn h ≡ Some e
+        → Remembers m rules e.names first steps h.items × IsTidy (items_from m rules first steps) e.names × Each (λ n. NoRangeUndoes (Some n) (items_from m rules first steps)) e.names
+    turn-remembers Undo e is = undo-remembers (left_of Undo h) e (taken Undo h e is)
+    turn-remembers Redo e is = redo-remembers (left_of Redo h) e (taken Redo h e is)
+    turn-remembers (UndoEvent k) e is = undo-remembers (left_of (UndoEvent k) h) e (taken (UndoEvent k) h e is)
 
   pub kept-fold : (live : List Name) (first end : Doc) (steps : List (Step C)) (items : List (Item C)) (h : Remembers m rules live first steps items)
       → fold m rules first (changes_of steps) ≡ Some end → fold m rules h.mid (changes_of h.kept) ≡ Some end

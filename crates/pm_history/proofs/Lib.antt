@@ -1,5 +1,6 @@
 pub mod Folding
 pub mod Keeps
+pub mod Taken
 pub mod Grows
 pub mod Edited
 pub mod Calls

@@ -1,4 +1,4 @@
--- Lemmas: a history goes on standing for its timeline when its last event is undone or redone.
+-- Lemmas: a history goes on standing for its timeline when one of its events is undone or redone.
 use Rattle.std.specs.Prelude.{◌≡◌, ℕ, ◌+◌, ◌≤◌, ◌<◌, ◌==◌, ◌⊎◌, Bool, true, false, if◌then◌else◌, List, [], ◌∷◌, ◌++◌, length, Option, Some, refl}
 use Rattle.std.specs.List.{AllByRecursion as Each}
 use Rattle.std.proofs.Common.{sym, ap, subst, ◌∙◌, ⊎_elim, inl, inr, append_assoc, append-nil, arith}
@@ -8,11 +8,12 @@ use Rattle.pm_change.specs.Changes.{Meaning, Laws, fold}
 use Rattle.pm_history.specs.declared.item.Item.{Item}
 use Rattle.pm_history.specs.declared.branch.Event.{Event}
 use Rattle.pm_history.specs.declared.branches.Branches.{Branches}
-use Rattle.pm_history.specs.declared.direction.Direction.{Direction}
-use Rattle.pm_history.specs.declared.direction.Direction.TheVariants.{Undo, Redo}
+use Rattle.pm_history.specs.declared.turn.Turn.{Turn}
+use Rattle.pm_history.specs.declared.turn.Turn.TheVariants.{Undo, Redo, UndoEvent}
 use Rattle.pm_history.specs.declared.undoing.Undone.{Undone}
 use Rattle.pm_history.specs.Items.{same_name, one_step}
-use Rattle.pm_history.specs.Histories.{holds, names_in, without_last, with_event, undone}
+use Rattle.pm_history.specs.Histories.{holds, names_in, with_event}
+use Rattle.pm_history.specs.Turns.{HaveLost, event_for, left_of, undone}
 use Rattle.pm_history.specs.Timelines.{Step, changes_of, items_from}
 use Rattle.pm_history.specs.Tidy.{NotNamed, NoneUndoes, Once, Differ, IsTidy}
 use Rattle.pm_history.specs.Remembers.{names_of, live_names, Lacks, StandFor, Remembers}
@@ -20,7 +21,8 @@ use Rattle.pm_history.specs.Standing.{IsDrawn, HasDrawn, IsHistoryOf}
 use Rattle.pm_history.specs.Made.{made_steps, IsMade}
 use Rattle.pm_history.specs.Undos.{undo_event}
 use Rattle.pm_history.proofs.Folding.{items-append}
-use Rattle.pm_history.proofs.Grows.{each-front, each-back, each-append, none-tied, names-append, kept-fold, history-shows}
+use Rattle.pm_history.proofs.Grows.{each-front, each-back, each-append, none-tied, names-append, names-lost, kept-fold, history-shows}
+use Rattle.pm_history.proofs.Taken.{taken}
 use Rattle.pm_history.proofs.Edited.{IsFresh, fresh-other, fresh-none, held-drawn, fresh-names, all-later, holds-more}
 use Rattle.pm_history.proofs.Rebased.{stand-both, stand-same}
 use Rattle.pm_history.proofs.Ties.{each-map, same-is, once-both, event-ties, event-once}
@@ -71,7 +73,7 @@ pub each-both : {A : Type 0} (P Q : A → Type 0) (xs : List A) → Each P xs �
 each-both P Q [] h k = tt
 each-both P Q (x ∷ xs) h k = ((h.0, k.0), each-both P Q xs h.1 k.1)
 
--- The live names are those of the last event and two lists of others, and all differ.
+-- The live names are those of one event, `last`, and two lists of others, and all differ.
 record IsSplit (live left right last : List Name) : Type 1 where
   pub each : (P : Name → Type 0) → Each P live → Each P left × Each P right × Each P last
   pub left_differ : Differ left
@@ -81,40 +83,57 @@ record IsSplit (live left right last : List Name) : Type 1 where
   pub left_apart : Apart left last
   pub right_apart : Apart right last
 
--- the last event to undo, before the events to redo
-split-undo : (live rest last redo : List Name) → live ≡ (rest ++ last) ++ redo → Differ live → IsSplit live (rest ++ redo) [] last
-split-undo live rest last redo e d =
-    let a = differ-parts (rest ++ last) redo (subst Differ e d) in
-    let b = differ-parts rest last a.0 in
+-- names between others
+each-between : (P : Name → Type 0) (front last back : List Name) → Each P (front ++ (last ++ back)) → Each P (front ++ back) × Each P last
+each-between P front last back h =
+    let behind : Each P (last ++ back) = each-back P front (last ++ back) h in
+    (each-append P front back (each-front P front (last ++ back) h) (each-back P last back behind), each-front P last back behind)
+
+differ-between : (front last back : List Name) → Differ (front ++ (last ++ back)) → Differ (front ++ back) × Differ last × Apart (front ++ back) last
+differ-between front last back d =
+    let b = differ-parts front (last ++ back) d in
+    let c = differ-parts last back b.1 in (
+      differ-both front back b.0 c.1 (apart-back front last back b.2),
+      c.0,
+      each-append (λ x. Each (λ y. same_name x y ≡ false) last) front back (apart-front front last back b.2) (apart-flip last back c.2),
+    )
+
+-- an event to undo, before the events to redo
+split-undo : (live front last back redo : List Name) → live ≡ (front ++ (last ++ back)) ++ redo → Differ live → IsSplit live ((front ++ back) ++ redo) [] last
+split-undo live front last back redo e d =
+    let a = differ-parts (front ++ (last ++ back)) redo (subst Differ e d) in
+    let b = differ-between front last back a.0 in
+    let behind = each-between (λ x. Each (λ y. same_name x y ≡ false) redo) front last back a.2 in
     record {
       each = λ P h.
-          let all : Each P ((rest ++ last) ++ redo) = subst (Each P) e h in
-          let front : Each P (rest ++ last) = each-front P (rest ++ last) redo all in
-          (each-append P rest redo (each-front P rest last front) (each-back P (rest ++ last) redo all), tt, each-back P rest last front);
-      left_differ = differ-both rest redo b.0 a.1 (each-front (λ x. Each (λ y. same_name x y ≡ false) redo) rest last a.2);
+          let all : Each P ((front ++ (last ++ back)) ++ redo) = subst (Each P) e h in
+          let parts = each-between P front last back (each-front P (front ++ (last ++ back)) redo all) in
+          (each-append P (front ++ back) redo parts.0 (each-back P (front ++ (last ++ back)) redo all), tt, parts.1);
+      left_differ = differ-both (front ++ back) redo b.0 a.1 behind.0;
       right_differ = tt;
       last_differ = b.1;
-      sides_apart = apart-none (rest ++ redo);
-      left_apart = each-append (λ x. Each (λ y. same_name x y ≡ false) last) rest redo b.2
-          (apart-flip last redo (each-back (λ x. Each (λ y. same_name x y ≡ false) redo) rest last a.2));
+      sides_apart = apart-none ((front ++ back) ++ redo);
+      left_apart = each-append (λ x. Each (λ y. same_name x y ≡ false) last) (front ++ back) redo b.2 (apart-flip last redo behind.1);
       right_apart = tt;
     }
 
--- the last event to redo, behind the events to undo
-split-redo : (live undo rest last : List Name) → live ≡ undo ++ (rest ++ last) → Differ live → IsSplit live undo rest last
-split-redo live undo rest last e d =
-    let a = differ-parts undo (rest ++ last) (subst Differ e d) in
-    let b = differ-parts rest last a.1 in
+-- an event to redo, behind the events to undo
+split-redo : (live undo front last back : List Name) → live ≡ undo ++ (front ++ (last ++ back)) → Differ live → IsSplit live undo (front ++ back) last
+split-redo live undo front last back e d =
+    let a = differ-parts undo (front ++ (last ++ back)) (subst Differ e d) in
+    let b = differ-between front last back a.1 in
     record {
       each = λ P h.
-          let all : Each P (undo ++ (rest ++ last)) = subst (Each P) e h in
-          let back : Each P (rest ++ last) = each-back P undo (rest ++ last) all in
-          (each-front P undo (rest ++ last) all, each-front P rest last back, each-back P rest last back);
+          let all : Each P (undo ++ (front ++ (last ++ back))) = subst (Each P) e h in
+          let parts = each-between P front last back (each-back P undo (front ++ (last ++ back)) all) in
+          (each-front P undo (front ++ (last ++ back)) all, parts.0, parts.1);
       left_differ = a.0;
       right_differ = b.0;
       last_differ = b.1;
-      sides_apart = apart-front undo rest last a.2;
-      left_apart = apart-back undo rest last a.2;
+      sides_apart = each-map (λ x. Each (λ y. same_name x y ≡ false) (front ++ (last ++ back))) (λ x. Each (λ y. same_name x y ≡ false) (front ++ back)) undo
+          (λ x h. (each-between (λ y. same_name x y ≡ false) front last back h).0) a.2;
+      left_apart = each-map (λ x. Each (λ y. same_name x y ≡ false) (front ++ (last ++ back))) (λ x. Each (λ y. same_name x y ≡ false) last) undo
+          (λ x h. (each-between (λ y. same_name x y ≡ false) front last back h).1) a.2;
       right_apart = b.2;
     }
 
@@ -231,14 +250,6 @@ module _ {Rules Doc Reason C : Type 0} (m : Meaning Rules Doc Reason C) (rules :
             (ties (IsDrawn client more) (each-map (λ n. IsDrawn client drawn (Some n)) (λ n. IsDrawn client more (Some n)) last (λ n d. (d.0, omega (arith, d.1, up))) low_sides.2))));
       }
 
-names-without : (es rest : List Event) (e : Event) → es ≡ rest ++ e ∷ [] → without_last es ≡ rest
-names-without es rest e h = ap without_last h ∙ at rest
-  where
-    at : (xs : List Event) → without_last (xs ++ e ∷ []) ≡ xs
-    at [] = refl
-    at (x ∷ []) = refl
-    at (x ∷ y ∷ ys) = ap (λ zs. x ∷ zs) (at (y ∷ ys))
-
 names-with : (es : List Event) (made : Event) (ns : List Name) → made.names ≡ ns → names_of (with_event es made) ≡ names_of es ++ ns
 names-with es made ns h = from made.names refl ∙ ap (λ xs. names_of es ++ xs) h
   where
@@ -249,49 +260,55 @@ names-with es made ns h = from made.names refl ∙ ap (λ xs. names_of es ++ xs)
         ∙ ap (λ t. names_of (if t then es else es ++ made ∷ [])) (ne_eqb (length (x ∷ xs)) 0 (λ z. absurd (omega (arith, z))))
         ∙ names-append es (made ∷ []) ∙ ap (λ zs. names_of es ++ zs) (append-nil made.names)
 
--- the names of events whose last one is this
-names-last : (es rest : List Event) (e : Event) → es ≡ rest ++ e ∷ [] → names_of es ≡ names_of rest ++ e.names
-names-last es rest e h = ap names_of h ∙ names-append rest (e ∷ []) ∙ ap (λ ns. names_of rest ++ ns) (append-nil e.names)
-
--- the event that an undo takes, or a redo, is the last one of its branch
-abbrev pub IsLast : {C : Type 0} → Direction → Branches C → List Event → Event → Type 0
-IsLast Undo h rest e = h.undo ≡ rest ++ e ∷ []
-IsLast Redo h rest e = h.redo ≡ rest ++ e ∷ []
-
 module _ {Rules Doc Reason C : Type 0} (m : Meaning Rules Doc Reason C) (rules : Rules) where
   ties-of : (client serial : ℕ) (ns : List Name) (items : List (Item C)) (doc : Doc) (w : Undone Doc C) → w ≡ undo_event m rules client ns items doc serial
       → (P : Option Name → Type 0) → Each (λ n. P (Some n)) ns → Each (λ (j : Item C). P j.undoes) w.items
   ties-of client serial ns items doc w e P h = subst (λ (v : Undone Doc C). Each (λ (j : Item C). P j.undoes) v.items) (sym e) (event-ties m rules client P ns items doc serial h)
 
-  -- The last event was undone, or redone, on the document behind the timeline: the steps made stand behind it, and are an
-  -- event of the other branch. Their names are new, and `more` is the last serial drawn.
-  pub history-undone : Laws m → (way : Direction) (client drawn more serial : ℕ) (first doc : Doc) (steps : List (Step C)) (h : Branches C) (rest : List Event) (e made : Event) (w : Undone Doc C)
-      → m.is_good rules first → IsHistoryOf m rules client drawn first steps h → fold m rules first (changes_of steps) ≡ Some doc → IsLast way h rest e
-      → drawn < serial → w ≡ undo_event m rules client e.names h.items doc serial → IsMade m rules client doc serial w → w.serial ≡ more + 1 → made.names ≡ names_in w.items
-      → IsHistoryOf m rules client more first (steps ++ made_steps client serial w.made w.items) (undone way h made w.items)
-  history-undone laws Undo client drawn more serial first doc steps h rest e made w good k f last low is made_is count names =
-      let live : live_names h ≡ (names_of rest ++ e.names) ++ names_of h.redo = ap (λ ns. ns ++ names_of h.redo) (names-last h.undo rest e last) in
-      let split : IsSplit (live_names h) (names_of rest ++ names_of h.redo) [] e.names =
-      split-undo (live_names h) (names_of rest) e.names (names_of h.redo) live k.tidy.differ in
-      let new : live_names (undone Undo h made w.items) ≡ ((names_of rest ++ names_of h.redo) ++ names_in w.items) ++ [] =
-      ap (λ es. names_of es ++ names_of (with_event h.redo made)) (names-without h.undo rest e last)
-      ∙ ap (λ ns. names_of rest ++ ns) (names-with h.redo made (names_in w.items) names)
-      ∙ sym (append_assoc (names_of rest) (names_of h.redo) (names_in w.items))
-      ∙ sym (append-nil ((names_of rest ++ names_of h.redo) ++ names_in w.items)) in
-      let shows = history-shows m rules laws (live_names h) first doc steps h.items good f k.remembers in
-      history-more m rules client drawn more serial first doc steps (made_steps client serial w.made w.items) h (undone Undo h made w.items) (names_of rest ++ names_of h.redo) [] e.names w.items
-      k f split refl new made_is.items_are low (made-numbered m rules client doc w.doc serial w.made w.items made_is.as_many made_is.applies made_is.items_are)
-      (omega (arith, made_is.as_many, made_is.serial_is, count)) (ties-of client serial e.names h.items doc w is)
-      (subst (λ (v : Undone Doc C). Once v.items) (sym is) (event-once m rules client laws e.names h.items doc serial shows split.last_differ))
-  history-undone laws Redo client drawn more serial first doc steps h rest e made w good k f last low is made_is count names =
-      let live : live_names h ≡ names_of h.undo ++ (names_of rest ++ e.names) = ap (λ ns. names_of h.undo ++ ns) (names-last h.redo rest e last) in
-      let split : IsSplit (live_names h) (names_of h.undo) (names_of rest) e.names =
-      split-redo (live_names h) (names_of h.undo) (names_of rest) e.names live k.tidy.differ in
-      let new : live_names (undone Redo h made w.items) ≡ (names_of h.undo ++ names_in w.items) ++ names_of rest =
-      ap (λ es. names_of (with_event h.undo made) ++ names_of es) (names-without h.redo rest e last)
-      ∙ ap (λ ns. ns ++ names_of rest) (names-with h.undo made (names_in w.items) names) in
-      let shows = history-shows m rules laws (live_names h) first doc steps h.items good f k.remembers in
-      history-more m rules client drawn more serial first doc steps (made_steps client serial w.made w.items) h (undone Redo h made w.items) (names_of h.undo) (names_of rest) e.names w.items
-      k f split refl new made_is.items_are low (made-numbered m rules client doc w.doc serial w.made w.items made_is.as_many made_is.applies made_is.items_are)
-      (omega (arith, made_is.as_many, made_is.serial_is, count)) (ties-of client serial e.names h.items doc w is)
-      (subst (λ (v : Undone Doc C). Once v.items) (sym is) (event-once m rules client laws e.names h.items doc serial shows split.last_differ))
+  module _ (laws : Laws m) (client drawn more serial : ℕ) (first doc : Doc) (steps : List (Step C)) (h : Branches C) (e made : Event) (w : Undone Doc C)
+      (good : m.is_good rules first) (k : IsHistoryOf m rules client drawn first steps h) (f : fold m rules first (changes_of steps) ≡ Some doc) (low : drawn < serial)
+      (is : w ≡ undo_event m rules client e.names h.items doc serial) (made_is : IsMade m rules client doc serial w) (count : w.serial ≡ more + 1) (names : made.names ≡ names_in w.items) where
+    -- a history in which the steps made stand behind the timeline, and the event's names have left the live ones
+    history-goes-on : (g : Branches C) (left right : List Name) → IsSplit (live_names h) left right e.names → g.items ≡ h.items ++ w.items
+        → live_names g ≡ (left ++ names_in w.items) ++ right → IsHistoryOf m rules client more first (steps ++ made_steps client serial w.made w.items) g
+    history-goes-on g left right split items_are live_are =
+        let shows = history-shows m rules laws (live_names h) first doc steps h.items good f k.remembers in
+        history-more m rules client drawn more serial first doc steps (made_steps client serial w.made w.items) h g left right e.names w.items
+        k f split items_are live_are made_is.items_are low (made-numbered m rules client doc w.doc serial w.made w.items made_is.as_many made_is.applies made_is.items_are)
+        (omega (arith, made_is.as_many, made_is.serial_is, count)) (ties-of client serial e.names h.items doc w is)
+        (subst (λ (v : Undone Doc C). Once v.items) (sym is) (event-once m rules client laws e.names h.items doc serial shows split.last_differ))
+
+    undo-goes-on : (g : Branches C) (rest : List Event) → HaveLost h.undo e rest → g.items ≡ h.items ++ w.items → g.undo ≡ rest → g.redo ≡ with_event h.redo made
+        → IsHistoryOf m rules client more first (steps ++ made_steps client serial w.made w.items) g
+    undo-goes-on g rest l items_are undo_are redo_are =
+        let news = names_in w.items in
+        let left : List Name = (names_of l.front ++ names_of l.back) ++ names_of h.redo in
+        let live : live_names h ≡ (names_of l.front ++ (e.names ++ names_of l.back)) ++ names_of h.redo = ap (λ ns. ns ++ names_of h.redo) (names-lost h.undo rest e l) in
+        let others : names_of g.undo ≡ names_of l.front ++ names_of l.back = ap names_of (undo_are ∙ l.new_are) ∙ names-append l.front l.back in
+        let new : live_names g ≡ (left ++ news) ++ [] =
+        ap (λ es. names_of g.undo ++ names_of es) redo_are
+        ∙ ap (λ ns. names_of g.undo ++ ns) (names-with h.redo made news names)
+        ∙ ap (λ ns. ns ++ (names_of h.redo ++ news)) others
+        ∙ sym (append_assoc (names_of l.front ++ names_of l.back) (names_of h.redo) news)
+        ∙ sym (append-nil (left ++ news)) in
+        history-goes-on g left [] (split-undo (live_names h) (names_of l.front) e.names (names_of l.back) (names_of h.redo) live k.tidy.differ) items_are new
+
+    redo-goes-on : (g : Branches C) (rest : List Event) → HaveLost h.redo e rest → g.items ≡ h.items ++ w.items → g.redo ≡ rest → g.undo ≡ with_event h.undo made
+        → IsHistoryOf m rules client more first (steps ++ made_steps client serial w.made w.items) g
+    redo-goes-on g rest l items_are redo_are undo_are =
+        let news = names_in w.items in
+        let live : live_names h ≡ names_of h.undo ++ (names_of l.front ++ (e.names ++ names_of l.back)) = ap (λ ns. names_of h.undo ++ ns) (names-lost h.redo rest e l) in
+        let others : names_of g.redo ≡ names_of l.front ++ names_of l.back = ap names_of (redo_are ∙ l.new_are) ∙ names-append l.front l.back in
+        let new : live_names g ≡ (names_of h.undo ++ news) ++ (names_of l.front ++ names_of l.back) =
+        ap (λ es. names_of es ++ names_of g.redo) undo_are
+        ∙ ap (λ ns. ns ++ names_of g.redo) (names-with h.undo made news names)
+        ∙ ap (λ ns. (names_of h.undo ++ news) ++ ns) others in
+        history-goes-on g (names_of h.undo) (names_of l.front ++ names_of l.back)
+        (split-redo (live_names h) (names_of h.undo) (names_of l.front) e.names (names_of l.back) live k.tidy.differ) items_are new
+
+    -- The event that is taken was undone, or redone, on the document behind the timeline: the steps made stand behind it, and
+    -- are an event of the other branch. Their names are new, and `more` is the last serial drawn.
+    pub history-undone : (turn : Turn) → event_for turn h ≡ Some e → IsHistoryOf m rules client more first (steps ++ made_steps client serial w.made w.items) (undone turn h made w.items)
+    history-undone Undo it = undo-goes-on (undone Undo h made w.items) (left_of Undo h) (taken Undo h e it) refl refl refl
+    history-undone Redo it = redo-goes-on (undone Redo h made w.items) (left_of Redo h) (taken Redo h e it) refl refl refl
+    history-undone (UndoEvent n) it = undo-goes-on (undone (UndoEvent n) h made w.items) (left_of (UndoEvent n) h) (taken (UndoEvent n) h e it) refl refl refl

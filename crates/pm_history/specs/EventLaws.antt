@@ -1,12 +1,14 @@
 -- What an edit and an undo do to the events, in words of lists of events.
-use Rattle.std.specs.Prelude.{◌≡◌, ℕ, true, false, List, [], ◌∷◌, ◌++◌, Option, Some}
+use Rattle.std.specs.Prelude.{◌≡◌, ◌≢◌, ℕ, true, false, List, [], ◌∷◌, ◌++◌, Option, Some}
+use Rattle.std.specs.List.{AllByRecursion as Each}
 use Rattle.pm_change.specs.declared.name.Name.{Name}
 use Rattle.pm_history.specs.declared.item.Item.{Item}
 use Rattle.pm_history.specs.declared.branch.Event.{Event}
 use Rattle.pm_history.specs.declared.branches.Branches.{Branches}
 use Rattle.pm_history.specs.declared.branches.MadeBy.TheVariants.{Edit}
-use Rattle.pm_history.specs.declared.direction.Direction.TheVariants.{Undo, Redo}
-use Rattle.pm_history.specs.Histories.{event_of, names_in, recorded, undone}
+use Rattle.pm_history.specs.declared.turn.Turn.TheVariants.{Undo, Redo, UndoEvent}
+use Rattle.pm_history.specs.Histories.{event_of, names_in, recorded}
+use Rattle.pm_history.specs.Turns.{event_for, undone}
 
 -- the edit has a number, and the event has the same
 abbrev pub HasNumber : Option ℕ → Event → Type 0
@@ -18,6 +20,12 @@ module _ {C : Type 0} (h : Branches C) where
     pub last : h.undo ≡ rest ++ e ∷ []
     pub open_is : h.is_open ≡ true
     pub number_is : HasNumber event e
+
+  -- the last event to undo that has this number stands between these others
+  pub record IsLastOf (k : ℕ) (front back : List Event) (e : Event) : Type 0 where
+    pub undo_are : h.undo ≡ front ++ e ∷ back
+    pub number_is : e.number ≡ Some k
+    pub none_behind : Each (λ f. f.number ≢ Some k) back
 
   -- what the steps of one edit do to the events
   pub record EditsEvents : Type 0 where
@@ -46,3 +54,10 @@ module _ {C : Type 0} (h : Branches C) where
     pub moved_back : (e : Event) (n : Name) (ns : List Name) → names_in items ≡ n ∷ ns
         → (undone Redo h (event_of e.number (names_in items)) items).undo ≡ h.undo ++ event_of e.number (n ∷ ns) ∷ []
     pub lost_redo : (e : Event) → names_in items ≡ [] → (undone Redo h (event_of e.number (names_in items)) items).undo ≡ h.undo
+    -- The same of an undo of the last event that has a number. The events in front of it and those behind it stay.
+    pub taken : (k : ℕ) (front back : List Event) (e : Event) → IsLastOf k front back e → event_for (UndoEvent k) h ≡ Some e
+    pub left_event : (k : ℕ) (front back : List Event) (e : Event) → IsLastOf k front back e
+        → ((undone (UndoEvent k) h (event_of e.number (names_in items)) items).undo ≡ front ++ back) × ((undone (UndoEvent k) h (event_of e.number (names_in items)) items).is_open ≡ false)
+    pub moved_event : (k : ℕ) (e : Event) (n : Name) (ns : List Name) → names_in items ≡ n ∷ ns
+        → (undone (UndoEvent k) h (event_of e.number (names_in items)) items).redo ≡ h.redo ++ event_of e.number (n ∷ ns) ∷ []
+    pub lost_event : (k : ℕ) (e : Event) → names_in items ≡ [] → (undone (UndoEvent k) h (event_of e.number (names_in items)) items).redo ≡ h.redo

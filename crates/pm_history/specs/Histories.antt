@@ -1,5 +1,5 @@
 -- A history: the items of the timeline, and the events that can be undone and redone.
-use Rattle.std.specs.Prelude.{◌≡◌, ℕ, ◌-◌, ◌==◌, ◌&&◌, ◌||◌, not, Bool, true, false, if◌then◌else◌, List, [], ◌∷◌, ◌++◌, length, take, drop, Option, Some, None}
+use Rattle.std.specs.Prelude.{ℕ, ◌-◌, ◌==◌, ◌&&◌, ◌||◌, not, Bool, true, false, if◌then◌else◌, List, [], ◌∷◌, ◌++◌, length, take, drop, Option, Some, None}
 use Rattle.pm_change.specs.declared.name.Name.{Name}
 use Rattle.pm_map.specs.declared.step_map.Span.{Span}
 use Rattle.pm_map.specs.declared.mapping.Mirrored.{Mirrored}
@@ -8,8 +8,6 @@ use Rattle.pm_history.specs.declared.branch.Event.{Event}
 use Rattle.pm_history.specs.declared.branches.MadeBy.{MadeBy}
 use Rattle.pm_history.specs.declared.branches.MadeBy.TheVariants as made_by
 use Rattle.pm_history.specs.declared.branches.Branches.{Branches}
-use Rattle.pm_history.specs.declared.direction.Direction.{Direction}
-use Rattle.pm_history.specs.declared.direction.Direction.TheVariants.{Undo, Redo}
 use Rattle.pm_history.specs.Items.{one_step, foreign_item}
 use Rattle.pm_history.specs.Pairs.{paired}
 
@@ -134,28 +132,6 @@ module _ {C : Type 0} where
     redo = without_dropped (last_items count h.items) kept h.redo;
     is_open = h.is_open;
   }
-
-  -- The branch has lost its last event, which is this one, and no event is open. None: it has no event, and nothing changes.
-  abbrev pub IsPopped : Direction → Branches C → Option Event → Branches C → Type 0
-  IsPopped Redo old (Some e) new = (old.redo ≡ new.redo ++ e ∷ []) × (new.undo ≡ old.undo) × (new.items ≡ old.items) × (new.is_open ≡ false)
-  IsPopped Undo old (Some e) new = (old.undo ≡ new.undo ++ e ∷ []) × (new.redo ≡ old.redo) × (new.items ≡ old.items) × (new.is_open ≡ false)
-  IsPopped Redo old None new = (old.redo ≡ []) × (new ≡ old)
-  IsPopped Undo old None new = (old.undo ≡ []) × (new ≡ old)
-
-  -- the last event to undo, or to redo
-  abbrev pub last_of : Direction → Branches C → Option Event
-  last_of Undo h = last_event h.undo
-  last_of Redo h = last_event h.redo
-
-  -- An event passes over: the last event to undo, or to redo, is gone, and this one, unless it has no step, is an event of
-  -- the other branch. No event is open.
-  abbrev pub turned : Direction → Branches C → Event → Branches C
-  turned Undo h e = record h { undo = without_last h.undo; redo = with_event h.redo e; is_open = false }
-  turned Redo h e = record h { undo = with_event h.undo e; redo = without_last h.redo; is_open = false }
-
-  -- The last event was undone, or redone, by the steps of these items. They are the event e.
-  abbrev pub undone : Direction → Branches C → Event → List (Item C) → Branches C
-  undone way h e items = record (turned way h e) { items = h.items ++ items }
 
   -- the maps behind an item that was found
   abbrev pub later_of : Option (Item C × List (Item C)) → Option (List Mirrored)

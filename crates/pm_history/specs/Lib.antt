@@ -2,6 +2,7 @@ pub mod Items
 pub mod Pairs
 pub mod Undos
 pub mod Histories
+pub mod Turns
 pub mod Timelines
 pub mod Unchanged
 pub mod Tidy

@@ -2,6 +2,7 @@
 ghost use Rattle.std.specs.Prelude.{◌≡◌, ◌<◌, ◌↔◌, [], ◌∷◌, ◌++◌, length, IsTrue, IsSome, IfSome, Some, OnOk, OnErr};
 ghost use Rattle.pm_list.specs.Ends.{OnLast};
 ghost use Rattle.pm_history.specs.Histories.{put_event, extended, last_number, last_event, with_event, without_last};
+ghost use Rattle.pm_history.specs.Turns.{has_number, any_numbered, last_numbered, without_numbered, IsPlaceOf, HaveLostNumbered};
 
 use pm_change::Name;
 use pm_list::Listed;
@@ -130,10 +131,62 @@ impl Branch {
         self.events.truncate(kept);
     }
 
+    /// The last event that has this number; None where none has it.
+    pub(crate) fn numbered(&self, number: u32) -> Option<&Event>
+        ensures none { IsSome result ↔ IsTrue (any_numbered number self.now) }
+        ensures value { IfSome result (λ e. last_numbered number self.now ≡ Some e.now) }
+    {
+        match place_of(self.events.as_slice(), number) {
+            Some(place) => Some(&self.events[place]),
+            None => None,
+        }
+    }
+
+    /// Takes that event out; None where there is none. It takes no memory.
+    pub(crate) fn take_numbered(&mut self, number: u32) -> Option<Event>
+        ensures { HaveLostNumbered number self.old result self.new }
+    {
+        match place_of(self.events.as_slice(), number) {
+            Some(place) => Some(self.events.remove(place)),
+            None => None,
+        }
+    }
+
+    /// Lets that event go, where there is one.
+    pub(crate) fn drop_numbered(&mut self, number: u32)
+        ensures { self.new ≡ without_numbered number self.old }
+    {
+        let _ = self.take_numbered(number);
+    }
+
     /// Lets all events go.
     pub(crate) fn clear(&mut self)
         ensures { self.new ≡ [] }
     {
         self.events.clear();
+    }
+}
+
+/// The place of the last event that has this number; None where none has it.
+fn place_of(events: &[Event], number: u32) -> Option<usize>
+    ensures { IsPlaceOf number events.now result }
+{
+    let mut i = events.len();
+    while i > 0 {
+        i -= 1;
+        if has_number(&events[i], number) {
+            return Some(i);
+        }
+    }
+    None
+}
+
+/// Whether the event has this number.
+fn has_number(event: &Event, number: u32) -> bool
+    ensures { result ≡ has_number number event.now }
+{
+    match event.number {
+        Some(own) => number == own,
+        None => false,
     }
 }

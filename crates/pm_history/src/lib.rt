@@ -7,7 +7,6 @@
 
 mod branch;
 mod branches;
-mod direction;
 mod dropped;
 mod item;
 mod lane;
@@ -16,13 +15,15 @@ pub mod laws;
 mod live;
 mod tied;
 mod trimming;
+mod turn;
 mod undoers;
 mod undoing;
 
 pub use branch::{Branch, Event};
-pub use branches::{Branches, MadeBy, names_in};
-pub use direction::Direction;
+pub use branches::recording::names_in;
+pub use branches::{Branches, MadeBy};
 pub use item::Item;
 pub use tied::tie;
 pub use trimming::Held;
+pub use turn::Turn;
 pub use undoing::{Undone, undo_event};

@@ -5,7 +5,7 @@ ghost use Rattle.pm_sheet.specs.Edits.{meaning, is_good};
 
 use crate::{Edit, Rules};
 use pm_change::{Change, Failed, Name};
-use pm_history::{Branches, Direction, Event, Held, Item, MadeBy, undo_event};
+use pm_history::{Branches, Event, Held, Item, MadeBy, Turn, undo_event};
 use pm_list::Listed;
 use pm_map::{Span, StepMap};
 use std::alloc::{AllocError, Global};
@@ -248,7 +248,7 @@ fn edits_join_by_number(rt: HostRuntime) -> Result<(), AllocError> {
 fn an_empty_history_has_no_event_and_no_step(rt: HostRuntime) -> Result<(), AllocError> {
     let alloc = rt.alloc();
     let mut history: Branches<u8> = Branches::new(alloc);
-    assert!(rt; history.pop(Direction::Undo).is_none() && history.pop(Direction::Redo).is_none());
+    assert!(rt; history.pop(Turn::Undo).is_none() && history.pop(Turn::Redo).is_none());
     assert!(rt; history.later(alloc, named(1))?.is_none() && history.inverse(named(1)).is_none());
     Ok(())
 }
@@ -257,7 +257,7 @@ fn an_empty_history_has_no_event_and_no_step(rt: HostRuntime) -> Result<(), Allo
 fn an_undo_closes_the_event_and_an_edit_empties_redo(rt: HostRuntime) -> Result<(), AllocError> {
     let alloc = rt.alloc();
     let mut history = five(alloc)?;
-    assert!(rt; history.pop(Direction::Undo).is_some());
+    assert!(rt; history.pop(Turn::Undo).is_some());
     let undo = MadeBy::Undo {
         event: None,
         first: true,
@@ -268,6 +268,25 @@ fn an_undo_closes_the_event_and_an_edit_empties_redo(rt: HostRuntime) -> Result<
     assert!(rt; history.later(alloc, named(4))?.is_some());
     history.note_own(alloc, item(alloc, 7, None)?, edit(Some(4), true))?;
     assert!(rt; history.redo_events().is_empty() && history.undo_events().len() == 3);
+    Ok(())
+}
+
+#[test]
+fn an_event_is_taken_by_its_number(rt: HostRuntime) -> Result<(), AllocError> {
+    let alloc = rt.alloc();
+    let calls = [
+        (1, edit(Some(4), true)),
+        (2, edit(Some(7), true)),
+        (3, edit(Some(4), true)),
+        (4, edit(None, true)),
+    ];
+    let mut history = noted(alloc, &calls)?;
+    assert!(rt; history.event_numbered(9).is_none() && history.pop_event(9).is_none());
+    assert!(rt; history.undo_events().len() == 4 && history.event_numbered(4).is_some());
+    assert!(rt; history.pop_event(4).is_some() && history.undo_events().len() == 3);
+    assert!(rt; is_of(alloc, history.undo_events(), 0, &[1])?);
+    assert!(rt; is_of(alloc, history.undo_events(), 1, &[2])?);
+    assert!(rt; is_of(alloc, history.undo_events(), 2, &[4])?);
     Ok(())
 }
 
@@ -306,7 +325,7 @@ fn what_was_undone_can_be_redone(rt: HostRuntime) -> Result<(), AllocError> {
         number: Some(3),
         names: names_of(alloc, &[6])?,
     };
-    history.undone(Direction::Undo, made, items)?;
+    history.undone(Turn::Undo, made, items)?;
     assert!(rt; history.undo_events().len() == 2 && history.items().len() == 6);
     assert!(rt; is_of(alloc, history.redo_events(), 0, &[6])?);
     Ok(())
@@ -323,7 +342,7 @@ fn held(alloc: Global) -> Result<(Listed<Held>, bool), AllocError> {
     all.push(history.held())?;
     history.note_own(alloc, item(alloc, 1, None)?, edit(None, true))?;
     all.push(history.held())?;
-    let _ = history.pop(Direction::Undo);
+    let _ = history.pop(Turn::Undo);
     let undo = MadeBy::Undo {
         event: None,
         first: true,
