@@ -1,6 +1,5 @@
--- Undoing and redoing the last event.
-use Rattle.std.specs.Prelude.{Result, Ok, Err, IfOk, OnOk, OnErr, ◌≡◌, ℕ, ◌+◌, List, [], ◌∷◌, ◌++◌, length, drop, Option, Some, None, refl, All}
-use Rattle.std.specs.List.{AllByRecursion as Each}
+-- Undoing and redoing events.
+use Rattle.std.specs.Prelude.{Result, Ok, Err, IfOk, OnOk, OnErr, ◌≡◌, ℕ, ◌+◌, List, ◌++◌, length, drop, Option, Some, None, refl, All}
 use Rattle.std.proofs.Common.{sym, ap, subst, ◌∙◌, arith}
 use Rattle.std.proofs.lemmas.List.Elements.{All-from_recursion}
 use Rattle.pm_change.specs.Changes.{Meaning, Laws, fold}
@@ -9,28 +8,28 @@ use Rattle.pm_authority.specs.declared.named.Named.{Named}
 use Rattle.pm_authority.specs.Runs.{AllApply}
 use Rattle.pm_history.specs.declared.branch.Event.{Event}
 use Rattle.pm_history.specs.declared.branches.Branches.{Branches}
-use Rattle.pm_history.specs.declared.direction.Direction.{Direction}
-use Rattle.pm_history.specs.declared.direction.Direction.TheVariants.{Undo, Redo}
+use Rattle.pm_history.specs.declared.turn.Turn.{Turn}
 use Rattle.pm_history.specs.declared.item.Item.{Item}
 use Rattle.pm_history.specs.declared.undoing.Undone.{Undone}
-use Rattle.pm_history.specs.Histories.{event_of, names_in, without_last, last_event, last_of, undone}
+use Rattle.pm_history.specs.Histories.{event_of, names_in}
+use Rattle.pm_history.specs.Turns.{event_for, undone}
 use Rattle.pm_history.specs.Timelines.{Step, items_from}
 use Rattle.pm_history.specs.Made.{made_steps, IsMade}
 use Rattle.pm_history.specs.Undos.{undo_event}
 use Rattle.pm_history.specs.Shows.{ShowsTo}
 use Rattle.pm_history.specs.Starts.{start_of}
-use Rattle.pm_history.specs.Tidy.{NoRangeUndoes, NamesDiffer, IsTidy}
+use Rattle.pm_history.specs.Tidy.{NamesDiffer}
 use Rattle.pm_history.specs.Unchanged.{NothingSince}
-use Rattle.pm_history.specs.Remembers.{live_names, Remembers}
+use Rattle.pm_history.specs.Remembers.{live_names}
 use Rattle.pm_history.specs.Standing.{IsHistoryOf}
-use Rattle.pm_history.proofs.Grows.{undo-remembers, redo-remembers, history-shows}
-use Rattle.pm_history.proofs.Turned.{IsLast, history-undone}
+use Rattle.pm_history.proofs.Grows.{turn-remembers, history-shows}
+use Rattle.pm_history.proofs.Turned.{history-undone}
 use Rattle.pm_history.proofs.Mades.{made-event}
 use Rattle.pm_history.proofs.Agrees.{undo-restores, undo-remembered}
 use Rattle.pm_history.proofs.Carried.{kept-differ}
 use Rattle.pm_history.proofs.Starts.{event-from, shows-from}
 use Rattle.pm_client.specs.declared.client.Client.{Client}
-use Rattle.pm_client.specs.Clients.{named, turned, event_turned, last_turned}
+use Rattle.pm_client.specs.Clients.{named, turned, event_turned, turned_if}
 use Rattle.pm_client.specs.Cursors.{HasRoomIn}
 use Rattle.pm_client.specs.Kins.{Kin}
 use Rattle.pm_client.proofs.Keeps.{doc-good, timeline-applies, kin-gone_on}
@@ -41,20 +40,6 @@ use Rattle.pm_client.proofs.TimelineLaws.{made-timeline, named-changes}
 use Rattle.pm_client.specs.TokenNames.{KeepsTokens}
 use Rattle.pm_client.specs.Undoings.{GivesBack, TurnsOver}
 use Rattle.pm_client.proofs.TokenKeeps.{gone_on-keeps}
-
--- events whose last one is this
-last-split : (es : List Event) (e : Event) → last_event es ≡ Some e → es ≡ without_last es ++ e ∷ []
-last-split [] e h = absurd (cc)
-last-split (f ∷ []) e h = let same : f ≡ e = cc in ap (λ x. x ∷ []) same
-last-split (f ∷ g ∷ es) e h = ap (λ l. f ∷ l) (last-split (g ∷ es) e h)
-
-abbrev others : {C : Type 0} → Direction → Branches C → List Event
-others Undo h = without_last h.undo
-others Redo h = without_last h.redo
-
-is-last : {C : Type 0} (way : Direction) (h : Branches C) (e : Event) → last_of way h ≡ Some e → IsLast way h (others way h) e
-is-last Undo h e last = last-split h.undo e last
-is-last Redo h e last = last-split h.redo e last
 
 module _ {Rules Doc Reason C : Type 0} (m : Meaning Rules Doc Reason C) (rules : Rules) (laws : Laws m) (first : Doc) (log : List (Named C))
     (c : Client C Rules Doc Reason) (kin : Kin m rules first log c) where
@@ -92,103 +77,89 @@ module _ {Rules Doc Reason C : Type 0} (m : Meaning Rules Doc Reason C) (rules :
       cursors-room (maps_of m new) (m.size c.doc) (m.size w.doc) (plain-paired m rules new)
       (maps-fit m rules laws c.doc w.doc new (doc-good m rules first log c kin laws) (new-applies w made)).0 c.cursors kin.cursors
 
-  module _ (way : Direction) (e : Event) (last : last_of way c.history ≡ Some e) where
+  module _ (turn : Turn) (e : Event) (last : event_for turn c.history ≡ Some e) where
     w : Undone Doc C
     w = undo_event m rules c.name e.names c.history.items c.doc (c.serials + 1)
 
     -- to what log the client stood, it stands
-    pub kin-turned : Kin m rules first log (event_turned m rules c way e).1
+    pub kin-turned : Kin m rules first log (event_turned m rules c turn e).1
     unfolding w
     kin-turned =
         let made = made-event m rules c.name e.names c.history.items c.doc (c.serials + 1) in
         let event : Event = event_of e.number (names_in w.items) in
-        let history : Branches C = undone way c.history event w.items in
+        let history : Branches C = undone turn c.history event w.items in
         let more : List (Step C) = made_steps c.name (c.serials + 1) w.made w.items in
         let stands : IsHistoryOf m rules c.name (c.serials + length w.made) first (kin.timeline ++ more) history =
-        history-undone m rules laws way c.name c.serials (c.serials + length w.made) (c.serials + 1) first c.doc kin.timeline c.history (others way c.history) e event w
-        kin.first_good kin.history (timeline-applies m rules first log c kin) (is-last way c.history e last) (omega arith) refl made (omega (arith, made.serial_is)) refl in
+        history-undone m rules laws c.name c.serials (c.serials + length w.made) (c.serials + 1) first c.doc kin.timeline c.history e event w
+        kin.first_good kin.history (timeline-applies m rules first log c kin) (omega arith) refl made (omega (arith, made.serial_is)) refl turn last in
         kin-gone_on m rules first log c kin laws w.made w.doc more history (new-applies w made) (made-timeline c.name (c.serials + 1) w.made w.items made.as_many) stands
 
     -- cursors stand before their tokens
-    pub turned-keeps : KeepsTokens m log c (event_turned m rules c way e).1 (m.size c.base)
+    pub turned-keeps : KeepsTokens m log c (event_turned m rules c turn e).1 (m.size c.base)
     unfolding w
     turned-keeps =
         let made = made-event m rules c.name e.names c.history.items c.doc (c.serials + 1) in
-        gone_on-keeps m rules laws first log c kin w.made w.doc (undone way c.history (event_of e.number (names_in w.items)) w.items) (new-applies w made) kin-turned
-
-  remembers : (way : Direction) (e : Event) → last_of way c.history ≡ Some e → Remembers m rules e.names first kin.timeline c.history.items × IsTidy (items_from m rules first kin.timeline) e.names
-      × Each (λ n. NoRangeUndoes (Some n) (items_from m rules first kin.timeline)) e.names
-  remembers Undo e last = undo-remembers m rules c.name c.serials first kin.timeline c.history (without_last c.history.undo) e kin.history (last-split c.history.undo e last)
-  remembers Redo e last = redo-remembers m rules c.name c.serials first kin.timeline c.history (without_last c.history.redo) e kin.history (last-split c.history.redo e last)
+        gone_on-keeps m rules laws first log c kin w.made w.doc (undone turn c.history (event_of e.number (names_in w.items)) w.items) (new-applies w made) kin-turned
 
   -- where nothing has changed since the event, its earlier document is given back
-  pub turned-restores : (way : Direction) (e : Event) → last_of way c.history ≡ Some e → (before : Doc) → NothingSince m rules e.names first kin.timeline before c.doc
-      → (event_turned m rules c way e).1.doc ≡ before
-  turned-restores way e last before since =
-      let r = remembers way e last in
+  pub turned-restores : (turn : Turn) (e : Event) → event_for turn c.history ≡ Some e → (before : Doc) → NothingSince m rules e.names first kin.timeline before c.doc
+      → (event_turned m rules c turn e).1.doc ≡ before
+  turned-restores turn e last before since =
+      let r = turn-remembers m rules c.name c.serials first kin.timeline c.history kin.history turn e last in
       undo-restores m rules c.name laws e.names first kin.timeline c.history.items before c.doc (c.serials + 1) kin.first_good r.0 r.1 r.2 since
 
   -- undoing the event over the items kept is undoing it over the whole timeline
-  pub turned-whole : (way : Direction) (e : Event) → last_of way c.history ≡ Some e
+  pub turned-whole : (turn : Turn) (e : Event) → event_for turn c.history ≡ Some e
       → undo_event m rules c.name e.names c.history.items c.doc (c.serials + 1) ≡ undo_event m rules c.name e.names (items_from m rules first kin.timeline) c.doc (c.serials + 1)
-  turned-whole way e last = undo-remembered m rules c.name e.names e.names first kin.timeline c.history.items c.doc (c.serials + 1) (λ P k. k) (remembers way e last).0
+  turned-whole turn e last = undo-remembered m rules c.name e.names e.names first kin.timeline c.history.items c.doc (c.serials + 1) (λ P k. k) (turn-remembers m rules c.name c.serials first kin.timeline c.history kin.history turn e last).0
 
--- there is a last event exactly where there is one
-pub last-none : (es : List Event) → (last_event es ≡ None → es ≡ []) × (es ≡ [] → last_event es ≡ None)
-last-none [] = (λ _. refl, λ _. refl)
-last-none (e ∷ es) = (λ h. absurd (some e es h), λ h. absurd (cc))
-  where
-    some : (e : Event) (es : List Event) → last_event (e ∷ es) ≡ None → ⊥
-    some e [] h = cc
-    some e (f ∷ es) h = some f es h
-
-module _ {Rules Doc Reason C : Type 0} (m : Meaning Rules Doc Reason C) (rules : Rules) (c : Client C Rules Doc Reason) (way : Direction) (next : Client C Rules Doc Reason)
+module _ {Rules Doc Reason C : Type 0} (m : Meaning Rules Doc Reason C) (rules : Rules) (c : Client C Rules Doc Reason) (turn : Turn) (next : Client C Rules Doc Reason)
     (P : Client C Rules Doc Reason → Type 0) where
-  -- what holds of the client once its last event was undone holds of the next one
-  turned-to : (n : ℕ) (o : Option Event) → last_turned m rules c way o ≡ Some (n, next) → ((e : Event) → o ≡ Some e → P (event_turned m rules c way e).1) → P next
+  -- what holds of the client once the event was undone holds of the next one
+  turned-to : (n : ℕ) (o : Option Event) → turned_if m rules c turn o ≡ Some (n, next) → ((e : Event) → o ≡ Some e → P (event_turned m rules c turn e).1) → P next
   turned-to n None h f = absurd (cc)
-  turned-to n (Some e) h f = let is : (event_turned m rules c way e) ≡ (n, next) = cc in subst P (ap (λ p. p.1) is) (f e refl)
+  turned-to n (Some e) h f = let is : (event_turned m rules c turn e) ≡ (n, next) = cc in subst P (ap (λ p. p.1) is) (f e refl)
 
   -- and where it holds of the client too it holds of the next one whether or not the call failed
-  pub turned-both : {E : Type 0} (r : Result ℕ E) (o : Option Event) → IfOk r (λ n. last_turned m rules c way o ≡ Some (n, next)) → OnErr r (next ≡ c) → P c
-      → ((e : Event) → o ≡ Some e → P (event_turned m rules c way e).1) → P next
+  pub turned-both : {E : Type 0} (r : Result ℕ E) (o : Option Event) → IfOk r (λ n. turned_if m rules c turn o ≡ Some (n, next)) → OnErr r (next ≡ c) → P c
+      → ((e : Event) → o ≡ Some e → P (event_turned m rules c turn e).1) → P next
   turned-both (Ok n) o h k now f = turned-to n o h f
   turned-both (Err e) o h k now f = subst P (sym k) now
 
-  pub turned-on : {E : Type 0} (r : Result ℕ E) (o : Option Event) → IfOk r (λ n. last_turned m rules c way o ≡ Some (n, next)) → ((e : Event) → o ≡ Some e → P (event_turned m rules c way e).1)
+  pub turned-on : {E : Type 0} (r : Result ℕ E) (o : Option Event) → IfOk r (λ n. turned_if m rules c turn o ≡ Some (n, next)) → ((e : Event) → o ≡ Some e → P (event_turned m rules c turn e).1)
       → OnOk r (P next)
   turned-on (Ok n) o h f = turned-to n o h f
   turned-on (Err e) o h f = tt
 
-module _ {Rules Doc Reason C E : Type 0} (m : Meaning Rules Doc Reason C) (rules : Rules) (laws : Laws m) (c next : Client C Rules Doc Reason) (way : Direction) (r : Result ℕ E)
-    (turns : IfOk r (λ n. last_turned m rules c way (last_of way c.history) ≡ Some (n, next))) where
-  -- the clauses of a call that undoes the last event
+module _ {Rules Doc Reason C E : Type 0} (m : Meaning Rules Doc Reason C) (rules : Rules) (laws : Laws m) (c next : Client C Rules Doc Reason) (turn : Turn) (r : Result ℕ E)
+    (turns : IfOk r (λ n. turned_if m rules c turn (event_for turn c.history) ≡ Some (n, next))) where
+  -- the clauses of a call that undoes an event
   pub turn-kin : OnErr r (next ≡ c) → (first : Doc) (log : List (Named C)) → Kin m rules first log c → Kin m rules first log next
   turn-kin err first log kin =
-      turned-both m rules c way next (λ d. Kin m rules first log d) r (last_of way c.history) turns err kin (λ e last. kin-turned m rules laws first log c kin way e last)
+      turned-both m rules c turn next (λ d. Kin m rules first log d) r (event_for turn c.history) turns err kin (λ e last. kin-turned m rules laws first log c kin turn e last)
 
-  pub turn-whole : IfOk r (λ n. (first : Doc) (log : List (Named C)) (kin : Kin m rules first log c) → TurnsOver m rules way c first kin.timeline n next)
+  pub turn-whole : IfOk r (λ n. (first : Doc) (log : List (Named C)) (kin : Kin m rules first log c) → TurnsOver m rules turn c first kin.timeline n next)
   turn-whole = from r turns
     where
-      from : (s : Result ℕ E) → IfOk s (λ n. last_turned m rules c way (last_of way c.history) ≡ Some (n, next))
-          → IfOk s (λ n. (first : Doc) (log : List (Named C)) (kin : Kin m rules first log c) → TurnsOver m rules way c first kin.timeline n next)
+      from : (s : Result ℕ E) → IfOk s (λ n. turned_if m rules c turn (event_for turn c.history) ≡ Some (n, next))
+          → IfOk s (λ n. (first : Doc) (log : List (Named C)) (kin : Kin m rules first log c) → TurnsOver m rules turn c first kin.timeline n next)
       from (Err e) h = tt
       from (Ok n) h = λ first log kin e last.
-          let some : Some (event_turned m rules c way e) ≡ Some (n, next) = ap (last_turned m rules c way) (sym last) ∙ h in
-          let is : event_turned m rules c way e ≡ (n, next) = cc in
-          let same = turned-whole m rules laws first log c kin way e last in (
+          let some : Some (event_turned m rules c turn e) ≡ Some (n, next) = ap (turned_if m rules c turn) (sym last) ∙ h in
+          let is : event_turned m rules c turn e ≡ (n, next) = cc in
+          let same = turned-whole m rules laws first log c kin turn e last in (
             ap (λ p. p.0) (sym is) ∙ ap (λ (v : Undone Doc C). length v.made) same,
-            ap (λ p. p.1) (sym is) ∙ ap (λ (v : Undone Doc C). turned m c way e.number v) same,
+            ap (λ p. p.1) (sym is) ∙ ap (λ (v : Undone Doc C). turned m c turn e.number v) same,
           )
 
-  pub turn-restores : OnOk r ((first : Doc) (log : List (Named C)) (kin : Kin m rules first log c) → GivesBack m rules way c first kin.timeline next.doc)
+  pub turn-restores : OnOk r ((first : Doc) (log : List (Named C)) (kin : Kin m rules first log c) → GivesBack m rules turn c first kin.timeline next.doc)
   turn-restores =
-      turned-on m rules c way next (λ d. (first : Doc) (log : List (Named C)) (kin : Kin m rules first log c) → GivesBack m rules way c first kin.timeline d.doc) r (last_of way c.history) turns
+      turned-on m rules c turn next (λ d. (first : Doc) (log : List (Named C)) (kin : Kin m rules first log c) → GivesBack m rules turn c first kin.timeline d.doc) r (event_for turn c.history) turns
       (λ e0 was first log kin e before last since.
       let same : e ≡ e0 = cc in
-      subst (λ (x : Event). (event_turned m rules c way x).1.doc ≡ before) same (turned-restores m rules laws first log c kin way e last before since))
+      subst (λ (x : Event). (event_turned m rules c turn x).1.doc ≡ before) same (turned-restores m rules laws first log c kin turn e last before since))
 
   pub turn-tokens : OnOk r ((first : Doc) (log : List (Named C)) → Kin m rules first log c → KeepsTokens m log c next (m.size c.base))
   turn-tokens =
-      turned-on m rules c way next (λ d. (first : Doc) (log : List (Named C)) → Kin m rules first log c → KeepsTokens m log c d (m.size c.base)) r (last_of way c.history) turns
-      (λ e last first log kin. turned-keeps m rules laws first log c kin way e last)
+      turned-on m rules c turn next (λ d. (first : Doc) (log : List (Named C)) → Kin m rules first log c → KeepsTokens m log c d (m.size c.base)) r (event_for turn c.history) turns
+      (λ e last first log kin. turned-keeps m rules laws first log c kin turn e last)

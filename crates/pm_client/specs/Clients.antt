@@ -7,10 +7,11 @@ use Rattle.pm_history.specs.declared.item.Item.{Item}
 use Rattle.pm_history.specs.declared.branch.Event.{Event}
 use Rattle.pm_history.specs.declared.branches.Branches.{Branches}
 use Rattle.pm_history.specs.declared.branches.MadeBy.TheVariants.{Edit}
-use Rattle.pm_history.specs.declared.direction.Direction.{Direction}
-use Rattle.pm_history.specs.declared.direction.Direction.TheVariants.{Undo, Redo}
+use Rattle.pm_history.specs.declared.turn.Turn.{Turn}
+use Rattle.pm_history.specs.declared.turn.Turn.TheVariants.{Undo, Redo, UndoEvent}
 use Rattle.pm_history.specs.declared.undoing.Undone.{Undone}
-use Rattle.pm_history.specs.Histories.{event_of, names_in, new_history, noted_all, last_items, last_of, rebased as rebased_last, undone}
+use Rattle.pm_history.specs.Histories.{event_of, names_in, new_history, noted_all, last_items, rebased as rebased_last}
+use Rattle.pm_history.specs.Turns.{event_for, undone}
 use Rattle.pm_history.specs.Tied.{all_tied}
 use Rattle.pm_history.specs.Trims.{trimmed}
 use Rattle.pm_history.specs.Timelines.{items_from}
@@ -125,8 +126,8 @@ module _ {Rules Doc Reason C : Type 0} (m : Meaning Rules Doc Reason C) where
 
   -- The client once an event of this number was undone, or redone, by what was made. The steps made are an event of the other
   -- branch, which has the same number.
-  abbrev pub turned : Client C Rules Doc Reason → Direction → Option ℕ → Undone Doc C → Client C Rules Doc Reason
-  turned c way number w = gone_on c w.made w.doc (undone way c.history (event_of number (names_in w.items)) w.items)
+  abbrev pub turned : Client C Rules Doc Reason → Turn → Option ℕ → Undone Doc C → Client C Rules Doc Reason
+  turned c turn number w = gone_on c w.made w.doc (undone turn c.history (event_of number (names_in w.items)) w.items)
 
 module _ {Rules Doc Reason C : Type 0} (m : Meaning Rules Doc Reason C) (rules : Rules) where
   -- What steps get that were tried on the client's document: one is refused, or they are made, as steps of an edit with this
@@ -142,23 +143,27 @@ module _ {Rules Doc Reason C : Type 0} (m : Meaning Rules Doc Reason C) (rules :
   edited c cs event = tried c cs event (run m rules c.doc 0 (named c.name (c.serials + 1) cs))
 
   -- How many steps undoing this event makes, and the client after it.
-  abbrev pub event_turned : Client C Rules Doc Reason → Direction → Event → ℕ × Client C Rules Doc Reason
-  event_turned c way e =
+  abbrev pub event_turned : Client C Rules Doc Reason → Turn → Event → ℕ × Client C Rules Doc Reason
+  event_turned c turn e =
       let w = undo_event m rules c.name e.names c.history.items c.doc (c.serials + 1) in
-      (length w.made, turned m c way e.number w)
+      (length w.made, turned m c turn e.number w)
 
-  -- the same of the last event of a branch, unless it has none
-  abbrev pub last_turned : Client C Rules Doc Reason → Direction → Option Event → Option (ℕ × Client C Rules Doc Reason)
-  last_turned c way None = None
-  last_turned c way (Some e) = Some (event_turned c way e)
+  -- the same of the event that is taken, unless there is none
+  abbrev pub turned_if : Client C Rules Doc Reason → Turn → Option Event → Option (ℕ × Client C Rules Doc Reason)
+  turned_if c turn None = None
+  turned_if c turn (Some e) = Some (event_turned c turn e)
 
   -- The last event is undone.
   abbrev pub undone_last : Client C Rules Doc Reason → Option (ℕ × Client C Rules Doc Reason)
-  undone_last c = last_turned c Undo (last_of Undo c.history)
+  undone_last c = turned_if c Undo (event_for Undo c.history)
 
   -- The last event that was undone is redone.
   abbrev pub redone_last : Client C Rules Doc Reason → Option (ℕ × Client C Rules Doc Reason)
-  redone_last c = last_turned c Redo (last_of Redo c.history)
+  redone_last c = turned_if c Redo (event_for Redo c.history)
+
+  -- The last event to undo that has this number is undone.
+  abbrev pub undone_event : Client C Rules Doc Reason → ℕ → Option (ℕ × Client C Rules Doc Reason)
+  undone_event c k = turned_if c (UndoEvent k) (event_for (UndoEvent k) c.history)
 
   -- an edit's error is the refusal, or want of memory
   abbrev pub IsRefusal : Result (Client C Rules Doc Reason) (Refusal Reason) → EditError Reason → Type 0

@@ -2,8 +2,8 @@
 use Rattle.std.specs.Prelude.{◌≡◌, ℕ, ◌+◌, List, length, Some}
 use Rattle.pm_change.specs.Changes.{Meaning}
 use Rattle.pm_history.specs.declared.branch.Event.{Event}
-use Rattle.pm_history.specs.declared.direction.Direction.{Direction}
-use Rattle.pm_history.specs.Histories.{last_of}
+use Rattle.pm_history.specs.declared.turn.Turn.{Turn}
+use Rattle.pm_history.specs.Turns.{event_for}
 use Rattle.pm_history.specs.Timelines.{Step, items_from}
 use Rattle.pm_history.specs.Undos.{undo_event}
 use Rattle.pm_history.specs.Unchanged.{NothingSince}
@@ -11,16 +11,17 @@ use Rattle.pm_client.specs.declared.client.Client.{Client}
 use Rattle.pm_client.specs.Clients.{turned}
 
 module _ {Rules Doc Reason C : Type 0} (m : Meaning Rules Doc Reason C) (rules : Rules) where
-  -- Where nothing has changed in the timeline since the last event to undo, or to redo, this is the document before that
-  -- event. Nothing has changed where, from the event's first step on, the timeline reads the event's steps, each followed by
-  -- an idle stretch, and the rules are loose or each step's stored inverse applies at its turn.
-  abbrev pub GivesBack : Direction → Client C Rules Doc Reason → Doc → List (Step C) → Doc → Type 0
-  GivesBack way c first timeline doc =
-      (e : Event) (before : Doc) → last_of way c.history ≡ Some e → NothingSince m rules e.names first timeline before c.doc → doc ≡ before
+  -- Where nothing has changed in the timeline since the event that is taken, this is the document before that event. The event
+  -- is the last one to undo, or to redo, or the last one to undo that has the number. Nothing has changed where, from the
+  -- event's first step on, the timeline reads the event's steps, each followed by an idle stretch, and the rules are loose or
+  -- each step's stored inverse applies at its turn.
+  abbrev pub GivesBack : Turn → Client C Rules Doc Reason → Doc → List (Step C) → Doc → Type 0
+  GivesBack turn c first timeline doc =
+      (e : Event) (before : Doc) → event_for turn c.history ≡ Some e → NothingSince m rules e.names first timeline before c.doc → doc ≡ before
 
-  -- The last event to undo, or to redo, was undone over all steps of this timeline, by so many steps: each stored inverse was
-  -- carried over the maps of all later steps, whatever the history still remembers of them.
-  abbrev pub TurnsOver : Direction → Client C Rules Doc Reason → Doc → List (Step C) → ℕ → Client C Rules Doc Reason → Type 0
-  TurnsOver way c first timeline n next =
-      (e : Event) → last_of way c.history ≡ Some e
-      → (let w = undo_event m rules c.name e.names (items_from m rules first timeline) c.doc (c.serials + 1) in (n ≡ length w.made) × (next ≡ turned m c way e.number w))
+  -- The event that is taken was undone over all steps of this timeline, by so many steps: each stored inverse was carried over
+  -- the maps of all later steps, whatever the history still remembers of them.
+  abbrev pub TurnsOver : Turn → Client C Rules Doc Reason → Doc → List (Step C) → ℕ → Client C Rules Doc Reason → Type 0
+  TurnsOver turn c first timeline n next =
+      (e : Event) → event_for turn c.history ≡ Some e
+      → (let w = undo_event m rules c.name e.names (items_from m rules first timeline) c.doc (c.serials + 1) in (n ≡ length w.made) × (next ≡ turned m c turn e.number w))

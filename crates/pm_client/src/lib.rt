@@ -1,6 +1,7 @@
 //! A client of the authority: what the authority has of it, what is pending, and what it shows.
 #![tactic(auto)]
 
+pub mod answers;
 pub mod client;
 pub mod cursors;
 pub mod editing;
@@ -11,7 +12,7 @@ pub mod plan;
 pub mod rebasing;
 pub mod serials;
 pub mod taken;
-pub mod taking;
+pub mod undoing;
 
 pub use client::Client;
 pub use cursors::Cursor;

@@ -1,10 +1,11 @@
-use Rattle.pm_history.specs.declared.direction.Direction.TheVariants.{Undo}
-use Rattle.pm_client.proofs.Turns.{last-none, turn-kin, turn-whole, turn-restores, turn-tokens}
+use Rattle.pm_history.specs.declared.turn.Turn.TheVariants.{Undo}
+use Rattle.pm_history.proofs.Taken.{last-empty}
+use Rattle.pm_client.proofs.Turns.{turn-kin, turn-whole, turn-restores, turn-tokens}
 use Rattle.pm_client.proofs.client.Client.undo.Goals as goal
 
 pub returns-clause-nothing : goal.returns-clause-nothing
 returns-clause-nothing g c =
-    let none = last-none c.args.self.now.history.undo in
+    let none = last-empty c.args.self.now.history.undo in
     (λ e. none.0 (c.turn.ensures.nothing.0 e), λ e. c.turn.ensures.nothing.1 (none.1 e))
 
 pub returns-clause-kin : goal.returns-clause-kin

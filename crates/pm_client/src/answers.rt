@@ -1,4 +1,4 @@
-//! Taking an answer.
+//! Taking answers.
 ghost use Rattle.std.specs.Prelude.{◌≡◌, ◌↔◌, ◌+◌, ◌-◌, ◌<◌, ◌≤◌, ◌^◌, List, length, Some, Ok, IfOk, OnOk, OnErr};
 ghost use Rattle.pm_authority.specs.Runs.{AllApply};
 ghost use Rattle.pm_authority.specs.declared.named.Named.{Named};

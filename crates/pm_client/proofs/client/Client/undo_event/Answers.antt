@@ -1,0 +1,21 @@
+use Rattle.pm_history.specs.declared.turn.Turn.TheVariants.{UndoEvent}
+use Rattle.pm_history.proofs.Taken.{last-none, none-last}
+use Rattle.pm_client.proofs.Turns.{turn-kin, turn-whole, turn-restores, turn-tokens}
+use Rattle.pm_client.proofs.client.Client.undo_event.Goals as goal
+
+pub returns-clause-nothing : goal.returns-clause-nothing
+returns-clause-nothing g c =
+    let es = c.args.self.now.history.undo in
+    (λ e. last-none c.args.number es (c.turn.ensures.nothing.0 e), λ e. c.turn.ensures.nothing.1 (none-last c.args.number es e))
+
+pub returns-clause-kin : goal.returns-clause-kin
+returns-clause-kin g c = turn-kin g.C.Change.means c.args.rules.now g.met.C.Change.laws c.args.self.now c.turn.new.self (UndoEvent c.args.number) c.turn.result c.turn.ensures.turned c.turn.ensures.err
+
+pub returns-clause-whole : goal.returns-clause-whole
+returns-clause-whole g c = turn-whole g.C.Change.means c.args.rules.now g.met.C.Change.laws c.args.self.now c.turn.new.self (UndoEvent c.args.number) c.turn.result c.turn.ensures.turned
+
+pub returns-clause-restores : goal.returns-clause-restores
+returns-clause-restores g c = turn-restores g.C.Change.means c.args.rules.now g.met.C.Change.laws c.args.self.now c.turn.new.self (UndoEvent c.args.number) c.turn.result c.turn.ensures.turned
+
+pub returns-clause-tokens : goal.returns-clause-tokens
+returns-clause-tokens g c = turn-tokens g.C.Change.means c.args.rules.now g.met.C.Change.laws c.args.self.now c.turn.new.self (UndoEvent c.args.number) c.turn.result c.turn.ensures.turned
