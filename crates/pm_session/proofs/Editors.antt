@@ -11,9 +11,9 @@ use Rattle.pm_authority.specs.Presents.{presented}
 use Rattle.pm_client.specs.declared.client.Client.{Client}
 use Rattle.pm_client.specs.declared.taken.MessageKind.{MessageKind}
 use Rattle.pm_client.specs.declared.taken.MessageKind.TheVariants.{Submit as Submission, Ask as Asking}
-use Rattle.pm_client.specs.Clients.{undone_last, redone_last, message_of, message_at, composed, kept}
+use Rattle.pm_client.specs.Clients.{undone_last, redone_last, undone_event, message_of, message_at, composed, kept}
 use Rattle.pm_session.specs.declared.line.Act.{Act}
-use Rattle.pm_session.specs.declared.line.Act.TheVariants.{Edit, Undo, Redo, Cursor, Submit, Ask, Present, Take, Push, Pull, Forge}
+use Rattle.pm_session.specs.declared.line.Act.TheVariants.{Edit, Undo, Redo, UndoEvent, Cursor, Submit, Ask, Present, Take, Push, Pull, Forge}
 use Rattle.pm_session.specs.declared.member.Member.{Member}
 use Rattle.pm_session.specs.declared.member.Member.TheVariants.{Editor}
 use Rattle.pm_session.specs.declared.outcome.Outcome.{Outcome}
@@ -54,6 +54,7 @@ module _ {Rules Doc Reason C : Type 0} (m : Meaning Rules Doc Reason C) (rules :
     editor_acts a (Edit op event) c = local a (edits m rules c event (makes c.doc op))
     editor_acts a Undo c = local a (turns c (undone_last m rules c))
     editor_acts a Redo c = local a (turns c (redone_last m rules c))
+    editor_acts a (UndoEvent number) c = local a (turns c (undone_event m rules c number))
     editor_acts a (Cursor p side) c = local a (sets m c p side)
     editor_acts a Submit c = local a (composes c Submission)
     editor_acts a Ask c = local a (composes c Asking)
@@ -69,6 +70,7 @@ module _ {Rules Doc Reason C : Type 0} (m : Meaning Rules Doc Reason C) (rules :
     acted-editor a (Edit op event) c = refl
     acted-editor a Undo c = refl
     acted-editor a Redo c = refl
+    acted-editor a (UndoEvent number) c = refl
     acted-editor a (Cursor p side) c = refl
     acted-editor a Submit c = refl
     acted-editor a Ask c = refl
@@ -100,6 +102,7 @@ module _ {Rules Doc Reason C : Type 0} (m : Meaning Rules Doc Reason C) (rules :
   EditorLeft a c (Edit op event) p = AsWas a c p
   EditorLeft a c Undo p = AsWas a c p
   EditorLeft a c Redo p = AsWas a c p
+  EditorLeft a c (UndoEvent number) p = AsWas a c p
   EditorLeft a c (Cursor pos side) p = AsWas a c p
   EditorLeft a c Submit p = AsWas a c p
   EditorLeft a c Ask p = AsWas a c p
@@ -153,6 +156,7 @@ module _ {Rules Doc Reason C : Type 0} (m : Meaning Rules Doc Reason C) (rules :
     left-editor (Edit op event) h = as-was h
     left-editor Undo h = as-was h
     left-editor Redo h = as-was h
+    left-editor (UndoEvent number) h = as-was h
     left-editor (Cursor pos side) h = as-was h
     left-editor Submit h = as-was h
     left-editor Ask h = as-was h

@@ -21,7 +21,7 @@ use Rattle.pm_client.proofs.Keeps.{kin-composed}
 use Rattle.pm_client.specs.Kins.{Kin}
 use Rattle.pm_client.specs.Serials.{Parted}
 use Rattle.pm_session.specs.declared.line.Act.{Act}
-use Rattle.pm_session.specs.declared.line.Act.TheVariants.{Edit, Undo, Redo, Cursor, Submit, Ask, Present, Take, Push, Pull, Forge}
+use Rattle.pm_session.specs.declared.line.Act.TheVariants.{Edit, Undo, Redo, UndoEvent, Cursor, Submit, Ask, Present, Take, Push, Pull, Forge}
 use Rattle.pm_session.specs.declared.line.Line.{Line}
 use Rattle.pm_session.specs.declared.member.Member.{Member}
 use Rattle.pm_session.specs.declared.member.Member.TheVariants.{Editor, Raw}
@@ -120,6 +120,7 @@ module _ {Rules Doc Reason C : Type 0} (m : Meaning Rules Doc Reason C) (rules :
     acted-answered makes (Edit op event) named = refl
     acted-answered makes Undo named = refl
     acted-answered makes Redo named = refl
+    acted-answered makes (UndoEvent number) named = refl
     acted-answered makes (Cursor p side) named = refl
     acted-answered makes Submit named = refl
     acted-answered makes Ask named = refl
@@ -134,6 +135,7 @@ module _ {Rules Doc Reason C : Type 0} (m : Meaning Rules Doc Reason C) (rules :
   raw-answered makes a name serial (Edit op event) = refl
   raw-answered makes a name serial Undo = refl
   raw-answered makes a name serial Redo = refl
+  raw-answered makes a name serial (UndoEvent number) = refl
   raw-answered makes a name serial (Cursor p side) = refl
   raw-answered makes a name serial Submit = refl
   raw-answered makes a name serial Ask = refl

@@ -8,7 +8,7 @@ use Rattle.pm_authority.specs.declared.message.Answer.{Answer}
 use Rattle.pm_authority.specs.declared.message.Answer.TheVariants.{Accepted, WrongVersion, StepRefused, Entries}
 use Rattle.pm_authority.specs.Runs.{run}
 use Rattle.pm_history.specs.declared.branch.Event.{Event}
-use Rattle.pm_history.specs.declared.direction.Direction.{Direction}
+use Rattle.pm_history.specs.declared.turn.Turn.{Turn}
 use Rattle.pm_history.specs.declared.branches.Branches.{Branches}
 use Rattle.pm_history.specs.declared.branches.MadeBy.TheVariants.{Edit}
 use Rattle.pm_history.specs.Histories.{noted_all}
@@ -50,7 +50,7 @@ module _ {Rules Doc Reason C : Type 0} (m : Meaning Rules Doc Reason C) (rules :
       }
 
   -- an event that was undone or redone
-  pub turned-keeps : (way : Direction) (e : Event) → KeepsBox c (event_turned m rules c way e).1
+  pub turned-keeps : (way : Turn) (e : Event) → KeepsBox c (event_turned m rules c way e).1
   turned-keeps way e = record { name = refl; messages = refl; answers = refl }
 
   -- What holds of the client, of the client with some pending steps confirmed, and of it with the later ones carried over

@@ -11,7 +11,7 @@ use Rattle.pm_client.specs.declared.taken.MessageKind.TheVariants.{Submit as Sub
 use Rattle.pm_client.specs.Clients.{message_at}
 use Rattle.pm_client.specs.Kins.{Kin}
 use Rattle.pm_session.specs.declared.line.Act.{Act}
-use Rattle.pm_session.specs.declared.line.Act.TheVariants.{Edit, Undo, Redo, Cursor, Submit, Ask, Present, Take, Push, Pull, Forge}
+use Rattle.pm_session.specs.declared.line.Act.TheVariants.{Edit, Undo, Redo, UndoEvent, Cursor, Submit, Ask, Present, Take, Push, Pull, Forge}
 use Rattle.pm_session.specs.declared.line.Line.{Line}
 use Rattle.pm_session.specs.Events.{State}
 use Rattle.pm_session.specs.Left.{LeftByLine, LeftByExchange, LeftPulling}
@@ -59,6 +59,7 @@ module _ {Rules Doc Reason C : Type 0} (m : Meaning Rules Doc Reason C) (rules :
     left-moved (Edit op event) p h = as-was p h
     left-moved Undo p h = as-was p h
     left-moved Redo p h = as-was p h
+    left-moved (UndoEvent number) p h = as-was p h
     left-moved (Cursor pos side) p h = as-was p h
     left-moved Submit p h = as-was p h
     left-moved Ask p h = as-was p h

@@ -10,9 +10,9 @@ use Rattle.pm_client.proofs.Lists.{Each-append}
 use Rattle.pm_map.specs.declared.side.Side.{Side}
 use Rattle.pm_change.specs.Changes.{Meaning, Laws}
 use Rattle.pm_history.specs.declared.branch.Event.{Event}
-use Rattle.pm_history.specs.declared.direction.Direction.{Direction}
-use Rattle.pm_history.specs.declared.direction.Direction.TheVariants as direction
-use Rattle.pm_history.specs.Histories.{last_of}
+use Rattle.pm_history.specs.declared.turn.Turn.{Turn}
+use Rattle.pm_history.specs.declared.turn.Turn.TheVariants as turn
+use Rattle.pm_history.specs.Turns.{event_for}
 use Rattle.pm_authority.specs.declared.authority.Authority.{Authority}
 use Rattle.pm_authority.specs.declared.named.Named.{Named}
 use Rattle.pm_authority.specs.declared.running.Refusal.{Refusal}
@@ -23,14 +23,14 @@ use Rattle.pm_authority.specs.Presents.{presented}
 use Rattle.pm_client.specs.declared.client.Client.{Client}
 use Rattle.pm_client.specs.declared.taken.MessageKind.{MessageKind}
 use Rattle.pm_client.specs.declared.taken.MessageKind.TheVariants.{Submit as Submission, Ask as Asking}
-use Rattle.pm_client.specs.Clients.{edited, event_turned, last_turned, cursor_set, message_of, composed, kept, taken, taken_at, message_at}
+use Rattle.pm_client.specs.Clients.{edited, event_turned, turned_if, cursor_set, message_of, composed, kept, taken, taken_at, message_at}
 use Rattle.pm_client.specs.Kins.{IsOwn, MessageStands, Kin}
 use Rattle.pm_client.proofs.Takings.{kin-taken_at}
 use Rattle.pm_client.proofs.Keeps.{kin-edited, kin-cursor, kin-composed}
 use Rattle.pm_client.proofs.Turns.{kin-turned}
 use Rattle.pm_client.proofs.Answering.{After, presented-kept, presented-only}
 use Rattle.pm_session.specs.declared.line.Act.{Act}
-use Rattle.pm_session.specs.declared.line.Act.TheVariants.{Edit, Undo, Redo, Cursor, Submit, Ask, Present, Take, Push, Pull, Forge}
+use Rattle.pm_session.specs.declared.line.Act.TheVariants.{Edit, Undo, Redo, UndoEvent, Cursor, Submit, Ask, Present, Take, Push, Pull, Forge}
 use Rattle.pm_session.specs.Events.{edits, turns, sets, made}
 use Rattle.pm_session.specs.declared.outcome.Outcome.{Outcome}
 use Rattle.pm_session.specs.declared.outcome.Outcome.TheVariants.{NoStep as NoneMade, CursorAt}
@@ -92,10 +92,10 @@ module _ {Rules Doc Reason C : Type 0} (m : Meaning Rules Doc Reason C) (rules :
       from (Ok next) e = moved-box next (edited-keeps m rules c steps event next e) (kin-edited m rules a.first a.log c kin laws steps event next e)
       from (Err r) e = unmoved
 
-  pub turns-moved : (way : Direction) → Moved m rules a c false false a (turns c (last_turned m rules c way (last_of way c.history))).1
-  turns-moved way = from (last_of way c.history) refl
+  pub turns-moved : (way : Turn) → Moved m rules a c false false a (turns c (turned_if m rules c way (event_for way c.history))).1
+  turns-moved way = from (event_for way c.history) refl
     where
-      from : (o : Option Event) → last_of way c.history ≡ o → Moved m rules a c false false a (turns c (last_turned m rules c way o)).1
+      from : (o : Option Event) → event_for way c.history ≡ o → Moved m rules a c false false a (turns c (turned_if m rules c way o)).1
       from None e = unmoved
       from (Some event) e =
           moved-box (event_turned m rules c way event).1 (turned-keeps m rules c way event) (kin-turned m rules laws a.first a.log c kin way event e)
@@ -214,8 +214,9 @@ module _ {Rules Doc Reason C : Type 0} (m : Meaning Rules Doc Reason C) (rules :
     pub acted-moved : (act : Act Op C) → NamesOneOf (length c.messages) (length c.answers) act
         → Moved m rules a c (composes_one act) (gets_one act) (editor_acts m rules makes a act c).1 (editor_acts m rules makes a act c).2
     acted-moved (Edit op event) h = edits-moved m rules laws a stood c kin event (makes c.doc op)
-    acted-moved Undo h = turns-moved m rules laws a stood c kin direction.Undo
-    acted-moved Redo h = turns-moved m rules laws a stood c kin direction.Redo
+    acted-moved Undo h = turns-moved m rules laws a stood c kin turn.Undo
+    acted-moved Redo h = turns-moved m rules laws a stood c kin turn.Redo
+    acted-moved (UndoEvent number) h = turns-moved m rules laws a stood c kin (turn.UndoEvent number)
     acted-moved (Cursor p side) h = sets-moved m rules laws a stood c kin p side
     acted-moved Submit h = composes-moved m rules laws a stood c kin Submission
     acted-moved Ask h = composes-moved m rules laws a stood c kin Asking

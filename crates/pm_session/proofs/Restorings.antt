@@ -1,17 +1,17 @@
--- An undo or a redo with nothing changed since gives the earlier document back.
+-- An undo, a redo or an undo of a numbered event gives the earlier document back, where nothing has changed since.
 use Rattle.std.specs.Prelude.{◌≡◌, ℕ, zero, suc, ◌+◌, List, [], ◌∷◌, take, slice_get, slice_set, Some, Result, refl}
 use Rattle.std.proofs.Common.{sym, ap, ◌∙◌, subst, add-one}
 use Rattle.pm_change.specs.Changes.{Meaning, Laws}
 use Rattle.pm_change.specs.declared.no_step.NoStep.{NoStep}
-use Rattle.pm_history.specs.declared.direction.Direction.{Direction}
-use Rattle.pm_history.specs.declared.direction.Direction.TheVariants as direction
-use Rattle.pm_history.specs.Histories.{last_of}
+use Rattle.pm_history.specs.declared.turn.Turn.{Turn}
+use Rattle.pm_history.specs.declared.turn.Turn.TheVariants as turn
+use Rattle.pm_history.specs.Turns.{event_for}
 use Rattle.pm_authority.specs.declared.authority.Authority.{Authority}
 use Rattle.pm_client.specs.declared.client.Client.{Client}
-use Rattle.pm_client.specs.Clients.{last_turned}
+use Rattle.pm_client.specs.Clients.{turned_if}
 use Rattle.pm_client.proofs.Turns.{turned-restores}
 use Rattle.pm_session.specs.declared.line.Act.{Act}
-use Rattle.pm_session.specs.declared.line.Act.TheVariants.{Edit, Undo, Redo, Cursor, Submit, Ask, Present, Take, Push, Pull, Forge}
+use Rattle.pm_session.specs.declared.line.Act.TheVariants.{Edit, Undo, Redo, UndoEvent, Cursor, Submit, Ask, Present, Take, Push, Pull, Forge}
 use Rattle.pm_session.specs.declared.line.Line.{Line}
 use Rattle.pm_session.specs.declared.member.Member.TheVariants.{Editor}
 use Rattle.pm_session.specs.Events.{State, turns, acted, played}
@@ -33,13 +33,14 @@ set-there (y ∷ ys) (suc i) v x h = set-there ys i v x h
 
 module _ {Rules Doc Reason C : Type 0} (m : Meaning Rules Doc Reason C) (rules : Rules) (laws : Laws m) where
   module _ (a : Authority C Rules Doc Reason) (c : Client C Rules Doc Reason) where
-    turns-restored : (way : Direction) → Restored m rules way a c (turns c (last_turned m rules c way (last_of way c.history))).1
+    turns-restored : (way : Turn) → Restored m rules way a c (turns c (turned_if m rules c way (event_for way c.history))).1
     turns-restored way kin e before last since =
         rw last (turned-restores m rules laws a.first a.log c kin way e last before since)
 
     pub acted-restored : {Op : Type 0} (makes : Doc → Op → Result (List C) NoStep) (act : Act Op C) → RestoredBy m rules act a c (editor_acts m rules makes a act c).2
-    acted-restored makes Undo = turns-restored direction.Undo
-    acted-restored makes Redo = turns-restored direction.Redo
+    acted-restored makes Undo = turns-restored turn.Undo
+    acted-restored makes Redo = turns-restored turn.Redo
+    acted-restored makes (UndoEvent number) = turns-restored (turn.UndoEvent number)
     acted-restored makes (Edit op event) = tt
     acted-restored makes (Cursor p side) = tt
     acted-restored makes Submit = tt

@@ -9,9 +9,9 @@ use Rattle.pm_change.specs.Changes.{Meaning, Laws}
 use Rattle.pm_change.specs.declared.no_step.NoStep.{NoStep}
 use Rattle.pm_change.specs.declared.no_step.NoStep.TheVariants.{Range}
 use Rattle.pm_history.specs.declared.branch.Event.{Event}
-use Rattle.pm_history.specs.declared.direction.Direction.{Direction}
-use Rattle.pm_history.specs.declared.direction.Direction.TheVariants as direction
-use Rattle.pm_history.specs.Histories.{last_of}
+use Rattle.pm_history.specs.declared.turn.Turn.{Turn}
+use Rattle.pm_history.specs.declared.turn.Turn.TheVariants as turn
+use Rattle.pm_history.specs.Turns.{event_for}
 use Rattle.pm_change.proofs.Folds.{fold-good}
 use Rattle.pm_authority.specs.declared.named.Named.{Named}
 use Rattle.pm_authority.specs.declared.authority.Authority.{Authority}
@@ -26,7 +26,7 @@ use Rattle.pm_authority.specs.Presents.{tried, presented}
 use Rattle.pm_client.specs.declared.client.Client.{Client}
 use Rattle.pm_client.specs.declared.taken.MessageKind.{MessageKind}
 use Rattle.pm_client.specs.declared.taken.MessageKind.TheVariants.{Submit as Submission, Ask as Asking}
-use Rattle.pm_client.specs.Clients.{edited, last_turned, cursor_set, message_of, message_at, composed, kept, taken, taken_at, taken_if, answer_at}
+use Rattle.pm_client.specs.Clients.{edited, turned_if, cursor_set, message_of, message_at, composed, kept, taken, taken_at, taken_if, answer_at}
 use Rattle.pm_client.specs.Kins.{Kin}
 use Rattle.pm_client.specs.Serials.{serials_of, own_serials}
 use Rattle.pm_client.specs.TokenNames.{Token, Has, first_names, names_after, AllDiffer, passed, MayName, KeepsTokens}
@@ -35,7 +35,7 @@ use Rattle.pm_client.proofs.TokenKeeps.{edited-keeps, taken-keeps}
 use Rattle.pm_client.proofs.Turns.{turned-keeps}
 use Rattle.pm_client.specs.Cursors.{cursor}
 use Rattle.pm_session.specs.declared.line.Act.{Act}
-use Rattle.pm_session.specs.declared.line.Act.TheVariants.{Edit, Undo, Redo, Cursor, Submit, Ask, Present, Take, Push, Pull, Forge}
+use Rattle.pm_session.specs.declared.line.Act.TheVariants.{Edit, Undo, Redo, UndoEvent, Cursor, Submit, Ask, Present, Take, Push, Pull, Forge}
 use Rattle.pm_session.specs.declared.outcome.Outcome.{Outcome}
 use Rattle.pm_session.specs.declared.outcome.Outcome.TheVariants.{NoStep as NoneMade, CursorAt}
 use Rattle.pm_session.specs.Events.{edits, turns, sets, made}
@@ -197,10 +197,10 @@ module _ {Rules Doc Reason C : Type 0} (m : Meaning Rules Doc Reason C) (rules :
         from (Ok next) e = record { keeps = edited-keeps m rules laws a.first a.log c kin steps event next e; rises = version next e; first = refl }
         from (Err r) e = unmoved
 
-    turns-stayed : (way : Direction) → Stayed a (turns c (last_turned m rules c way (last_of way c.history))).1
-    turns-stayed way = from (last_of way c.history) refl
+    turns-stayed : (way : Turn) → Stayed a (turns c (turned_if m rules c way (event_for way c.history))).1
+    turns-stayed way = from (event_for way c.history) refl
       where
-        from : (o : Option Event) → last_of way c.history ≡ o → Stayed a (turns c (last_turned m rules c way o)).1
+        from : (o : Option Event) → event_for way c.history ≡ o → Stayed a (turns c (turned_if m rules c way o)).1
         from None e = unmoved
         from (Some event) e = record { keeps = turned-keeps m rules laws a.first a.log c kin way event e; rises = omega arith; first = refl }
 
@@ -292,8 +292,9 @@ module _ {Rules Doc Reason C : Type 0} (m : Meaning Rules Doc Reason C) (rules :
     module _ {Op : Type 0} where
       pub acted-stayed : (makes : Doc → Op → Result (List C) NoStep) (act : Act Op C) → Stayed (editor_acts m rules makes a act c).1 (editor_acts m rules makes a act c).2
       acted-stayed makes (Edit op event) = edits-stayed event (makes c.doc op)
-      acted-stayed makes Undo = turns-stayed direction.Undo
-      acted-stayed makes Redo = turns-stayed direction.Redo
+      acted-stayed makes Undo = turns-stayed turn.Undo
+      acted-stayed makes Redo = turns-stayed turn.Redo
+      acted-stayed makes (UndoEvent number) = turns-stayed (turn.UndoEvent number)
       acted-stayed makes (Cursor p side) = sets-stayed p side
       acted-stayed makes Submit = composed-stayed Submission
       acted-stayed makes Ask = composed-stayed Asking
@@ -308,6 +309,7 @@ module _ {Rules Doc Reason C : Type 0} (m : Meaning Rules Doc Reason C) (rules :
       left-stayed (Edit op event) p h = as-was p h
       left-stayed Undo p h = as-was p h
       left-stayed Redo p h = as-was p h
+      left-stayed (UndoEvent number) p h = as-was p h
       left-stayed (Cursor place side) p h = as-was p h
       left-stayed Submit p h = as-was p h
       left-stayed Ask p h = as-was p h

@@ -14,12 +14,12 @@ use Rattle.pm_authority.specs.Presents.{presented}
 use Rattle.pm_client.specs.declared.client.Client.{Client}
 use Rattle.pm_client.specs.declared.taken.MessageKind.{MessageKind}
 use Rattle.pm_client.specs.declared.taken.MessageKind.TheVariants.{Submit as Submission, Ask as Asking}
-use Rattle.pm_client.specs.Clients.{edited, undone_last, redone_last, cursor_set, message_of, message_at, composed, kept}
+use Rattle.pm_client.specs.Clients.{edited, undone_last, redone_last, undone_event, cursor_set, message_of, message_at, composed, kept}
 use Rattle.pm_client.specs.Kins.{Kin}
 use Rattle.pm_client.proofs.Keeps.{kin-composed}
 use Rattle.pm_session.specs.declared.line.Line.{Line}
 use Rattle.pm_session.specs.declared.line.Act.{Act}
-use Rattle.pm_session.specs.declared.line.Act.TheVariants.{Edit, Undo, Redo, Cursor, Submit, Ask, Present, Take, Push, Pull, Forge}
+use Rattle.pm_session.specs.declared.line.Act.TheVariants.{Edit, Undo, Redo, UndoEvent, Cursor, Submit, Ask, Present, Take, Push, Pull, Forge}
 use Rattle.pm_session.specs.declared.member.Member.{Member}
 use Rattle.pm_session.specs.declared.member.Member.TheVariants.{Editor, Raw}
 use Rattle.pm_session.specs.declared.outcome.Outcome.{Outcome}
@@ -89,6 +89,7 @@ module _ {Rules Doc Reason C : Type 0} (m : Meaning Rules Doc Reason C) (rules :
   acted-none makes (Edit op event) = edits-none event (makes c.doc op)
   acted-none makes Undo = turns-none c (undone_last m rules c)
   acted-none makes Redo = turns-none c (redone_last m rules c)
+  acted-none makes (UndoEvent number) = turns-none c (undone_event m rules c number)
   acted-none makes (Cursor p side) = sets-none p side
   acted-none makes Submit = tt
   acted-none makes Ask = tt

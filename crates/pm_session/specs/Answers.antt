@@ -12,7 +12,7 @@ use Rattle.pm_client.specs.declared.taken.MessageKind.TheVariants.{Submit as Sub
 use Rattle.pm_client.specs.declared.taken.Taken.{Taken}
 use Rattle.pm_client.specs.Clients.{named, message_of, message_at}
 use Rattle.pm_session.specs.declared.line.Act.{Act}
-use Rattle.pm_session.specs.declared.line.Act.TheVariants.{Edit, Undo, Redo, Cursor, Submit, Ask, Present, Take, Push, Pull, Forge}
+use Rattle.pm_session.specs.declared.line.Act.TheVariants.{Edit, Undo, Redo, UndoEvent, Cursor, Submit, Ask, Present, Take, Push, Pull, Forge}
 use Rattle.pm_session.specs.declared.member.Member.{Member}
 use Rattle.pm_session.specs.declared.member.Member.TheVariants.{Editor, Raw}
 use Rattle.pm_session.specs.declared.line.Line.{Line}
@@ -46,6 +46,7 @@ module _ {Rules Doc Reason C : Type 0} (m : Meaning Rules Doc Reason C) (rules :
   AnsweredBy (Edit op event) a c o new = new ≡ a
   AnsweredBy Undo a c o new = new ≡ a
   AnsweredBy Redo a c o new = new ≡ a
+  AnsweredBy (UndoEvent number) a c o new = new ≡ a
   AnsweredBy (Cursor p side) a c o new = new ≡ a
   AnsweredBy Submit a c o new = new ≡ a
   AnsweredBy Ask a c o new = new ≡ a
@@ -61,6 +62,7 @@ module _ {Rules Doc Reason C : Type 0} (m : Meaning Rules Doc Reason C) (rules :
   AnsweredByRaw (Edit op event) a name serial o new = new ≡ a
   AnsweredByRaw Undo a name serial o new = new ≡ a
   AnsweredByRaw Redo a name serial o new = new ≡ a
+  AnsweredByRaw (UndoEvent number) a name serial o new = new ≡ a
   AnsweredByRaw (Cursor p side) a name serial o new = new ≡ a
   AnsweredByRaw Submit a name serial o new = new ≡ a
   AnsweredByRaw Ask a name serial o new = new ≡ a
@@ -75,8 +77,8 @@ module _ {Rules Doc Reason C : Type 0} (m : Meaning Rules Doc Reason C) (rules :
   MemberAnswered act a (Raw name serial) o new = AnsweredByRaw act a name serial o new
 
   -- A line from one room to the next, and its outcome. The line's member is there, and what it presented was answered so. No
-  -- message of an editor is refused for a step. Cursors stay before their tokens. An undo or a redo with nothing changed
-  -- since its event gives the document before the event.
+  -- message of an editor is refused for a step. Cursors stay before their tokens. An undo or a redo, also of
+  -- a numbered event, gives the document before its event, where nothing has changed since.
   pub record LineHolds {Op : Type 0} (s : State C Rules Doc Reason) (line : Line Op C) (o : Outcome C Rules Doc Reason) (t : State C Rules Doc Reason) : Type 0 where
     pub member : Member C Rules Doc Reason
     pub at : slice_get s.members line.client ≡ Some member

@@ -14,10 +14,10 @@ use Rattle.pm_authority.specs.Presents.{presented}
 use Rattle.pm_client.specs.declared.client.Client.{Client}
 use Rattle.pm_client.specs.declared.taken.MessageKind.{MessageKind}
 use Rattle.pm_client.specs.declared.taken.MessageKind.TheVariants.{Submit as Submission, Ask as Asking}
-use Rattle.pm_client.specs.Clients.{edited, undone_last, redone_last, cursor_set, named, message_of, message_at, composed, kept, taken, taken_at}
+use Rattle.pm_client.specs.Clients.{edited, undone_last, redone_last, undone_event, cursor_set, named, message_of, message_at, composed, kept, taken, taken_at}
 use Rattle.pm_session.specs.declared.line.Line.{Line}
 use Rattle.pm_session.specs.declared.line.Act.{Act}
-use Rattle.pm_session.specs.declared.line.Act.TheVariants.{Edit, Undo, Redo, Cursor, Submit, Ask, Present, Take, Push, Pull, Forge}
+use Rattle.pm_session.specs.declared.line.Act.TheVariants.{Edit, Undo, Redo, UndoEvent, Cursor, Submit, Ask, Present, Take, Push, Pull, Forge}
 use Rattle.pm_session.specs.declared.member.Member.{Member}
 use Rattle.pm_session.specs.declared.member.Member.TheVariants.{Editor, Raw}
 use Rattle.pm_session.specs.declared.outcome.AnswerSummary.{AnswerSummary}
@@ -34,6 +34,7 @@ module _ {C : Type 0} where
   asked_by_raw (Edit op event) name serial = None
   asked_by_raw Undo name serial = None
   asked_by_raw Redo name serial = None
+  asked_by_raw (UndoEvent number) name serial = None
   asked_by_raw (Cursor p side) name serial = None
   asked_by_raw Submit name serial = None
   asked_by_raw Ask name serial = None
@@ -85,6 +86,7 @@ module _ {Rules Doc Reason C : Type 0} where
   asked_by_editor (Edit op event) c = None
   asked_by_editor Undo c = None
   asked_by_editor Redo c = None
+  asked_by_editor (UndoEvent number) c = None
   asked_by_editor (Cursor p side) c = None
   asked_by_editor Submit c = None
   asked_by_editor Ask c = None
@@ -128,6 +130,7 @@ module _ {Rules Doc Reason C : Type 0} where
   finished_by_raw (Edit op event) name serial answer = (NoneMade NotThere, Raw name serial)
   finished_by_raw Undo name serial answer = (NoneMade NotThere, Raw name serial)
   finished_by_raw Redo name serial answer = (NoneMade NotThere, Raw name serial)
+  finished_by_raw (UndoEvent number) name serial answer = (NoneMade NotThere, Raw name serial)
   finished_by_raw (Cursor p side) name serial answer = (NoneMade NotThere, Raw name serial)
   finished_by_raw Submit name serial answer = (NoneMade NotThere, Raw name serial)
   finished_by_raw Ask name serial answer = (NoneMade NotThere, Raw name serial)
@@ -187,6 +190,7 @@ module _ {Rules Doc Reason C : Type 0} (m : Meaning Rules Doc Reason C) (rules :
     finished_by_editor (Edit op event) c answer = edits c event (makes c.doc op)
     finished_by_editor Undo c answer = turns c (undone_last m rules c)
     finished_by_editor Redo c answer = turns c (redone_last m rules c)
+    finished_by_editor (UndoEvent number) c answer = turns c (undone_event m rules c number)
     finished_by_editor (Cursor p side) c answer = sets m c p side
     finished_by_editor Submit c answer = composes c Submission
     finished_by_editor Ask c answer = composes c Asking

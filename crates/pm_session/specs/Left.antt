@@ -11,7 +11,7 @@ use Rattle.pm_client.specs.declared.taken.MessageKind.{MessageKind}
 use Rattle.pm_client.specs.declared.taken.MessageKind.TheVariants.{Submit as Submission, Ask as Asking}
 use Rattle.pm_client.specs.Clients.{composed, kept, message_of, message_at}
 use Rattle.pm_session.specs.declared.line.Act.{Act}
-use Rattle.pm_session.specs.declared.line.Act.TheVariants.{Edit, Undo, Redo, Cursor, Submit, Ask, Present, Take, Push, Pull, Forge}
+use Rattle.pm_session.specs.declared.line.Act.TheVariants.{Edit, Undo, Redo, UndoEvent, Cursor, Submit, Ask, Present, Take, Push, Pull, Forge}
 use Rattle.pm_session.specs.declared.member.Member.{Member}
 use Rattle.pm_session.specs.declared.member.Member.TheVariants.{Editor, Raw}
 use Rattle.pm_session.specs.declared.line.Line.{Line}
@@ -41,6 +41,7 @@ module _ {Rules Doc Reason C : Type 0} (same : Type 0) (tells : Message C → An
   LeftByEditor (Edit op event) c next = LeftAsWas (Editor c) next
   LeftByEditor Undo c next = LeftAsWas (Editor c) next
   LeftByEditor Redo c next = LeftAsWas (Editor c) next
+  LeftByEditor (UndoEvent number) c next = LeftAsWas (Editor c) next
   LeftByEditor (Cursor pos side) c next = LeftAsWas (Editor c) next
   LeftByEditor Submit c next = LeftAsWas (Editor c) next
   LeftByEditor Ask c next = LeftAsWas (Editor c) next

@@ -5,7 +5,7 @@ use Rattle.pm_session.specs.declared.member.Member.{Member}
 use Rattle.pm_session.specs.declared.member.Member.TheVariants.{Editor, Raw}
 use Rattle.pm_session.specs.declared.line.Line.{Line}
 use Rattle.pm_session.specs.declared.line.Act.{Act}
-use Rattle.pm_session.specs.declared.line.Act.TheVariants.{Edit, Undo, Redo, Cursor, Submit, Ask, Present, Take, Push, Pull, Forge}
+use Rattle.pm_session.specs.declared.line.Act.TheVariants.{Edit, Undo, Redo, UndoEvent, Cursor, Submit, Ask, Present, Take, Push, Pull, Forge}
 use Rattle.pm_session.specs.Events.{State}
 use Rattle.pm_session.specs.Members.{name_of, kinds_of}
 
@@ -19,6 +19,7 @@ module _ {Op C : Type 0} where
   composes_one (Edit op event) = false
   composes_one Undo = false
   composes_one Redo = false
+  composes_one (UndoEvent number) = false
   composes_one (Cursor p side) = false
   composes_one (Present j) = false
   composes_one (Take n) = false
@@ -34,6 +35,7 @@ module _ {Op C : Type 0} where
   gets_one (Edit op event) = false
   gets_one Undo = false
   gets_one Redo = false
+  gets_one (UndoEvent number) = false
   gets_one (Cursor p side) = false
   gets_one (Take n) = false
   gets_one (Forge version steps) = false
@@ -44,6 +46,7 @@ module _ {Op C : Type 0} where
   is_forge (Edit op event) = false
   is_forge Undo = false
   is_forge Redo = false
+  is_forge (UndoEvent number) = false
   is_forge (Cursor p side) = false
   is_forge Submit = false
   is_forge Ask = false
@@ -58,6 +61,7 @@ module _ {Op C : Type 0} where
   sets_one (Edit op event) = false
   sets_one Undo = false
   sets_one Redo = false
+  sets_one (UndoEvent number) = false
   sets_one Submit = false
   sets_one Ask = false
   sets_one (Present j) = false
@@ -73,6 +77,7 @@ module _ {Op C : Type 0} where
   names_one messages answers (Edit op event) = true
   names_one messages answers Undo = true
   names_one messages answers Redo = true
+  names_one messages answers (UndoEvent number) = true
   names_one messages answers (Cursor p side) = true
   names_one messages answers Submit = true
   names_one messages answers Ask = true
@@ -99,6 +104,7 @@ module _ {Op C : Type 0} where
   NamesOneOf messages answers (Edit op event) = Unit {0}
   NamesOneOf messages answers Undo = Unit {0}
   NamesOneOf messages answers Redo = Unit {0}
+  NamesOneOf messages answers (UndoEvent number) = Unit {0}
   NamesOneOf messages answers (Cursor p side) = Unit {0}
   NamesOneOf messages answers Submit = Unit {0}
   NamesOneOf messages answers Ask = Unit {0}

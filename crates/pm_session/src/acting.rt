@@ -14,7 +14,7 @@ use crate::exchange::{exchange, present};
 use crate::forge::forge;
 use crate::host::Host;
 use crate::line::{Act, Line};
-use crate::local::{compose, edit, redo, set_cursor, take, undo};
+use crate::local::{compose, edit, redo, set_cursor, take, undo, undo_event};
 use crate::maker::Maker;
 use crate::member::Member;
 use crate::outcome::Outcome;
@@ -82,6 +82,7 @@ fn act_editor<C: Change, K: Maker<C>, H: Host<C>>(
         Act::Edit { op, event } => edit(alloc, rules, maker, client, op, *event),
         Act::Undo => undo(alloc, rules, client),
         Act::Redo => redo(alloc, rules, client),
+        Act::UndoEvent { event } => undo_event(alloc, rules, client, *event),
         Act::Cursor { pos, side } => set_cursor(client, *pos, *side),
         Act::Submit => compose(alloc, client, MessageKind::Submit),
         Act::Ask => compose(alloc, client, MessageKind::Ask),

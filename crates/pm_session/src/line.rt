@@ -15,6 +15,8 @@ pub enum Act<O, C> {
     Undo,
     /// Redoes the client's last event that was undone.
     Redo,
+    /// Undoes the client's last event with this number that can be undone, and leaves the others.
+    UndoEvent { event: u32 },
     /// Sets a cursor at this position of the client's document, in tokens, with this side.
     Cursor { pos: u64, side: Side },
     /// Composes a submission of all pending steps.
@@ -44,6 +46,7 @@ impl<O, C> Act<O, C> {
             Act::Edit { op: _, event: _ }
             | Act::Undo
             | Act::Redo
+            | Act::UndoEvent { event: _ }
             | Act::Cursor { pos: _, side: _ }
             | Act::Present { message: _ }
             | Act::Take { answer: _ }
@@ -63,6 +66,7 @@ impl<O, C> Act<O, C> {
             Act::Edit { op: _, event: _ }
             | Act::Undo
             | Act::Redo
+            | Act::UndoEvent { event: _ }
             | Act::Cursor { pos: _, side: _ }
             | Act::Submit
             | Act::Ask
@@ -84,6 +88,7 @@ impl<O, C> Act<O, C> {
             Act::Edit { op: _, event: _ }
             | Act::Undo
             | Act::Redo
+            | Act::UndoEvent { event: _ }
             | Act::Cursor { pos: _, side: _ }
             | Act::Submit
             | Act::Ask
@@ -105,6 +110,7 @@ impl<O, C> Act<O, C> {
             Act::Edit { op: _, event: _ }
             | Act::Undo
             | Act::Redo
+            | Act::UndoEvent { event: _ }
             | Act::Submit
             | Act::Ask
             | Act::Present { message: _ }

@@ -1,6 +1,6 @@
 //! Acts that are local to a client.
 ghost use Rattle.std.specs.Prelude.{◌≡◌, ◌<◌, ◌≤◌, ◌^◌, length, IfOk, OnErr};
-ghost use Rattle.pm_client.specs.Clients.{undone_last, redone_last};
+ghost use Rattle.pm_client.specs.Clients.{undone_last, redone_last, undone_event};
 ghost use Rattle.pm_client.specs.Cursors.{AreWithin};
 ghost use Rattle.pm_client.specs.Kins.{Stands};
 ghost use Rattle.pm_session.specs.Events.{edits, turns, sets, composes, takes};
@@ -66,6 +66,24 @@ pub fn redo<C: Change>(
     ensures err { OnErr result (client.new ≡ client.old) }
 {
     match client.redo(alloc, rules) {
+        Ok(count) => Ok(Outcome::Made { count }),
+        Err(UndoError::NothingToUndo) => Ok(Outcome::Nothing),
+        Err(UndoError::NoMemory) => Err(AllocError),
+    }
+}
+
+/// The client undoes the last event of this number that it can undo, or tells that there is none, as `undo` undoes the last.
+pub fn undo_event<C: Change>(
+    alloc: Global,
+    rules: &C::Rules,
+    client: &mut Client<C>,
+    event: u32,
+) -> Result<Outcome<C>, AllocError>
+    requires stands { Stands C.means rules.now client.old }
+    ensures undoes { IfOk result (λ o. (o, client.new) ≡ turns client.old (undone_event C.means rules.now client.old event)) }
+    ensures err { OnErr result (client.new ≡ client.old) }
+{
+    match client.undo_event(alloc, rules, event) {
         Ok(count) => Ok(Outcome::Made { count }),
         Err(UndoError::NothingToUndo) => Ok(Outcome::Nothing),
         Err(UndoError::NoMemory) => Err(AllocError),

@@ -23,7 +23,7 @@ pub enum Outcome<C: Change> {
     Made {
         count: u64,
     },
-    /// There was no event to undo or to redo. Nothing changed.
+    /// There was no event to undo or to redo, or none to undo that has the number. Nothing changed.
     Nothing,
     /// The op made no step, for this reason; `Range` is also a cursor past the document's size, and `NotThere` what the member
     /// can't do. Nothing changed.

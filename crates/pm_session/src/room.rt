@@ -101,7 +101,7 @@ impl<C: Change> Room<C> {
         ensures names { NamesDiffer self.new.authority.log }
         // Each cursor with side `After` stays before its token.
         ensures cursors { CursorsStay C.means (state_of self.old) (state_of self.new) }
-        // An undo or a redo with nothing changed since gives the earlier document back.
+        // An undo or a redo, also of a numbered event, with nothing changed since gives the earlier document back.
         ensures restores { OnOk result (Restores C.means rules.now (state_of self.old) line.now (state_of self.new)) }
     {
         let member = &mut self.members[line.client as usize];

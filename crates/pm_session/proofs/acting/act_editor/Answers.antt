@@ -1,7 +1,6 @@
-use Rattle.std.proofs.Common.{rules}
-use Rattle.pm_history.specs.declared.direction.Direction.TheVariants.{Undo, Redo}
+use Rattle.pm_history.specs.declared.turn.Turn.TheVariants.{Undo, Redo, UndoEvent}
 use Rattle.pm_client.specs.declared.taken.MessageKind.TheVariants.{Submit, Ask}
-use Rattle.pm_client.specs.Clients.{undone_last, redone_last}
+use Rattle.pm_client.specs.Clients.{undone_last, redone_last, undone_event}
 use Rattle.pm_session.specs.Events.{edits, turns, composes, takes}
 use Rattle.pm_session.proofs.Alone.{alone-stands, either-stands, cursor-stands}
 use Rattle.pm_session.proofs.Hosted.{holder, holder-kept, composer-stands, taken-stands}
@@ -68,6 +67,23 @@ returns-in-Redo-clause-stands g c =
     let p = turns old (redone_last m rules_now old) in
     let moved = turns-moved m rules_now laws a stood old stands.kin Redo in
     either-stands m rules_now first log old stands log_is c.redo.result p c.redo.new.client (alone-stands m rules_now first log old stands log_is laws p.1 moved) c.redo.ensures.redoes c.redo.ensures.err
+
+pub returns-in-UndoEvent-clause-stands : goal.returns-in-UndoEvent-clause-stands
+returns-in-UndoEvent-clause-stands g c =
+    let m = g.C.Change.means in
+    let laws = g.met.C.Change.laws in
+    let rules_now = c.args.rules.now in
+    let host = c.args.host.now in
+    let first = g.H.Host.first host in
+    let log = g.H.Host.log host in
+    let old = c.args.client.now in
+    let stands = c.requires.stands in
+    let log_is = g.met.H.Host.kept host rules_now old.name c.requires.served in
+    let a = holder m rules_now laws first log old stands log_is in
+    let stood = holder-kept m rules_now laws first log old stands log_is in
+    let p = turns old (undone_event m rules_now old c.in-UndoEvent.event) in
+    let moved = turns-moved m rules_now laws a stood old stands.kin (UndoEvent c.in-UndoEvent.event) in
+    either-stands m rules_now first log old stands log_is c.undo_event.result p c.undo_event.new.client (alone-stands m rules_now first log old stands log_is laws p.1 moved) c.undo_event.ensures.undoes c.undo_event.ensures.err
 
 pub returns-in-Cursor-clause-stands : goal.returns-in-Cursor-clause-stands
 returns-in-Cursor-clause-stands g c =
