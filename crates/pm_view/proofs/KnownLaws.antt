@@ -1,11 +1,11 @@
 -- Parts of the tokens of nodes, where each close knows its node.
-use Rattle.std.specs.Prelude.{◌≡◌, ℕ, ◌+◌, ◌-◌, ◌≤◌, ◌<◌, List, [], ◌∷◌, ◌++◌, length, take, drop}
+use Rattle.std.specs.Prelude.{◌≡◌, ℕ, ◌-◌, ◌≤◌, List, [], ◌∷◌, ◌++◌, length, take, drop}
 use Rattle.std.proofs.Common.{zero, suc, refl, ap, sym, ◌∙◌, arith, append_assoc, length-take, length-drop}
 use Rattle.pm_tokens.specs.Tokens.{Attrs, Marks, Token, Open, Close, Leaf, CodeUnit}
 use Rattle.pm_tokens.specs.Scan.{part, Balanced, none, leaf, unit, node}
 use Rattle.pm_tokens.specs.Kids.{text_tokens}
 use Rattle.pm_tokens.proofs.ListLaws.{part-append}
-use Rattle.pm_view.specs.Known.{Head, head, Known, Opening, Closing, Single, Piece, innermost, outer, known, tokens_of, pieces}
+use Rattle.pm_view.specs.Known.{Head, head, Known, Opening, Closing, Single, Piece, outer, known, tokens_of, pieces}
 use Rattle.pm_view.specs.Views.{viewed}
 
 pub length-known : (s : List Head) (ts : List Token) → length (known s ts) ≡ length ts
@@ -73,16 +73,16 @@ viewed-node f t k a m inner b =
     ∙ ap (λ z. part f t (Opening h ∷ []) ++ z) (part-append (f - 1) (t - 1) mid (Closing h ∷ []) ∙ ap (λ n. part (f - 1) (t - 1) mid ++ part (f - 1 - n) (t - 1 - n) (Closing h ∷ [])) (length-known [] inner)))
 
 -- of a text: its units
-known-text : (s : List Head) (m : Marks) (us : List ℕ) → known s (text_tokens m us) ≡ pieces m us
+pub known-text : (s : List Head) (m : Marks) (us : List ℕ) → known s (text_tokens m us) ≡ pieces m us
 known-text s m [] = refl
 known-text s m (u ∷ us) = ap (λ z. Piece u m ∷ z) (known-text s m us)
 
-pieces-take : (n : ℕ) (m : Marks) (us : List ℕ) → take n (pieces m us) ≡ pieces m (take n us)
+pub pieces-take : (n : ℕ) (m : Marks) (us : List ℕ) → take n (pieces m us) ≡ pieces m (take n us)
 pieces-take zero m us = refl
 pieces-take (suc n) m [] = refl
 pieces-take (suc n) m (u ∷ us) = ap (λ z. Piece u m ∷ z) (pieces-take n m us)
 
-pieces-drop : (n : ℕ) (m : Marks) (us : List ℕ) → drop n (pieces m us) ≡ pieces m (drop n us)
+pub pieces-drop : (n : ℕ) (m : Marks) (us : List ℕ) → drop n (pieces m us) ≡ pieces m (drop n us)
 pieces-drop zero m us = refl
 pieces-drop (suc n) m [] = refl
 pieces-drop (suc n) m (u ∷ us) = pieces-drop n m us

@@ -1,4 +1,7 @@
 pub mod KnownLaws
-pub mod SeenLaws
-pub mod Boundaries
-pub mod Walks
+pub mod SlicedLaws
+pub mod GroupLaws
+pub mod DeepLaws
+pub mod ChildLaws
+pub mod AheadLaws
+pub mod DepthLaws

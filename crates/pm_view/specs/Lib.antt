@@ -1,5 +1,9 @@
 pub mod Known
+pub mod Sliced
 pub mod Views
 pub mod Seen
+pub mod Grouped
 pub mod Parts
+pub mod Ahead
+pub mod Deep
 pub mod Codes

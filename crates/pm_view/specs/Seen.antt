@@ -1,7 +1,7 @@
 -- The parts of a view: an open, a close, a leaf, or a run of units.
 use Rattle.std.specs.Prelude.{◌≡◌, ℕ, ◌<◌, List, [], ◌∷◌, ◌++◌, length, Option, Some, None}
 use Rattle.pm_tokens.specs.Tokens.{Marks}
-use Rattle.pm_view.specs.Known.{Head, Known, Opening, Closing, Single, Piece, pieces}
+use Rattle.pm_view.specs.Known.{Head, Known, Opening, Closing, Single, pieces}
 
 pub data Seen : Type 0 where
   Opens : (node : Head) → Seen

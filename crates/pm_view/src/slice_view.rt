@@ -1,12 +1,13 @@
 //! A part of a document, lent.
-ghost use Rattle.std.specs.Prelude.{◌≡◌, length, IfOk};
-ghost use Rattle.pm_view.specs.Views.{Views};
+ghost use Rattle.std.specs.Prelude.{◌≡◌, ◌≤◌, length, IfOk};
+ghost use Rattle.pm_view.specs.Views.{IsView, Views};
+ghost use Rattle.pm_view.specs.Sliced.{sliced};
 ghost use Rattle.pm_view.specs.Seen.{ArePartsOf};
 
 use crate::tokens::Tokens;
-use crate::walk::put_content;
+use crate::walk::depth_within;
 use pm_node::{Document, Fragment};
-use pm_slice::CutError;
+use pm_slice::{CutError, Slice, cut_content};
 use std::alloc::{AllocError, Global};
 use std::marker::Model;
 
@@ -47,7 +48,17 @@ pub fn view<'a>(doc: &'a Document, from: usize, to: usize) -> Result<SliceView<'
     if content.size() < to {
         return Err(CutError::Range);
     }
-    Ok(SliceView { content, from, to })
+    Ok(view_content(content, from, to))
+}
+
+/// The same of a content.
+pub fn view_content<'a>(content: &'a Fragment, from: usize, to: usize) -> SliceView<'a>
+    requires order { from ≤ to }
+    requires within { to ≤ length content.now }
+    ensures { IsView content.now from to result }
+{
+    let _ = content.size();
+    SliceView { content, from, to }
 }
 
 impl<'a> SliceView<'a> {
@@ -58,12 +69,21 @@ impl<'a> SliceView<'a> {
         self.to - self.from
     }
 
-    /// Its parts in order, to be taken one by one.
+    /// It as a slice, as `cut` gives it: what stands around one of its ends and not around both is open. It shares each node
+    /// but those around its ends.
+    pub fn slice(&self, alloc: Global) -> Result<Slice, AllocError>
+        ensures { IfOk result (λ s. s ≡ sliced self.now) }
+    {
+        let _ = self.content.size();
+        cut_content(alloc, self.content, self.from, self.to)
+    }
+
+    /// Its parts in order, to be taken one by one. It takes memory for the nodes around a part, and for no part.
     pub fn tokens(&self, alloc: Global) -> Result<Tokens<'a>, AllocError>
         ensures { IfOk result (ArePartsOf self.now) }
     {
-        let mut parts = Vec::new(alloc);
-        put_content(&mut parts, self.content, self.from, self.to)?;
-        Ok(Tokens::new(parts))
+        let depth = depth_within(self.content, self.from, self.to);
+        let outer = Vec::with_capacity(alloc, depth)?;
+        Tokens::enter(self.content, self.from, self.to - self.from, outer)
     }
 }

@@ -1,106 +1,46 @@
-//! The parts of a content, put one behind another.
-ghost use Rattle.std.specs.Prelude.{◌≡◌, [], ◌∷◌, ◌<◌, length, OnOk};
-ghost use Rattle.pm_tokens.specs.Scan.{part};
+//! How many nodes are around the positions of a part of a content.
+ghost use Rattle.std.specs.Prelude.{◌≤◌, length};
 ghost use Rattle.pm_node.specs.Trees.{node_tokens};
-ghost use Rattle.pm_view.specs.Known.{known, pieces};
-ghost use Rattle.pm_view.specs.Views.{viewed};
-ghost use Rattle.pm_view.specs.Seen.{seen_tokens};
-ghost use Rattle.pm_view.specs.Parts.{seen, Puts, IsHead};
+ghost use Rattle.pm_view.specs.Deep.{NoDeeper, NodeNoDeeper};
 
-use crate::part::{Part, TextRun};
-use pm_attrs::Attrs;
-use pm_marks::MarkSet;
 use pm_node::{Body, Fragment, Node};
-use std::alloc::AllocError;
 
-/// Puts the parts of the tokens from..to of a content behind the others. It looks at no child before `from` and at none from
-/// `to` on.
-#[cycle(walk)]
-pub(crate) fn put_content<'a>(
-    parts: &mut Vec<Part<'a>>,
-    content: &'a Fragment,
-    from: usize,
-    to: usize,
-) -> Result<(), AllocError>
-    ensures { OnOk result (Puts (viewed content.now from to) parts.old.items parts.new.items) }
+/// A number that is no less than that of the nodes around any of the positions from..to. It looks at no child before `from`
+/// and at none from `to` on, and takes no memory.
+#[cycle(deep)]
+pub(crate) fn depth_within(content: &Fragment, from: usize, to: usize) -> usize
+    ensures deep { NoDeeper content.now from to result }
+    ensures bound { result ≤ length content.now }
 {
     let children = content.children();
     let start = children.size().min(from);
     let found = children.find(start);
     let mut at = start - found.rest;
+    let mut most = 0;
     for i in found.index..children.len() {
         if to <= at {
-            return Ok(());
+            return most;
         }
-        let child: &'a Node = children.get(i);
+        let child: &Node = children.get(i);
         let size = child.size();
-        put_node(parts, child, from.saturating_sub(at), to - at)?;
+        let here = depth_in(child, from.saturating_sub(at), to - at);
+        most = most.max(here);
         at += size;
     }
-    Ok(())
+    most
 }
 
-/// The same of a node.
-#[cycle(walk)]
-fn put_node<'a>(
-    parts: &mut Vec<Part<'a>>,
-    node: &'a Node,
-    from: usize,
-    to: usize,
-) -> Result<(), AllocError>
-    ensures { OnOk result (Puts (viewed (node_tokens node.now) from to) parts.old.items parts.new.items) }
+/// The same of the positions of a node, in the list that holds it.
+#[cycle(deep)]
+fn depth_in(node: &Node, from: usize, to: usize) -> usize
+    ensures deep { NodeNoDeeper node.now from to result }
+    ensures bound { result ≤ length (node_tokens node.now) }
 {
     match &node.body {
-        Body::Text(units) => put_run(parts, units.as_slice(), &node.marks, from, to),
-        Body::Leaf => put_one(parts, Part::Leaf(node), from, to),
-        Body::Children(content) => {
-            let size = content.size();
-            let start = from.saturating_sub(1);
-            let end = to.saturating_sub(1);
-            put_one(parts, Part::Open(node), from, to)?;
-            put_content(parts, content, start, end)?;
-            put_one(
-                parts,
-                Part::Close(node),
-                start.saturating_sub(size),
-                end.saturating_sub(size),
-            )
+        Body::Children(inner) => {
+            let _ = inner.size();
+            1 + depth_within(inner, from.saturating_sub(1), to.saturating_sub(1))
         }
+        _ => 0,
     }
-}
-
-/// The same of a part of one token.
-fn put_one<'a>(
-    parts: &mut Vec<Part<'a>>,
-    one: Part<'a>,
-    from: usize,
-    to: usize,
-) -> Result<(), AllocError>
-    requires { IsHead one }
-    ensures { OnOk result (Puts (part from to (seen_tokens (seen one.entry))) parts.old.items parts.new.items) }
-{
-    if from == 0 && 0 < to {
-        parts.push(one)?;
-    }
-    Ok(())
-}
-
-/// The same of the units of a text.
-fn put_run<'a>(
-    parts: &mut Vec<Part<'a>>,
-    units: &'a [u16],
-    marks: &'a MarkSet<Attrs>,
-    from: usize,
-    to: usize,
-) -> Result<(), AllocError>
-    ensures { OnOk result (Puts (pieces marks.now (part from to units.now)) parts.old.items parts.new.items) }
-{
-    let end = units.len().min(to);
-    if from < end {
-        parts.push(Part::Run(TextRun {
-            units: &units[from..end],
-            marks,
-        }))?;
-    }
-    Ok(())
 }
