@@ -13,12 +13,12 @@ use Rattle.pm_meaning.specs.Runs.{run_steps, close_run}
 use Rattle.pm_step.specs.declared.marking.Marking.{Marking}
 use Rattle.pm_step.specs.declared.marking.Marking.TheVariants.{Add, Remove}
 use Rattle.pm_apply.specs.declared.runs.Runs.{Runs}
-use Rattle.pm_apply.specs.declared.runs.Place.TheVariants.{Range, Node}
+use Rattle.pm_apply.specs.declared.target.Target.TheVariants.{Range, Node}
 use Rattle.pm_apply.specs.declared.marking.Reach.TheVariants.{Inline}
 use Rattle.pm_step.specs.Steps.{opposite, range_step, node_step}
 use Rattle.pm_apply.specs.Markings.{marked_in, new_marks}
 use Rattle.pm_apply.specs.Backs.{marked_twice}
-use Rattle.pm_apply.specs.Walks.{due_all, run_after, Took, run_of, place_step}
+use Rattle.pm_apply.specs.Walks.{due_all, run_after, Took, run_of, target_step}
 use Rattle.pm_apply.proofs.MarkedLaws.{read-is, read-length}
 use Rattle.pm_apply.proofs.MarkOutcomes.{range-checked}
 use Rattle.pm_apply.proofs.SameTokens.{checked-gives}
@@ -83,8 +83,8 @@ module _ (s : Schema) (m : Marking) (from to : ℕ) (d : Doc) (v : Valid s d) (h
         ∙ (ap (λ z. due_all s 0 None d.tokens after ++ close_run (run_after s 0 None d.tokens after) z) n ∙ back-by-runs e)))
 
 -- the step that does this to a range, as the step at a place
-pub place-range : (b : Marking) (from to : ℕ) → place_step (Range from to) b ≡ range_step b from to
-place-range b from to = refl
+pub target-range : (b : Marking) (from to : ℕ) → target_step (Range from to) b ≡ range_step b from to
+target-range b from to = refl
 
-pub place-node : (b : Marking) (pos : ℕ) → place_step (Node pos) b ≡ node_step b pos
-place-node b pos = refl
+pub target-node : (b : Marking) (pos : ℕ) → target_step (Node pos) b ≡ node_step b pos
+target-node b pos = refl

@@ -99,10 +99,10 @@ pub step_sync : IsSync step.the_row
 step_sync = search (sendable, slice_sync, attrs_sync, Values.crosses, crosses) depth 20
 
 pub change_send : IsSend change.the_row
-change_send = search (sendable, slice_send, attrs_send, Values.crosses, crosses) depth 40
+change_send = search (sendable, crosses, step_send, step_sync) depth 20
 
 pub change_sync : IsSync change.the_row
-change_sync = search (sendable, slice_sync, attrs_sync, Values.crosses, crosses) depth 40
+change_sync = search (sendable, crosses, step_send, step_sync) depth 20
 
 -- for `search`
 pub ruleset change_crosses = (schema_send, schema_sync, document_send, document_sync, change_send, change_sync)

@@ -8,11 +8,11 @@ use Rattle.pm_marks.specs.Sets.{has}
 use Rattle.pm_tokens.specs.Tokens.{Attrs, Marks}
 use Rattle.pm_meaning.specs.Steps.{Step, AddMark, RemoveMark, AddNodeMark, RemoveNodeMark}
 use Rattle.pm_meaning.specs.Inverses.{first_lost}
-use Rattle.pm_apply.specs.declared.runs.Place.{Place}
-use Rattle.pm_apply.specs.declared.runs.Place.TheVariants.{Range, Node}
+use Rattle.pm_apply.specs.declared.target.Target.{Target}
+use Rattle.pm_apply.specs.declared.target.Target.TheVariants.{Range, Node}
 use Rattle.pm_step.specs.declared.marking.Marking.{Marking}
 use Rattle.pm_step.specs.declared.marking.Marking.TheVariants.{Add, Remove}
-use Rattle.pm_apply.specs.Walks.{place_step, given_back}
+use Rattle.pm_apply.specs.Walks.{target_step, given_back}
 
 -- ---- the first mark that is lost
 
@@ -43,11 +43,11 @@ nil-end : {A : Type 0} (xs : List A) → xs ++ [] ≡ xs
 nil-end [] = refl
 nil-end (x ∷ xs) = ap (λ z. x ∷ z) (nil-end xs)
 
-added-push : (p : Place) (ms : Marks) (m : Mark Attrs) → given_back p (ms ++ (m ∷ [])) [] ≡ given_back p ms [] ++ (place_step p (Add m) ∷ [])
+added-push : (p : Target) (ms : Marks) (m : Mark Attrs) → given_back p (ms ++ (m ∷ [])) [] ≡ given_back p ms [] ++ (target_step p (Add m) ∷ [])
 added-push (Range from to) ms m = map-push (λ n. AddMark from to n) ms m
 added-push (Node pos) ms m = map-push (λ n. AddNodeMark pos n) ms m
 
-removed-push : (p : Place) (ms : Marks) (m : Mark Attrs) → given_back p [] (ms ++ (m ∷ [])) ≡ given_back p [] ms ++ (place_step p (Remove m) ∷ [])
+removed-push : (p : Target) (ms : Marks) (m : Mark Attrs) → given_back p [] (ms ++ (m ∷ [])) ≡ given_back p [] ms ++ (target_step p (Remove m) ∷ [])
 removed-push (Range from to) ms m =
     nil-end (map (λ n. RemoveMark from to n) (ms ++ (m ∷ []))) ∙ (map-push (λ n. RemoveMark from to n) ms m ∙ ap (λ z. z ++ (RemoveMark from to m ∷ [])) (sym (nil-end (map (λ n. RemoveMark from to n) ms))))
 removed-push (Node pos) ms m =
@@ -57,33 +57,33 @@ upto : (xs : Marks) (i : ℕ) (x : Mark Attrs) → i < length xs → x ≡ get_o
 upto xs i x l r = take_more xs i x l ∙ ap (λ z. take i xs ++ (z ∷ [])) (sym r)
 
 -- a step with a copy of the mark
-pub copied : (p : Place) (does : Mark Attrs → Marking) (x y : Mark Attrs) (b c : List Step) → y ≡ x → c ≡ b ++ (place_step p (does y) ∷ []) → c ≡ b ++ (place_step p (does x) ∷ [])
-copied p does x y b c same e = e ∙ ap (λ z. b ++ (place_step p (does z) ∷ [])) same
+pub copied : (p : Target) (does : Mark Attrs → Marking) (x y : Mark Attrs) (b c : List Step) → y ≡ x → c ≡ b ++ (target_step p (does y) ∷ []) → c ≡ b ++ (target_step p (does x) ∷ [])
+copied p does x y b c same e = e ∙ ap (λ z. b ++ (target_step p (does z) ∷ [])) same
 
-pub added-more : (p : Place) (xs : Marks) (i : ℕ) (x : Mark Attrs) (a b c : List Step) → i < length xs → x ≡ get_or xs i x
-    → b ≡ a ++ given_back p (take i xs) [] → c ≡ b ++ (place_step p (Add x) ∷ []) → c ≡ a ++ given_back p (take (i + 1) xs) []
+pub added-more : (p : Target) (xs : Marks) (i : ℕ) (x : Mark Attrs) (a b c : List Step) → i < length xs → x ≡ get_or xs i x
+    → b ≡ a ++ given_back p (take i xs) [] → c ≡ b ++ (target_step p (Add x) ∷ []) → c ≡ a ++ given_back p (take (i + 1) xs) []
 added-more p xs i x a b c l r inv e =
-    e ∙ (ap (λ z. z ++ (place_step p (Add x) ∷ [])) inv ∙ (append_assoc a (given_back p (take i xs) []) (place_step p (Add x) ∷ [])
+    e ∙ (ap (λ z. z ++ (target_step p (Add x) ∷ [])) inv ∙ (append_assoc a (given_back p (take i xs) []) (target_step p (Add x) ∷ [])
     ∙ ap (λ z. a ++ z) (sym (ap (λ z. given_back p z []) (upto xs i x l r) ∙ added-push p (take i xs) x))))
 
-pub removed-more : (p : Place) (xs : Marks) (i : ℕ) (x : Mark Attrs) (a b c : List Step) → i < length xs → x ≡ get_or xs i x
-    → b ≡ a ++ given_back p [] (take i xs) → c ≡ b ++ (place_step p (Remove x) ∷ []) → c ≡ a ++ given_back p [] (take (i + 1) xs)
+pub removed-more : (p : Target) (xs : Marks) (i : ℕ) (x : Mark Attrs) (a b c : List Step) → i < length xs → x ≡ get_or xs i x
+    → b ≡ a ++ given_back p [] (take i xs) → c ≡ b ++ (target_step p (Remove x) ∷ []) → c ≡ a ++ given_back p [] (take (i + 1) xs)
 removed-more p xs i x a b c l r inv e =
-    e ∙ (ap (λ z. z ++ (place_step p (Remove x) ∷ [])) inv ∙ (append_assoc a (given_back p [] (take i xs)) (place_step p (Remove x) ∷ [])
+    e ∙ (ap (λ z. z ++ (target_step p (Remove x) ∷ [])) inv ∙ (append_assoc a (given_back p [] (take i xs)) (target_step p (Remove x) ∷ [])
     ∙ ap (λ z. a ++ z) (sym (ap (λ z. given_back p [] z) (upto xs i x l r) ∙ removed-push p (take i xs) x))))
 
-pub given-nothing : (p : Place) (a : List Step) → a ≡ a ++ given_back p [] []
+pub given-nothing : (p : Target) (a : List Step) → a ≡ a ++ given_back p [] []
 given-nothing (Range from to) a = sym (nil-end a)
 given-nothing (Node pos) a = sym (nil-end a)
 
-pub all-added : (p : Place) (xs : Marks) (i : ℕ) (a b : List Step) → b ≡ a ++ given_back p (take i xs) [] → length xs ≤ i → b ≡ a ++ given_back p xs []
+pub all-added : (p : Target) (xs : Marks) (i : ℕ) (a b : List Step) → b ≡ a ++ given_back p (take i xs) [] → length xs ≤ i → b ≡ a ++ given_back p xs []
 all-added p xs i a b inv l = inv ∙ ap (λ z. a ++ given_back p z []) (take_all i xs l)
 
-pub all-removed : (p : Place) (xs : Marks) (i : ℕ) (a b : List Step) → b ≡ a ++ given_back p [] (take i xs) → length xs ≤ i → b ≡ a ++ given_back p [] xs
+pub all-removed : (p : Target) (xs : Marks) (i : ℕ) (a b : List Step) → b ≡ a ++ given_back p [] (take i xs) → length xs ≤ i → b ≡ a ++ given_back p [] xs
 all-removed p xs i a b inv l = inv ∙ ap (λ z. a ++ given_back p [] z) (take_all i xs l)
 
 -- the new marks removed, and then the old ones added
-pub given-both : (p : Place) (old new : Marks) (a b c : List Step) → b ≡ a ++ given_back p [] new → c ≡ b ++ given_back p old [] → c ≡ a ++ given_back p old new
+pub given-both : (p : Target) (old new : Marks) (a b c : List Step) → b ≡ a ++ given_back p [] new → c ≡ b ++ given_back p old [] → c ≡ a ++ given_back p old new
 given-both (Range from to) old new a b c e f =
     f ∙ (ap (λ z. z ++ given_back (Range from to) old []) e ∙ (append_assoc a (given_back (Range from to) [] new) (given_back (Range from to) old [])
     ∙ ap (λ z. a ++ (z ++ given_back (Range from to) old [])) (nil-end (map (λ n. RemoveMark from to n) new))))

@@ -10,18 +10,18 @@ use Rattle.pm_meaning.specs.Runs as runs
 use Rattle.pm_meaning.specs.Runs.{range_steps, node_steps, continues, due, next_run}
 use Rattle.pm_apply.specs.declared.runs.Run.{Run}
 use Rattle.pm_apply.specs.declared.runs.Runs.{Runs}
-use Rattle.pm_apply.specs.declared.runs.Place.{Place}
-use Rattle.pm_apply.specs.declared.runs.Place.TheVariants.{Range, Node}
+use Rattle.pm_apply.specs.declared.target.Target.{Target}
+use Rattle.pm_apply.specs.declared.target.Target.TheVariants.{Range, Node}
 use Rattle.pm_step.specs.declared.marking.Marking.{Marking}
 use Rattle.pm_step.specs.Steps.{node_step, range_step}
 
--- the step that adds a mark at the place, or removes it
-abbrev pub place_step : Place → Marking → Step
-place_step (Range from to) marking = range_step marking from to
-place_step (Node pos) marking = node_step marking pos
+-- the step that adds a mark to the target, or removes it
+abbrev pub target_step : Target → Marking → Step
+target_step (Range from to) marking = range_step marking from to
+target_step (Node pos) marking = node_step marking pos
 
--- the steps that give the old marks back at the place
-abbrev pub given_back : Place → Marks → Marks → List Step
+-- the steps that give the old marks back to the target
+abbrev pub given_back : Target → Marks → Marks → List Step
 given_back (Range from to) old new = range_steps from to old new
 given_back (Node pos) old new = node_steps pos old new
 

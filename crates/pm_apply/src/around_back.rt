@@ -16,8 +16,9 @@ use pm_build::Refused;
 use pm_node::{Fragment, Node};
 use pm_replace::splice;
 use pm_schema::Schema;
-use pm_slice::{Slice, cut_content};
+use pm_slice::Slice;
 use pm_step::{ReplaceAroundStep, Step};
+use pm_view::view_content;
 use std::alloc::{AllocError, Global};
 
 /// The step that puts what stands around the gap back in place of the slice. It has `structure` where the step had it and both
@@ -87,7 +88,8 @@ fn cut_around(
     ensures { IfOk result (λ s. s ≡ cut_around content.now ends.from ends.to ends.gap_from ends.gap_to) }
 {
     let _ = content.size();
-    let cut = cut_content(alloc, content, ends.from, ends.to)?;
+    let before = view_content(content, ends.from, ends.to);
+    let cut = before.slice(alloc)?;
     let open_start = cut.open_start();
     let open_end = cut.open_end();
     let start = open_start + (ends.gap_from - ends.from);

@@ -1,5 +1,5 @@
 //! Steps as changes.
-ghost use Rattle.std.specs.Prelude.{◌≡◌};
+ghost use Rattle.std.specs.Prelude.{◌≡◌, IfOk};
 ghost use Rattle.pm_step.specs.Steps.{step_of};
 
 use crate::apply::apply;
@@ -12,14 +12,17 @@ use pm_schema::Schema;
 use pm_step::Step;
 use std::alloc::{AllocError, Global};
 use std::marker::Model;
+use std::sync::Arc;
 
-/// A step, as a change of documents under a schema.
+/// A step, as a change of documents under a schema. Its copies share the step: the log, messages, answers and histories hold one
+/// value.
 #[derive(Drop)]
 pub struct DocChange {
-    pub step: Step,
+    step: Arc<Step, Global>,
 }
 
 impl Model for DocChange {
+    ghost use Rattle.std.specs.Arc.{arc_value};
     ghost use Rattle.pm_meaning.specs.Steps as steps;
     ghost use Rattle.pm_step.specs.Codes.{step_code};
     ghost use Rattle.pm_step.specs.Steps.{step_of};
@@ -28,15 +31,24 @@ impl Model for DocChange {
 
     ghost coded = { step_code };
 
-    ghost view = { λ c. step_of c.step };
+    ghost view = { λ c. step_of (arc_value c.step) };
 }
 
 impl DocChange {
     /// The change that a step is.
-    pub fn new(step: Step) -> DocChange
-        ensures { result ≡ step_of step }
+    pub fn new(alloc: Global, step: Step) -> Result<DocChange, AllocError>
+        ensures { IfOk result (λ c. c ≡ step_of step) }
     {
-        DocChange { step }
+        Ok(DocChange {
+            step: Arc::new(alloc, step)?,
+        })
+    }
+
+    /// The step that the change is. It takes no memory.
+    pub fn step(&self) -> &Step
+        ensures { step_of result.now ≡ self.now }
+    {
+        &self.step
     }
 }
 
@@ -76,7 +88,7 @@ impl Change for DocChange {
 
     fn carry(&self, alloc: Global, mapping: &Mapping) -> Result<Option<DocChange>, AllocError> {
         match self.step.carry(alloc, mapping)? {
-            Some(step) => Ok(Some(DocChange { step })),
+            Some(step) => Ok(Some(DocChange::new(alloc, step)?)),
             None => Ok(None),
         }
     }
@@ -85,9 +97,10 @@ impl Change for DocChange {
         doc.size()
     }
 
-    fn copy(&self, alloc: Global) -> Result<DocChange, AllocError> {
-        let step = self.step.copy(alloc)?;
-        Ok(DocChange { step })
+    fn copy(&self, _alloc: Global) -> Result<DocChange, AllocError> {
+        Ok(DocChange {
+            step: Arc::try_clone(&self.step)?,
+        })
     }
 
     fn copy_doc(_alloc: Global, doc: &Document) -> Result<Document, AllocError> {

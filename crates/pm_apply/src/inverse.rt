@@ -57,6 +57,6 @@ fn one(alloc: Global, step: Step) -> Result<Vec<DocChange>, AllocError>
     ensures { IfOk result (λ v. v.items ≡ step_of step ∷ []) }
 {
     let mut steps = Vec::new(alloc);
-    steps.push(DocChange::new(step))?;
+    steps.push(DocChange::new(alloc, step)?)?;
     Ok(steps)
 }

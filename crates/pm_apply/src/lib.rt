@@ -16,5 +16,6 @@ mod restoring;
 mod runs;
 mod sides;
 mod taking;
+mod target;
 
 pub use change::DocChange;

@@ -13,7 +13,8 @@ use crate::change::DocChange;
 use crate::marking::Reach;
 use crate::marks::mark_content;
 use crate::restoring::restores;
-use crate::runs::{Place, Runs, push_step};
+use crate::runs::Runs;
+use crate::target::{Target, push_step};
 use pm_build::parts_pair;
 use pm_change::Failed;
 use pm_meaning::Reason;
@@ -88,7 +89,7 @@ pub fn range_back(
     let kept = restores(alloc, schema, top.kind, content, from, to, marking, &back)?;
     if kept {
         let mut steps = Vec::new(alloc);
-        push_step(&mut steps, Place::Range { from, to }, back)?;
+        push_step(alloc, &mut steps, Target::Range { from, to }, back)?;
         return Ok(steps);
     }
     let mut runs = Runs::new(alloc);

@@ -14,8 +14,9 @@ ghost use Rattle.pm_apply.specs.Backs.{back_step};
 use crate::change::DocChange;
 use crate::marking::{Reach, change};
 use crate::marks::mark_content;
-use crate::runs::{Place, give_back, push_step};
+use crate::runs::give_back;
 use crate::sides::node_marks_at;
+use crate::target::{Target, push_step};
 use pm_attrs::Attrs;
 use pm_build::parts_pair;
 use pm_change::Failed;
@@ -89,14 +90,14 @@ pub fn node_back(
     let new = change(alloc, schema, marking, old)?;
     let back = one_back(alloc, marking, old, &new)?;
     let restored = change(alloc, schema, &back, &new)?;
-    let place = Place::Node { pos };
+    let target = Target::Node { pos };
     let mut steps = Vec::new(alloc);
     let same = restored.same(old);
     if same {
-        push_step(&mut steps, place, back)?;
+        push_step(alloc, &mut steps, target, back)?;
         return Ok(steps);
     }
-    give_back(alloc, &mut steps, place, old, &new)?;
+    give_back(alloc, &mut steps, target, old, &new)?;
     Ok(steps)
 }
 

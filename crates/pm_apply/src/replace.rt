@@ -15,8 +15,8 @@ use pm_meaning::Reason;
 use pm_node::{Document, Fragment, Node};
 use pm_replace::splice_valid;
 use pm_schema::Schema;
-use pm_slice::cut_content;
 use pm_step::{ReplaceStep, Step};
+use pm_view::view_content;
 use std::alloc::{AllocError, Global};
 
 /// The document with the top node's head and this content, with the step's range replaced by its slice, or the first reason
@@ -71,7 +71,8 @@ pub fn replace_back(
     ensures { IfOk result (λ s. step_of s ≡ replace_back (doc_with top.now content.now) step.now.from step.now.to step.now.slice) }
 {
     let _ = content.size();
-    let cut = cut_content(alloc, content, step.from as usize, step.to as usize)?;
+    let before = view_content(content, step.from as usize, step.to as usize);
+    let cut = before.slice(alloc)?;
     Ok(Step::Replace(ReplaceStep {
         from: step.from,
         to: step.from + step.slice.size() as u64,

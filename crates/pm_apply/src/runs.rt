@@ -6,20 +6,14 @@ ghost use Rattle.pm_tokens.specs.Tokens.{Token};
 ghost use Rattle.pm_tokens.specs.Schemas.{Schema};
 ghost use Rattle.pm_meaning.specs.Runs.{close_run, continues, due, next_run};
 ghost use Rattle.pm_step.specs.Steps.{step_of};
-ghost use Rattle.pm_apply.specs.Walks.{Took, given_back, place_step, run_of};
+ghost use Rattle.pm_apply.specs.Walks.{Took, given_back, run_of};
 
 use crate::change::DocChange;
+use crate::target::{Target, push_step};
 use pm_attrs::Attrs;
 use pm_marks::{Mark, MarkSet};
-use pm_step::{MarkStep, Marking, NodeMarkStep, Step};
+use pm_step::Marking;
 use std::alloc::{AllocError, Global};
-
-/// Where marks are given back: in a range, or at one node.
-#[derive(Clone, Copy)]
-pub enum Place {
-    Range { from: usize, to: usize },
-    Node { pos: usize },
-}
 
 /// Neighbouring tokens that had one set of marks and have another now.
 #[derive(Drop)]
@@ -37,54 +31,31 @@ pub struct Runs {
     pub run: Option<Run>,
 }
 
-/// Puts the step that does this at the place behind the others.
-pub fn push_step(
-    steps: &mut Vec<DocChange>,
-    place: Place,
-    marking: Marking,
-) -> Result<(), AllocError>
-    ensures { OnOk result (steps.new.items ≡ steps.old.items ++ place_step place marking ∷ []) }
-{
-    let step = match place {
-        Place::Range { from, to } => Step::Mark(MarkStep {
-            from: from as u64,
-            to: to as u64,
-            marking,
-        }),
-        Place::Node { pos } => Step::NodeMark(NodeMarkStep {
-            pos: pos as u64,
-            marking,
-        }),
-    };
-    steps.push(DocChange::new(step))?;
-    Ok(())
-}
-
 /// Puts the steps that give the old marks back behind the others: the new ones are removed in order, and then the old ones added
 /// in order.
 pub fn give_back(
     alloc: Global,
     steps: &mut Vec<DocChange>,
-    place: Place,
+    target: Target,
     old: &MarkSet<Attrs>,
     new: &MarkSet<Attrs>,
 ) -> Result<(), AllocError>
-    ensures { OnOk result (steps.new.items ≡ steps.old.items ++ given_back place old.now new.now) }
+    ensures { OnOk result (steps.new.items ≡ steps.old.items ++ given_back target old.now new.now) }
 {
-    remove_all(alloc, steps, place, new.marks())?;
-    add_all(alloc, steps, place, old.marks())
+    remove_all(alloc, steps, target, new.marks())?;
+    add_all(alloc, steps, target, old.marks())
 }
 
 fn remove_all(
     alloc: Global,
     steps: &mut Vec<DocChange>,
-    place: Place,
+    target: Target,
     marks: &[Mark<Attrs>],
 ) -> Result<(), AllocError>
-    ensures { OnOk result (steps.new.items ≡ steps.old.items ++ given_back place [] marks.now) }
+    ensures { OnOk result (steps.new.items ≡ steps.old.items ++ given_back target [] marks.now) }
 {
     for mark in marks {
-        push_step(steps, place, Marking::Remove(mark.copy(alloc)?))?;
+        push_step(alloc, steps, target, Marking::Remove(mark.copy(alloc)?))?;
     }
     Ok(())
 }
@@ -92,13 +63,13 @@ fn remove_all(
 fn add_all(
     alloc: Global,
     steps: &mut Vec<DocChange>,
-    place: Place,
+    target: Target,
     marks: &[Mark<Attrs>],
 ) -> Result<(), AllocError>
-    ensures { OnOk result (steps.new.items ≡ steps.old.items ++ given_back place marks.now []) }
+    ensures { OnOk result (steps.new.items ≡ steps.old.items ++ given_back target marks.now []) }
 {
     for mark in marks {
-        push_step(steps, place, Marking::Add(mark.copy(alloc)?))?;
+        push_step(alloc, steps, target, Marking::Add(mark.copy(alloc)?))?;
     }
     Ok(())
 }
@@ -121,11 +92,11 @@ impl Runs {
     {
         match self.run.take() {
             Some(run) => {
-                let place = Place::Range {
+                let target = Target::Range {
                     from: run.start,
                     to: at,
                 };
-                give_back(alloc, &mut self.steps, place, &run.old, &run.new)
+                give_back(alloc, &mut self.steps, target, &run.old, &run.new)
             }
             None => Ok(()),
         }
@@ -172,7 +143,7 @@ impl Runs {
         }
         if !takes {
             self.close(alloc, at)?;
-            return give_back(alloc, &mut self.steps, Place::Node { pos: at }, old, new);
+            return give_back(alloc, &mut self.steps, Target::Node { pos: at }, old, new);
         }
         if self.goes_on(old, new) {
             return Ok(());

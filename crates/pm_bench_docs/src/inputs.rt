@@ -72,7 +72,7 @@ fn changes_of(alloc: Global, schema: &Schema, text: &str) -> Result<Vec<DocChang
     let mut changes = Vec::new(alloc);
     for line in text.lines().skip(2) {
         let json = Value::from_str(alloc, line)?;
-        changes.push(DocChange::new(read_step(alloc, schema, &json)?))?;
+        changes.push(DocChange::new(alloc, read_step(alloc, schema, &json)?)?)?;
     }
     Ok(changes)
 }

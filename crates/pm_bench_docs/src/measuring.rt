@@ -67,7 +67,7 @@ fn of_step<R: Clock + AllocGlobal>(
         Call::Apply => steps::apply(rt, schema, document, change),
         Call::Invert => steps::invert(rt, schema, document, change),
         Call::Map => steps::map(rt, schema, document, change),
-        Call::Resolve | Call::Splice | Call::Replace => of_edit(rt, call, inputs, &change.step),
+        Call::Resolve | Call::Splice | Call::Replace => of_edit(rt, call, inputs, change.step()),
     }
 }
 

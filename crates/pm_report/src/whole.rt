@@ -87,7 +87,7 @@ fn push_entry(
 ) -> Result<(), AllocError>
     ensures { OnOk result (string_bytes text.new ≡ string_bytes text.old ++ line (decimal place & name_at entries.now entry.now.name.client & decimal entry.now.name.serial & step_text schema.now.spec entry.now.change)) }
 {
-    let step = step_text(alloc, schema, &entry.change.step)?;
+    let step = step_text(alloc, schema, entry.change.step())?;
     let name = name_at(entries, entry.name.client as usize);
     push_words(text, place, name, entry.name.serial, step.as_str())
 }

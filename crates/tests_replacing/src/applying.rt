@@ -35,7 +35,7 @@ pub(crate) fn applied(
 ) -> Result<String, Fail>
     requires { Valid (documents_of schema.now.spec) before.now }
 {
-    let change = DocChange::new(step);
+    let change = DocChange::new(alloc, step)?;
     told(alloc, schema, change.apply(alloc, schema, before))
 }
 

@@ -13,7 +13,7 @@ use std::alloc::Global;
 use std::test::Fail;
 
 fn change(alloc: Global, schema: &Schema, text: &str) -> Result<DocChange, Fail> {
-    Ok(DocChange::new(step(alloc, schema, text)?))
+    Ok(DocChange::new(alloc, step(alloc, schema, text)?)?)
 }
 
 /// The step before `over`, carried over the step behind it, as a JSON text and a line feed, or `!lost`.
@@ -36,7 +36,7 @@ fn shown(alloc: Global, schema: &Schema, change: Option<&DocChange>) -> Result<S
     let Some(change) = change else {
         return Ok(String::from_str(alloc, "!lost")?);
     };
-    let mut text = step_text(alloc, schema, &change.step)?;
+    let mut text = step_text(alloc, schema, change.step())?;
     text.push('\n')?;
     Ok(text)
 }

@@ -23,7 +23,7 @@ pub(crate) fn undone(
 ) -> Result<String, Fail>
     requires { Valid (documents_of schema.now.spec) before.now }
 {
-    let change = DocChange::new(step);
+    let change = DocChange::new(alloc, step)?;
     let Tried { next, backs } = there_and_back(alloc, schema, before, &change)?;
     let again = text_after(alloc, schema, next, &backs)?;
     if again.as_str() != document_text(alloc, schema, before)?.as_str() {
@@ -59,7 +59,7 @@ fn next_after(
 fn texts(alloc: Global, schema: &Schema, changes: &[DocChange]) -> Result<String, Fail> {
     let mut out = String::new(alloc);
     for change in changes {
-        out.push_str(step_text(alloc, schema, &change.step)?.as_str())?;
+        out.push_str(step_text(alloc, schema, change.step())?.as_str())?;
         out.push('\n')?;
     }
     Ok(out)

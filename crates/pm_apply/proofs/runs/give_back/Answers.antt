@@ -7,7 +7,7 @@ use Rattle.pm_apply.proofs.runs.give_back.Goals as goal
 pub returns : goal.returns
 returns c =
     on_ok_weaker c.add_all.result
-    (λ e. given-both c.args.place c.args.old.now c.args.new.now c.args.steps.now.items c.remove_all.new.steps.items c.add_all.new.steps.items
-    (c.in_ok-remove_all.ensures ∙ ap (λ z. c.args.steps.now.items ++ given_back c.args.place [] z) c.marks.ensures)
-    (e ∙ ap (λ z. c.remove_all.new.steps.items ++ given_back c.args.place z []) c.marks-2.ensures))
+    (λ e. given-both c.args.target c.args.old.now c.args.new.now c.args.steps.now.items c.remove_all.new.steps.items c.add_all.new.steps.items
+    (c.in_ok-remove_all.ensures ∙ ap (λ z. c.args.steps.now.items ++ given_back c.args.target [] z) c.marks.ensures)
+    (e ∙ ap (λ z. c.remove_all.new.steps.items ++ given_back c.args.target z []) c.marks-2.ensures))
     c.add_all.ensures

@@ -3,12 +3,12 @@ use Rattle.pm_apply.proofs.FirstLost.{copied, removed-more, all-removed, given-n
 use Rattle.pm_apply.proofs.runs.remove_all.Goals as goal
 
 pub loop-mark-init : goal.loop-mark-init
-loop-mark-init c = given-nothing c.args.place c.args.steps.now.items
+loop-mark-init c = given-nothing c.args.target c.args.steps.now.items
 
 pub loop-mark-preserved : goal.loop-mark-preserved
 loop-mark-preserved c =
-    removed-more c.args.place c.args.marks.now c.loop-mark.mark-index c.mark-item.result c.args.steps.now.items _ _ c.loop-mark-test.true c.mark-item.is
-    c.loop-mark.invariant (copied c.args.place Remove _ _ _ _ c.in_ok-copy.ensures c.in_ok-push_step.ensures)
+    removed-more c.args.target c.args.marks.now c.loop-mark.mark-index c.mark-item.result c.args.steps.now.items _ _ c.loop-mark-test.true c.mark-item.is
+    c.loop-mark.invariant (copied c.args.target Remove _ _ _ _ c.in_ok-copy.ensures c.in_ok-push_step.ensures)
 
 pub returns : goal.returns
-returns c = all-removed c.args.place c.args.marks.now c.loop-mark.mark-index c.args.steps.now.items _ c.loop-mark.invariant c.loop-mark-test.false
+returns c = all-removed c.args.target c.args.marks.now c.loop-mark.mark-index c.args.steps.now.items _ c.loop-mark.invariant c.loop-mark-test.false
