@@ -9,7 +9,7 @@
 //! let before = Document::new(alloc, read_node(alloc, &schema, &Json::from_str(alloc, doc_text)?)?)?;
 //! before.check(alloc, &schema)?;
 //! let step = read_step(alloc, &schema, &Json::from_str(alloc, step_text)?)?;
-//! let after = DocChange::new(step).apply(alloc, &schema, &before);
+//! let after = DocChange::new(alloc, step)?.apply(alloc, &schema, &before);
 //! ```
 #![tactic(auto)]
 

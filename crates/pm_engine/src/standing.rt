@@ -1,13 +1,14 @@
 //! Calls of a client that stands to the log of an authority in the same program.
-ghost use Rattle.std.specs.Prelude.{◌≡◌, ◌↔◌, [], Ok, Err, Some, None, IfOk, IfErr, OnErr, length};
+ghost use Rattle.std.specs.Prelude.{◌≡◌, ◌↔◌, [], false, Ok, Err, Some, None, IfOk, IfErr, OnErr, length};
 ghost use Rattle.pm_authority.specs.Kept.{IsKept};
 ghost use Rattle.pm_client.specs.Causes.{IsTaken};
-ghost use Rattle.pm_client.specs.Clients.{edited, undone_last, IsRefusal};
+ghost use Rattle.pm_client.specs.Clients.{edited, undone_last, undone_event, IsRefusal};
 ghost use Rattle.pm_client.specs.Kins.{Kin};
 ghost use Rattle.pm_client.specs.declared.client.Client.{Client};
 ghost use Rattle.pm_client.specs.declared.failing.UndoError.TheVariants.{NothingToUndo};
 ghost use Rattle.pm_client.specs.declared.taken.Taken.{Taken};
 ghost use Rattle.pm_client.specs.declared.taken.Taken.TheVariants.{Refused};
+ghost use Rattle.pm_history.specs.Turns.{any_numbered};
 ghost use Rattle.pm_engine.specs.Exchanges.{answered, keeper, Exchanged, LeftExchanging, SubmitsOld};
 
 use pm_authority::Authority;
@@ -56,6 +57,28 @@ pub fn undo<C: Change>(
     // A log that is held has a length of 64 bits.
     let _length = authority.log().len();
     client.undo(alloc, rules)
+}
+
+/// Undoes the last of the client's events to undo that has this number, as `Client::undo_event` does, amid whatever came since,
+/// and tells by how many steps. The client must stand to the authority's log, and goes on standing to it. `NothingToUndo` comes
+/// exactly where no event to undo has the number. Then, and for want of memory, the client is as it was.
+pub fn undo_event<C: Change>(
+    alloc: Global,
+    rules: &C::Rules,
+    authority: &Authority<C>,
+    client: &mut Client<C>,
+    number: u32,
+) -> Result<u64, UndoError>
+    requires { Kin C.means rules.now authority.now.first authority.now.log client.old }
+    ensures undone { IfOk result (λ n. undone_event C.means rules.now client.old number ≡ Some (n, client.new)) }
+    ensures nothing { (result ≡ Err NothingToUndo) ↔ (any_numbered number client.old.history.undo ≡ false) }
+    ensures err { OnErr result (client.new ≡ client.old) }
+    ensures stands { Kin C.means rules.now authority.now.first authority.now.log client.new }
+    ensures name { client.new.name ≡ client.old.name }
+{
+    // A log that is held has a length of 64 bits.
+    let _length = authority.log().len();
+    client.undo_event(alloc, rules, number)
 }
 
 /// One exchange: the client composes a message of this kind, the authority answers it, and the client keeps the answer and

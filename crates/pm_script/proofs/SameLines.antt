@@ -122,6 +122,7 @@ module _ (s t : SchemaSpec) (h : HaveSameTypes s t) where
   act-alike (word.Edit k) d = edit-alike k d
   act-alike word.Undo d = refl
   act-alike word.Redo d = refl
+  act-alike word.UndoEvent d = refl
   act-alike word.Cursor d = refl
   act-alike word.Submit d = refl
   act-alike word.Ask d = refl

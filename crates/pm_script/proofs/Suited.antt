@@ -16,7 +16,7 @@ use Rattle.pm_head.specs.Lines.{json_line}
 use Rattle.pm_ops.specs.declared.op.Op.{Op}
 use Rattle.pm_session.specs.declared.line.Line.{Line}
 use Rattle.pm_session.specs.declared.line.Act.{Act}
-use Rattle.pm_session.specs.declared.line.Act.TheVariants.{Edit, Undo, Redo, Cursor, Submit, Ask, Present, Take, Push, Pull, Forge}
+use Rattle.pm_session.specs.declared.line.Act.TheVariants.{Edit, Undo, Redo, UndoEvent, Cursor, Submit, Ask, Present, Take, Push, Pull, Forge}
 use Rattle.pm_session.specs.Suits.{is_forge, names_one, NamesOneOf, composed_by, answered_by, Suits, AllSuit}
 use Rattle.pm_script.specs.declared.kinds.EditKind.{EditKind}
 use Rattle.pm_script.specs.declared.word.Word.{Word}
@@ -39,6 +39,7 @@ abbrev IsMade : Bool → Act Op Step → Type 0
 IsMade forge (Edit op event) = false ≡ forge
 IsMade forge Undo = false ≡ forge
 IsMade forge Redo = false ≡ forge
+IsMade forge (UndoEvent n) = false ≡ forge
 IsMade forge (Cursor at side) = false ≡ forge
 IsMade forge Submit = false ≡ forge
 IsMade forge Ask = false ≡ forge
@@ -89,6 +90,7 @@ abbrev says_forge : Word → Bool
 says_forge (word.Edit kind) = false
 says_forge word.Undo = false
 says_forge word.Redo = false
+says_forge word.UndoEvent = false
 says_forge word.Cursor = false
 says_forge word.Submit = false
 says_forge word.Ask = false
@@ -102,6 +104,7 @@ act-made : (s : SchemaSpec) (w : Word) (d : Data) (act : Act Op Step) → act_in
 act-made s (word.Edit kind) d act h = edit-made s kind d act h
 act-made s word.Undo d act h = plain-made Undo act refl h
 act-made s word.Redo d act h = plain-made Redo act refl h
+act-made s word.UndoEvent d act h = one-made (number_in (codes "event") d) UndoEvent act (λ n. refl) h
 act-made s word.Cursor d act h = cursor-made d act h
 act-made s word.Submit d act h = plain-made Submit act refl h
 act-made s word.Ask d act h = plain-made Ask act refl h
@@ -116,6 +119,7 @@ kind-said : (raw : Bool) (cursors : ℕ) (w : Word) → may_say raw cursors w �
 kind-said true cursors (word.Edit kind) h = absurd (cc)
 kind-said true cursors word.Undo h = absurd (cc)
 kind-said true cursors word.Redo h = absurd (cc)
+kind-said true cursors word.UndoEvent h = absurd (cc)
 kind-said true cursors word.Cursor h = absurd (cc)
 kind-said true cursors word.Submit h = absurd (cc)
 kind-said true cursors word.Ask h = absurd (cc)
@@ -127,6 +131,7 @@ kind-said true cursors word.Forge h = refl
 kind-said false cursors (word.Edit kind) h = refl
 kind-said false cursors word.Undo h = refl
 kind-said false cursors word.Redo h = refl
+kind-said false cursors word.UndoEvent h = refl
 kind-said false cursors word.Cursor h = refl
 kind-said false cursors word.Submit h = refl
 kind-said false cursors word.Ask h = refl
@@ -142,6 +147,7 @@ names : (forge : Bool) (messages answers : ℕ) (act : Act Op Step) → IsMade f
 names forge messages answers (Edit op event) made h = tt
 names forge messages answers Undo made h = tt
 names forge messages answers Redo made h = tt
+names forge messages answers (UndoEvent n) made h = tt
 names forge messages answers (Cursor at side) made h = tt
 names forge messages answers Submit made h = tt
 names forge messages answers Ask made h = tt
@@ -155,6 +161,7 @@ kind : (forge : Bool) (act : Act Op Step) → IsMade forge act → is_forge act 
 kind forge (Edit op event) made = made
 kind forge Undo made = made
 kind forge Redo made = made
+kind forge (UndoEvent n) made = made
 kind forge (Cursor at side) made = made
 kind forge Submit made = made
 kind forge Ask made = made

@@ -7,7 +7,7 @@ use Rattle.pm_head.specs.declared.code.Code.{Code}
 use Rattle.pm_meaning.specs.Steps.{Step}
 use Rattle.pm_ops.specs.declared.op.Op.{Op}
 use Rattle.pm_session.specs.declared.line.Act.{Act}
-use Rattle.pm_session.specs.declared.line.Act.TheVariants.{Edit, Undo, Redo, Cursor, Submit, Ask, Present, Take, Push, Pull, Forge}
+use Rattle.pm_session.specs.declared.line.Act.TheVariants.{Edit, Undo, Redo, UndoEvent, Cursor, Submit, Ask, Present, Take, Push, Pull, Forge}
 use Rattle.pm_script.specs.declared.kinds.EditKind.{EditKind}
 use Rattle.pm_script.specs.declared.word.Word.{Word}
 use Rattle.pm_script.specs.declared.word.Word.TheVariants as word
@@ -41,6 +41,7 @@ abbrev pub act_in : SchemaSpec → Word → Data → Result (Act Op Step) Code
 act_in s (word.Edit kind) d = edit_in s kind d
 act_in s word.Undo d = Ok Undo
 act_in s word.Redo d = Ok Redo
+act_in s word.UndoEvent d = number_in (codes "event") d >>= (λ n. Ok (UndoEvent n))
 act_in s word.Cursor d = cursor_in d
 act_in s word.Submit d = Ok Submit
 act_in s word.Ask d = Ok Ask

@@ -5,7 +5,7 @@ use Rattle.pm_script.specs.declared.kinds.EditKind.{EditKind}
 use Rattle.pm_script.specs.declared.kinds.EditKind.TheVariants as kind
 use Rattle.pm_script.specs.declared.word.TheConstants.{MAX_CURSORS}
 use Rattle.pm_script.specs.declared.word.Word.{Word}
-use Rattle.pm_script.specs.declared.word.Word.TheVariants.{Edit, Undo, Redo, Cursor, Submit, Ask, Present, Take, Push, Pull, Forge}
+use Rattle.pm_script.specs.declared.word.Word.TheVariants.{Edit, Undo, Redo, UndoEvent, Cursor, Submit, Ask, Present, Take, Push, Pull, Forge}
 
 -- the text is this word
 abbrev pub says : List ℕ → List ℕ → Bool
@@ -50,8 +50,9 @@ word_named text =
     or_word (edit_named text)
     (if says text (codes "undo") then Some Undo
     else (if says text (codes "redo") then Some Redo
+    else (if says text (codes "undoevent") then Some UndoEvent
     else (if says text (codes "cursor") then Some Cursor
-    else exchange_named text)))
+    else exchange_named text))))
 
 -- A raw client's line may say `forge` alone. A line of an editor may say every other word, and `cursor` where fewer than 64
 -- earlier lines of the client do.
@@ -59,6 +60,7 @@ abbrev pub may_say : Bool → ℕ → Word → Bool
 may_say raw cursors (Edit edit) = not raw
 may_say raw cursors Undo = not raw
 may_say raw cursors Redo = not raw
+may_say raw cursors UndoEvent = not raw
 may_say raw cursors Cursor = not raw && nat_lt cursors MAX_CURSORS
 may_say raw cursors Submit = not raw
 may_say raw cursors Ask = not raw

@@ -3,7 +3,7 @@ ghost use Rattle.serde_json.specs.View.{view};
 ghost use Rattle.pm_head.specs.Answers.{Gives};
 ghost use Rattle.pm_script.specs.Acts.{edit_in, cursor_in, forge_in, act_in};
 
-use crate::fields::{event_in, lost_in, number_in, side_in};
+use crate::fields::{event_in, event_number_in, lost_in, number_in, side_in};
 use crate::kinds::EditKind;
 use crate::ops::op_of;
 use crate::parts::steps_in;
@@ -29,6 +29,10 @@ pub(crate) fn act_in(
         Word::Edit(kind) => edit_in(alloc, schema, kind, json),
         Word::Undo => Ok(Act::Undo),
         Word::Redo => Ok(Act::Redo),
+        Word::UndoEvent => {
+            let event = event_number_in(json)?;
+            Ok(Act::UndoEvent { event })
+        }
         Word::Cursor => cursor_in(json),
         Word::Submit => Ok(Act::Submit),
         Word::Ask => Ok(Act::Ask),

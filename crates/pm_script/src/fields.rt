@@ -1,5 +1,5 @@
 //! The fields of an op line.
-ghost use Rattle.std.specs.Prelude.{◌≡◌, option_and_then};
+ghost use Rattle.std.specs.Prelude.{◌≡◌, codes, option_and_then};
 ghost use Rattle.serde_json.specs.Find.{as_i64, as_number};
 ghost use Rattle.serde_json.specs.View.{view};
 ghost use Rattle.pm_list.specs.Readings.{or_fault};
@@ -32,6 +32,19 @@ pub(crate) fn number_in(json: &Value, key: &str) -> Result<u64, LineError>
 {
     match json.get(key) {
         Some(value) => count_of(value),
+        None => Err(LineError::Code(Code::WrongShape)),
+    }
+}
+
+/// The number of an event to undo, a whole number from 0 to 4,294,967,295, which must be there.
+pub(crate) fn event_number_in(json: &Value) -> Result<u32, LineError>
+    ensures { Gives (λ n. n) result (number_in (codes "event") (view json.now)) }
+{
+    match json.get("event") {
+        Some(value) => match as_count(value) {
+            Some(number) => Ok(number as u32),
+            None => Err(LineError::Code(Code::WrongShape)),
+        },
         None => Err(LineError::Code(Code::WrongShape)),
     }
 }

@@ -26,7 +26,7 @@ use pm_slicejson::read_slice;
 use pm_step::Step;
 use pm_stepjson::read_step;
 use serde_json::Value;
-use std::alloc::Global;
+use std::alloc::{AllocError, Global};
 
 /// The step at `step`.
 pub(crate) fn step_in(alloc: Global, schema: &Schema, json: &Value) -> Result<Step, LineError>
@@ -90,7 +90,10 @@ fn change_from(alloc: Global, schema: &Schema, json: &Value) -> Result<DocChange
     ensures { Gives (λ c. c) result (coded (step_read schema.now.spec (view json.now))) }
 {
     match read_step(alloc, schema, json) {
-        Ok(step) => Ok(DocChange::new(step)),
+        Ok(step) => match DocChange::new(alloc, step) {
+            Ok(change) => Ok(change),
+            Err(AllocError) => Err(LineError::NoMemory),
+        },
         Err(error) => Err(step_fault(error)),
     }
 }

@@ -13,6 +13,7 @@ pub(crate) enum Word {
     Edit(EditKind),
     Undo,
     Redo,
+    UndoEvent,
     Cursor,
     Submit,
     Ask,
@@ -35,6 +36,8 @@ impl Word {
             Some(Word::Undo)
         } else if text == "redo" {
             Some(Word::Redo)
+        } else if text == "undoevent" {
+            Some(Word::UndoEvent)
         } else if text == "cursor" {
             Some(Word::Cursor)
         } else {
@@ -53,6 +56,7 @@ impl Word {
             Word::Edit(_)
             | Word::Undo
             | Word::Redo
+            | Word::UndoEvent
             | Word::Submit
             | Word::Ask
             | Word::Present

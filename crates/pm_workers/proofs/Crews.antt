@@ -11,7 +11,7 @@ use Rattle.pm_desk.specs.Desks.{DeskValue, SeatValue}
 use Rattle.pm_desk.specs.Histories.{state_at, calls_of, StartsWith}
 use Rattle.pm_session.specs.declared.line.Line.{Line}
 use Rattle.pm_session.specs.declared.line.Act.{Act}
-use Rattle.pm_session.specs.declared.line.Act.TheVariants.{Edit, Undo, Redo, Cursor, Submit, Ask, Present, Take, Push, Pull, Forge}
+use Rattle.pm_session.specs.declared.line.Act.TheVariants.{Edit, Undo, Redo, UndoEvent, Cursor, Submit, Ask, Present, Take, Push, Pull, Forge}
 use Rattle.pm_session.specs.declared.member.Member.{Member}
 use Rattle.pm_session.specs.declared.member.Member.TheVariants.{Editor, Raw}
 use Rattle.pm_session.specs.declared.outcome.Outcome.{Outcome}
@@ -59,6 +59,7 @@ module _ {Op C : Type 0} (raw : List Bool) (i : ℕ) where
   forge-names (Edit op event) k n e = absurd (cc)
   forge-names Undo k n e = absurd (cc)
   forge-names Redo k n e = absurd (cc)
+  forge-names (UndoEvent event) k n e = absurd (cc)
   forge-names (Cursor p side) k n e = absurd (cc)
   forge-names Submit k n e = absurd (cc)
   forge-names Ask k n e = absurd (cc)

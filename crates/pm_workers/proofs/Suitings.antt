@@ -8,15 +8,15 @@ use Rattle.pm_change.specs.declared.no_step.NoStep.TheVariants.{Range}
 use Rattle.pm_authority.specs.declared.message.Message.{Message}
 use Rattle.pm_authority.specs.declared.message.Answer.{Answer}
 use Rattle.pm_authority.specs.declared.running.Refusal.{Refusal}
-use Rattle.pm_history.specs.declared.direction.Direction.{Direction}
-use Rattle.pm_history.specs.declared.direction.Direction.TheVariants as direction
+use Rattle.pm_history.specs.declared.turn.Turn.{Turn}
+use Rattle.pm_history.specs.declared.turn.Turn.TheVariants as turn
 use Rattle.pm_client.specs.declared.client.Client.{Client}
 use Rattle.pm_client.specs.declared.taken.MessageKind.{MessageKind}
 use Rattle.pm_client.specs.declared.taken.MessageKind.TheVariants.{Submit as Submission, Ask as Asking}
-use Rattle.pm_client.specs.Clients.{edited, event_turned, last_turned, cursor_set, message_of, composed, kept, taken, taken_at}
+use Rattle.pm_client.specs.Clients.{edited, event_turned, turned_if, cursor_set, message_of, composed, kept, taken, taken_at}
 use Rattle.pm_session.specs.declared.line.Line.{Line}
 use Rattle.pm_session.specs.declared.line.Act.{Act}
-use Rattle.pm_session.specs.declared.line.Act.TheVariants.{Edit, Undo, Redo, Cursor, Submit, Ask, Present, Take, Push, Pull, Forge}
+use Rattle.pm_session.specs.declared.line.Act.TheVariants.{Edit, Undo, Redo, UndoEvent, Cursor, Submit, Ask, Present, Take, Push, Pull, Forge}
 use Rattle.pm_session.specs.declared.member.Member.{Member}
 use Rattle.pm_session.specs.declared.member.Member.TheVariants.{Editor, Raw}
 use Rattle.pm_session.specs.declared.outcome.Outcome.{Outcome}
@@ -78,7 +78,7 @@ module _ {Rules Doc Reason C : Type 0} (m : Meaning Rules Doc Reason C) (rules :
       from (Ok next) e = counted-box c next (edited-keeps m rules c steps event next e)
       from (Err r) e = counted-same (Editor c)
 
-  turns-counted : (way : Direction) (o : Option _) → Counted false false (Editor c) (Editor (turns c (last_turned m rules c way o)).1)
+  turns-counted : (way : Turn) (o : Option _) → Counted false false (Editor c) (Editor (turns c (turned_if m rules c way o)).1)
   turns-counted way None = counted-same (Editor c)
   turns-counted way (Some event) = counted-box c (event_turned m rules c way event).1 (turned-keeps m rules c way event)
 
@@ -103,8 +103,9 @@ module _ {Rules Doc Reason C : Type 0} (m : Meaning Rules Doc Reason C) (rules :
   alone-counted : (x : Member C Rules Doc Reason) (act : Act Op C) → ActSuits x act → asked act x ≡ None
       → Counted (composes_one act) (gets_one act) x (finished m rules makes act x None).1
   alone-counted (Editor c) (Edit op event) suits none = edits-counted m rules c event (makes c.doc op)
-  alone-counted (Editor c) Undo suits none = turns-counted m rules c direction.Undo _
-  alone-counted (Editor c) Redo suits none = turns-counted m rules c direction.Redo _
+  alone-counted (Editor c) Undo suits none = turns-counted m rules c turn.Undo _
+  alone-counted (Editor c) Redo suits none = turns-counted m rules c turn.Redo _
+  alone-counted (Editor c) (UndoEvent n) suits none = turns-counted m rules c (turn.UndoEvent n) _
   alone-counted (Editor c) (Cursor p side) suits none = sets-counted m rules c p side
   alone-counted (Editor c) Submit suits none = counted-composed c Submission
   alone-counted (Editor c) Ask suits none = counted-composed c Asking
@@ -121,6 +122,7 @@ module _ {Rules Doc Reason C : Type 0} (m : Meaning Rules Doc Reason C) (rules :
   alone-counted (Raw name serial) (Edit op event) suits none = absurd (cc)
   alone-counted (Raw name serial) Undo suits none = absurd (cc)
   alone-counted (Raw name serial) Redo suits none = absurd (cc)
+  alone-counted (Raw name serial) (UndoEvent n) suits none = absurd (cc)
   alone-counted (Raw name serial) (Cursor p side) suits none = absurd (cc)
   alone-counted (Raw name serial) Submit suits none = absurd (cc)
   alone-counted (Raw name serial) Ask suits none = absurd (cc)
@@ -139,6 +141,7 @@ module _ {Rules Doc Reason C : Type 0} (m : Meaning Rules Doc Reason C) (rules :
   given-counted (Editor c) (Edit op event) message answer is = absurd (cc)
   given-counted (Editor c) Undo message answer is = absurd (cc)
   given-counted (Editor c) Redo message answer is = absurd (cc)
+  given-counted (Editor c) (UndoEvent n) message answer is = absurd (cc)
   given-counted (Editor c) (Cursor p side) message answer is = absurd (cc)
   given-counted (Editor c) Submit message answer is = absurd (cc)
   given-counted (Editor c) Ask message answer is = absurd (cc)
@@ -148,6 +151,7 @@ module _ {Rules Doc Reason C : Type 0} (m : Meaning Rules Doc Reason C) (rules :
   given-counted (Raw name serial) (Edit op event) message answer is = absurd (cc)
   given-counted (Raw name serial) Undo message answer is = absurd (cc)
   given-counted (Raw name serial) Redo message answer is = absurd (cc)
+  given-counted (Raw name serial) (UndoEvent n) message answer is = absurd (cc)
   given-counted (Raw name serial) (Cursor p side) message answer is = absurd (cc)
   given-counted (Raw name serial) Submit message answer is = absurd (cc)
   given-counted (Raw name serial) Ask message answer is = absurd (cc)

@@ -10,15 +10,15 @@ use Rattle.pm_change.specs.declared.no_step.NoStep.TheVariants.{Range}
 use Rattle.pm_authority.specs.declared.running.Refusal.{Refusal}
 use Rattle.pm_authority.specs.declared.message.Message.{Message}
 use Rattle.pm_authority.specs.declared.message.Answer.{Answer}
-use Rattle.pm_history.specs.declared.direction.Direction.{Direction}
-use Rattle.pm_history.specs.declared.direction.Direction.TheVariants as direction
+use Rattle.pm_history.specs.declared.turn.Turn.{Turn}
+use Rattle.pm_history.specs.declared.turn.Turn.TheVariants as turn
 use Rattle.pm_client.specs.declared.client.Client.{Client}
 use Rattle.pm_client.specs.declared.taken.MessageKind.{MessageKind}
 use Rattle.pm_client.specs.declared.taken.MessageKind.TheVariants.{Submit as Submission, Ask as Asking}
-use Rattle.pm_client.specs.Clients.{edited, last_turned, event_turned, cursor_set, message_of, composed, kept}
+use Rattle.pm_client.specs.Clients.{edited, turned_if, event_turned, cursor_set, message_of, composed, kept}
 use Rattle.pm_session.specs.declared.line.Line.{Line}
 use Rattle.pm_session.specs.declared.line.Act.{Act}
-use Rattle.pm_session.specs.declared.line.Act.TheVariants.{Edit, Undo, Redo, Cursor, Submit, Ask, Present, Take, Push, Pull, Forge}
+use Rattle.pm_session.specs.declared.line.Act.TheVariants.{Edit, Undo, Redo, UndoEvent, Cursor, Submit, Ask, Present, Take, Push, Pull, Forge}
 use Rattle.pm_session.specs.declared.member.Member.{Member}
 use Rattle.pm_session.specs.declared.member.Member.TheVariants.{Editor, Raw}
 use Rattle.pm_session.specs.declared.outcome.Outcome.{Outcome}
@@ -56,7 +56,7 @@ module _ {Rules Doc Reason C : Type 0} (m : Meaning Rules Doc Reason C) (rules :
       from (Ok next) e = as-many next (edited-keeps m rules c steps event next e)
       from (Err r) e = no-more
 
-  more-turns : (way : Direction) (o : Option _) → More c 0 0 (turns c (last_turned m rules c way o)).1
+  more-turns : (way : Turn) (o : Option _) → More c 0 0 (turns c (turned_if m rules c way o)).1
   more-turns way None = no-more
   more-turns way (Some event) = as-many (event_turned m rules c way event).1 (turned-keeps m rules c way event)
 
@@ -79,8 +79,9 @@ module _ {Rules Doc Reason C : Type 0} (m : Meaning Rules Doc Reason C) (rules :
     more-box : (act : Act Op C) (r : Option (Answer C Rules Doc Reason)) → is_forge act ≡ false → is_some r ≡ presents act
         → More c (cond (composes_one act) 1 0) (cond (gets_one act) 1 0) (finished_by_editor m rules makes act c r).1
     more-box (Edit op event) r h some = more-edits event (makes c.doc op)
-    more-box Undo r h some = more-turns direction.Undo _
-    more-box Redo r h some = more-turns direction.Redo _
+    more-box Undo r h some = more-turns turn.Undo _
+    more-box Redo r h some = more-turns turn.Redo _
+    more-box (UndoEvent n) r h some = more-turns (turn.UndoEvent n) _
     more-box (Cursor p side) r h some = more-sets p side (nat_lt (m.size c.doc) p)
     more-box Submit r h some = (length-append c.messages (message_of c Submission ∷ []), omega arith)
     more-box Ask r h some = (length-append c.messages (message_of c Asking ∷ []), omega arith)
@@ -99,6 +100,7 @@ module _ {Rules Doc Reason C : Type 0} (m : Meaning Rules Doc Reason C) (rules :
     tells-editor (Edit op event) n k h e named = refl
     tells-editor Undo n k h e named = refl
     tells-editor Redo n k h e named = refl
+    tells-editor (UndoEvent event) n k h e named = refl
     tells-editor (Cursor p side) n k h e named = refl
     tells-editor Submit n k h e named = refl
     tells-editor Ask n k h e named = refl
@@ -121,6 +123,7 @@ module _ {Rules Doc Reason C Op : Type 0} (m : Meaning Rules Doc Reason C) (rule
   raw-tells (Edit op event) name serial h = absurd (cc)
   raw-tells Undo name serial h = absurd (cc)
   raw-tells Redo name serial h = absurd (cc)
+  raw-tells (UndoEvent event) name serial h = absurd (cc)
   raw-tells (Cursor p side) name serial h = absurd (cc)
   raw-tells Submit name serial h = absurd (cc)
   raw-tells Ask name serial h = absurd (cc)
@@ -142,6 +145,7 @@ module _ {Rules Doc Reason C Op : Type 0} (m : Meaning Rules Doc Reason C) (rule
   raw-next (Edit op event) name serial r = (serial, refl)
   raw-next Undo name serial r = (serial, refl)
   raw-next Redo name serial r = (serial, refl)
+  raw-next (UndoEvent event) name serial r = (serial, refl)
   raw-next (Cursor p side) name serial r = (serial, refl)
   raw-next Submit name serial r = (serial, refl)
   raw-next Ask name serial r = (serial, refl)

@@ -8,7 +8,7 @@ use Rattle.pm_authority.specs.Presents.{presented}
 use Rattle.pm_desk.specs.declared.history.Past.{Past}
 use Rattle.pm_session.specs.declared.line.Line.{Line}
 use Rattle.pm_session.specs.declared.line.Act.{Act}
-use Rattle.pm_session.specs.declared.line.Act.TheVariants.{Edit, Undo, Redo, Cursor, Submit, Ask, Present, Take, Push, Pull, Forge}
+use Rattle.pm_session.specs.declared.line.Act.TheVariants.{Edit, Undo, Redo, UndoEvent, Cursor, Submit, Ask, Present, Take, Push, Pull, Forge}
 use Rattle.pm_workers.specs.Merges.{ClientLine, merged}
 
 module _ {Rules Doc Reason C : Type 0} (m : Meaning Rules Doc Reason C) where
@@ -45,6 +45,7 @@ presents (Forge version steps) = true
 presents (Edit op event) = false
 presents Undo = false
 presents Redo = false
+presents (UndoEvent n) = false
 presents (Cursor p side) = false
 presents Submit = false
 presents Ask = false

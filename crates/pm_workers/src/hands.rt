@@ -123,6 +123,7 @@ fn presents<O, C>(act: &Act<O, C>) -> bool
         Act::Edit { op: _, event: _ }
         | Act::Undo
         | Act::Redo
+        | Act::UndoEvent { event: _ }
         | Act::Cursor { pos: _, side: _ }
         | Act::Submit
         | Act::Ask

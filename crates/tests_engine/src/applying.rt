@@ -48,7 +48,7 @@ pub(crate) fn insertion(alloc: Global, schema: &Schema, at: u64, letter: char) -
 fn applied(alloc: Global, schema: &Schema, before: &Document, step: Step) -> Result<String>
     requires { Valid (documents_of schema.now.spec) before.now }
 {
-    match DocChange::new(step).apply(alloc, schema, before) {
+    match DocChange::new(alloc, step)?.apply(alloc, schema, before) {
         Ok(after) => Ok(document_text(alloc, schema, &after)?),
         Err(Failed::Reason(reason)) => Ok(format!(in alloc; "{reason}")?),
         Err(Failed::NoMemory) => Err(anyhow!("out of memory")),

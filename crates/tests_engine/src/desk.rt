@@ -172,7 +172,7 @@ fn written<R: Threads + Wait + Sync>(
 fn letters(alloc: Global, schema: &Schema) -> Result<(DocChange, DocChange)> {
     let ann = insertion(alloc, schema, 1, 'A')?;
     let bob = insertion(alloc, schema, 1, 'B')?;
-    Ok((DocChange::new(ann), DocChange::new(bob)))
+    Ok((DocChange::new(alloc, ann)?, DocChange::new(alloc, bob)?))
 }
 
 /// What a desk over this document leaves, at which Ann and Bob have submitted these steps.

@@ -23,7 +23,7 @@ fn type_letter(
     ensures stands { Kin meaning schema.now authority.now.first authority.now.log client.new }
     ensures name { client.new.name ≡ client.old.name }
 {
-    let step = DocChange::new(insertion(alloc, schema, at, letter)?);
+    let step = DocChange::new(alloc, insertion(alloc, schema, at, letter)?)?;
     let made = edit(alloc, schema, authority, client, vec![in alloc; step]?);
     ensure!(made.is_ok(), "the step does not apply");
     Ok(())

@@ -1,0 +1,12 @@
+use Rattle.std.proofs.Common.{rules}
+use Rattle.pm_engine.proofs.Names.{undo-event-name}
+use Rattle.pm_engine.proofs.standing.undo_event.Goals as goal
+
+pub undo_event-requires : goal.undo_event-requires
+undo_event-requires g c =
+    let a = c.args.authority.now in
+    record { first = a.first; log = a.log; short = search rules; kin = c.requires }
+
+pub returns-clause-name : goal.returns-clause-name
+returns-clause-name g c =
+    undo-event-name g.C.Change.means c.args.rules.now c.args.client.now c.undo_event.new.self c.args.number c.undo_event.result c.undo_event.ensures.undone c.undo_event.ensures.err
