@@ -7,7 +7,7 @@ use Rattle.pm_map.specs.Moves.{moved_from, goes_before, inverted_ranges}
 use Rattle.pm_map.specs.Stills.{IsOutside, AreApart}
 use Rattle.pm_map.proofs.Backs.{goes-back, decided-before, decided-past, decided-in, range-pos}
 use Rattle.pm_selective.specs.Shifts.{AreClear, IsClear, shift, shifted, beside, IsCorner, IsGrid, AreAllApart}
-use Rattle.pm_selective.specs.declared.apart.Reach.{Reach}
+use Rattle.pm_selective.specs.declared.telling.Reach.{Reach}
 use Rattle.pm_selective.specs.Apart.{moved_reach, moved_reaches, reaches, event_ranges, IsBeyond, IsBeyondAll, IsApart, AreApartFrom, backs_onto, backs}
 use Rattle.pm_selective.proofs.Corners.{clear-sym, clear-outside, shift-rigid, shift-moved, order, passes, stays-outside, apart-over}
 use Rattle.pm_selective.proofs.Flips.{back-apart, twice, clear-back-all, comes-back, flip-back, flip-other, flip-clear}

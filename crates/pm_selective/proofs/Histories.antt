@@ -119,7 +119,7 @@ module _ {C : Type 0} where
   none-append n (x ∷ xs) ys h k = (h.0, none-append n xs ys h.1 k)
 
 module _ {Rules : Type 0} (schema_of : Rules → Schema) (rules : Rules) where
-  fold-same : (cs : List Step) (d : Doc) → fold (meaning_by schema_of) rules d cs ≡ fold meaning (schema_of rules) d cs
+  pub fold-same : (cs : List Step) (d : Doc) → fold (meaning_by schema_of) rules d cs ≡ fold meaning (schema_of rules) d cs
   fold-same [] d = refl
   fold-same (c ∷ cs) d = from (outcome (schema_of rules) c d) (fold-same cs)
     where

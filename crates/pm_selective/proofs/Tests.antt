@@ -10,7 +10,7 @@ use Rattle.pm_history.specs.declared.item.Item.{Item}
 use Rattle.pm_history.specs.Items.{same_name, one_step}
 use Rattle.pm_history.specs.Tidy.{NotNamed, NamesDiffer}
 use Rattle.pm_history.proofs.Restores.{same-self}
-use Rattle.pm_selective.specs.declared.apart.Reach.{Reach}
+use Rattle.pm_selective.specs.declared.telling.Reach.{Reach}
 use Rattle.pm_selective.specs.Apart.{IsBeyond, IsBeyondAll, IsApart, AreApartFrom, LieApart, moved_reaches, event_ranges}
 use Rattle.pm_selective.specs.Told.{IsSpliceMap, AreSpliceMaps, item_maps, AreNamed, TellsApart}
 use Rattle.pm_selective.specs.Tests.{is_beyond, beyond_all, apart_from, is_splice_map, all_splices, apart_behind, are_named, from_name, tells_from, tells}

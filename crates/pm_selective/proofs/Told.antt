@@ -25,8 +25,8 @@ use Rattle.pm_history.specs.Restores.{IsOfWhole}
 use Rattle.pm_history.proofs.Folding.{fold-first, fold-split, changes-append, some-same, items-append}
 use Rattle.pm_selective.specs.Apart.{LieApart}
 use Rattle.pm_selective.specs.Carried.{IsSplice, AreSplices, step_maps}
-use Rattle.pm_selective.specs.Histories.{names_of, EndsWith, IsApartEvent}
-use Rattle.pm_selective.specs.Told.{IsSpliceMap, AreSpliceMaps, item_maps, AreNamed, LeavesWhereTold}
+use Rattle.pm_selective.specs.Histories.{names_of, EndsWith, IsApartEvent, IsApartIn}
+use Rattle.pm_selective.specs.Told.{IsSpliceMap, AreSpliceMaps, item_maps, AreNamed, TellsApart, LeavesWhereTold}
 use Rattle.pm_selective.proofs.Steps.{IsOrdered, apart-step}
 use Rattle.pm_selective.proofs.Histories.{leaves-all}
 use Rattle.pm_history.specs.Tidy.{NotNamed, NamesDiffer}
@@ -60,7 +60,7 @@ module _ {Rules : Type 0} (schema_of : Rules → Schema) (rules : Rules) where
     stand_one : StandFor live xs (items_from (meaning_by schema_of) rules doc one)
     stand_two : StandFor live ys (items_from (meaning_by schema_of) rules mid two)
 
-  items-first : (d next : Doc) (k : TimelineStep Step) (ks : List (TimelineStep Step)) → outcome (schema_of rules) k.change d ≡ Ok next
+  pub items-first : (d next : Doc) (k : TimelineStep Step) (ks : List (TimelineStep Step)) → outcome (schema_of rules) k.change d ≡ Ok next
       → items_from (meaning_by schema_of) rules d (k ∷ ks) ≡ item_at (meaning_by schema_of) rules d k ∷ items_from (meaning_by schema_of) rules next ks
   items-first d next k ks e = ap (λ r. item_at (meaning_by schema_of) rules d k ∷ next_items (meaning_by schema_of) rules r (λ z. items_from (meaning_by schema_of) rules z ks)) e
 
@@ -104,7 +104,7 @@ module _ {Rules : Type 0} (schema_of : Rules → Schema) (rules : Rules) where
       from false = refl
 
   -- the maps of the items are those of the steps
-  same-maps : (live : List Name) (is : List (Item Step)) (d end : Doc) (ks : List (TimelineStep Step)) → fold (meaning_by schema_of) rules d (changes_of ks) ≡ Some end
+  pub same-maps : (live : List Name) (is : List (Item Step)) (d end : Doc) (ks : List (TimelineStep Step)) → fold (meaning_by schema_of) rules d (changes_of ks) ≡ Some end
       → StandFor live is (items_from (meaning_by schema_of) rules d ks) → item_maps is ≡ step_maps (changes_of ks)
   same-maps live [] d end [] e h = refl
   same-maps live [] d end (k ∷ ks) e h = absurd h
@@ -141,43 +141,69 @@ module _ {Rules : Type 0} (schema_of : Rules → Schema) (rules : Rules) where
       let s = schema_of rules in
       (map-splice k.change _ (within s k.change d f.0 v f.1) h.0, are-splices ks f.0 end (good s k.change d f.0 v f.1) f.2 h.1)
 
-  -- an undo over a history's items leaves the later steps where the items tell that they lie apart
-  pub leaves-told : (client : ℕ) (names : List Name) (items : List (Item Step)) (last : Doc) (serial : ℕ) (w : Undone Doc Step)
-      → IsOfWhole (meaning_by schema_of) rules client names items last serial w → LeavesWhereTold schema_of rules names items last w
-  leaves-told client names items last serial w whole t full first steps v reach remembers tidy alive =
+  -- a timeline that ends with the event of these names and later steps that lie apart from it
+  pub record Ends (names : List Name) (first : Doc) (steps : List (TimelineStep Step)) (last : Doc) : Type 0 where
+    pub event : List (TimelineStep Step)
+    pub later : List (TimelineStep Step)
+    pub before : Doc
+    pub named : names ≡ names_of event
+    pub ends : EndsWith schema_of rules event later first steps before last
+    pub apart : IsApartEvent event later
+
+  -- where the items tell that the later steps lie apart, they do in the timeline
+  told-ends : (live names : List Name) (items : List (Item Step)) (first last : Doc) (steps : List (TimelineStep Step)) → TellsApart names items → Valid (schema_of rules) first
+      → fold (meaning_by schema_of) rules first (changes_of steps) ≡ Some last → Remembers (meaning_by schema_of) rules live first steps items → Ends names first steps last
+  told-ends live names items first last steps t v reach remembers =
       let m = meaning_by schema_of in
       let r = remembers in
       let split = fold-split m rules first last (changes_of r.gone) (changes_of r.kept) (ap (fold m rules first) (sym (changes-append r.gone r.kept) ∙ ap changes_of (sym r.steps_are)) ∙ reach) in
       let same_mid : split.0 ≡ r.mid = some-same split.0 r.mid (sym split.1 ∙ r.reaches) in
       let end : fold m rules r.mid (changes_of r.kept) ≡ Some last = subst (λ z. fold m rules z (changes_of r.kept) ≡ Some last) same_mid split.2 in
-      let p = parts names t.front (t.event ++ t.later) r.mid last r.kept end (subst (λ is. StandFor names is (items_from m rules r.mid r.kept)) t.items_are r.stand) in
-      let q = parts names t.event t.later p.mid last p.two p.ends p.stand_two in
+      let p = parts live t.front (t.event ++ t.later) r.mid last r.kept end (subst (λ is. StandFor live is (items_from m rules r.mid r.kept)) t.items_are r.stand) in
+      let q = parts live t.event t.later p.mid last p.two p.ends p.stand_two in
       let mid_valid : Valid (schema_of rules) r.mid = fold-good m rules (laws_by schema_of) first r.mid (changes_of r.gone) v r.reaches in
       let before_valid : Valid (schema_of rules) p.mid = fold-good m rules (laws_by schema_of) r.mid p.mid (changes_of p.one) mid_valid p.reaches in
       let behind_valid : Valid (schema_of rules) q.mid = fold-good m rules (laws_by schema_of) p.mid q.mid (changes_of q.one) before_valid q.reaches in
-      let own = are-own names names t.event p.mid q.mid q.one q.reaches q.stand_one t.named in
-      let me = same-maps names t.event p.mid q.mid q.one q.reaches q.stand_one in
-      let ml = same-maps names t.later q.mid last q.two q.ends q.stand_two in
+      let own = are-own live names t.event p.mid q.mid q.one q.reaches q.stand_one t.named in
+      let me = same-maps live t.event p.mid q.mid q.one q.reaches q.stand_one in
+      let ml = same-maps live t.later q.mid last q.two q.ends q.stand_two in
       let are : steps ≡ (r.gone ++ p.one) ++ (q.one ++ q.two) =
       r.steps_are ∙ ap (λ ks. r.gone ++ ks) p.are ∙ sym (append_assoc r.gone p.one p.two) ∙ ap (λ ks. (r.gone ++ p.one) ++ ks) q.are in
       let front : fold m rules first (changes_of (r.gone ++ p.one)) ≡ Some p.mid =
       ap (fold m rules first) (changes-append r.gone p.one) ∙ fold-append m rules first r.mid (changes_of r.gone) (changes_of p.one) r.reaches ∙ p.reaches in
-      let ends : EndsWith schema_of rules q.one q.two first steps p.mid last =
-      record { earlier = r.gone ++ p.one; mid = q.mid; steps_are = are; valid = v; reaches = front; event_applies = q.reaches; later_apply = q.ends; own = own.own } in
-      let apart : IsApartEvent q.one q.two = record {
-        event_splices = are-splices q.one p.mid q.mid before_valid q.reaches (subst AreSpliceMaps me t.event_splices);
-        later_splice = are-splices q.two q.mid last behind_valid q.ends (subst AreSpliceMaps ml t.later_splice);
-        apart = subst (λ z. LieApart z (step_maps (changes_of q.two))) me (subst (LieApart (item_maps t.event)) ml t.apart);
-      } in
       record {
         event = q.one;
         later = q.two;
         before = p.mid;
         named = own.named;
-        ends = ends;
-        apart = apart;
-        left = leaves-all schema_of rules client names items last serial w whole first steps q.one q.two p.mid remembers tidy alive own.named ends apart
-            (full ∙ ap length own.named ∙ length-names q.one);
+        ends = record { earlier = r.gone ++ p.one; mid = q.mid; steps_are = are; valid = v; reaches = front; event_applies = q.reaches; later_apply = q.ends; own = own.own };
+        apart = record {
+          event_splices = are-splices q.one p.mid q.mid before_valid q.reaches (subst AreSpliceMaps me t.event_splices);
+          later_splice = are-splices q.two q.mid last behind_valid q.ends (subst AreSpliceMaps ml t.later_splice);
+          apart = subst (λ z. LieApart z (step_maps (changes_of q.two))) me (subst (LieApart (item_maps t.event)) ml t.apart);
+        };
+      }
+
+  pub told-apart : (live names : List Name) (items : List (Item Step)) (first last : Doc) (steps : List (TimelineStep Step)) → Valid (schema_of rules) first
+      → fold (meaning_by schema_of) rules first (changes_of steps) ≡ Some last → Remembers (meaning_by schema_of) rules live first steps items → TellsApart names items → IsApartIn names steps
+  told-apart live names items first last steps v reach remembers t =
+      let e = told-ends live names items first last steps t v reach remembers in
+      record { earlier = e.ends.earlier; event = e.event; later = e.later; steps_are = e.ends.steps_are; named = e.named; own = e.ends.own; some = t.some; apart = e.apart }
+
+  -- an undo over a history's items leaves the later steps where the items tell that they lie apart
+  pub leaves-told : (client : ℕ) (names : List Name) (items : List (Item Step)) (last : Doc) (serial : ℕ) (w : Undone Doc Step)
+      → IsOfWhole (meaning_by schema_of) rules client names items last serial w → LeavesWhereTold schema_of rules names items last w
+  leaves-told client names items last serial w whole t full first steps v reach remembers tidy alive =
+      let e = told-ends names names items first last steps t v reach remembers in
+      record {
+        event = e.event;
+        later = e.later;
+        before = e.before;
+        named = e.named;
+        ends = e.ends;
+        apart = e.apart;
+        left = leaves-all schema_of rules client names items last serial w whole first steps e.event e.later e.before remembers tidy alive e.named e.ends e.apart
+            (full ∙ ap length e.named ∙ length-names e.event);
       }
     where
       length-names : (ks : List (TimelineStep Step)) → length (names_of ks) ≡ length ks

@@ -3,7 +3,7 @@ use Rattle.std.specs.Prelude.{◌+◌, ◌<◌, ◌⊎◌, List, [], ◌∷◌, 
 use Rattle.pm_map.specs.declared.side.Side.TheVariants.{Before, After}
 use Rattle.pm_map.specs.declared.step_map.Span.{Span}
 use Rattle.pm_map.specs.Moves.{moved, inverted_ranges}
-use Rattle.pm_selective.specs.declared.apart.Reach.{Reach}
+use Rattle.pm_selective.specs.declared.telling.Reach.{Reach}
 
 -- a stretch over a map: its start by `Before`, and its end by `After`
 abbrev pub moved_reach : List Span → Reach → Reach

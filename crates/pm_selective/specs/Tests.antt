@@ -7,7 +7,7 @@ use Rattle.pm_map.specs.Fits.{FitsSizes}
 use Rattle.pm_change.specs.declared.name.Name.{Name}
 use Rattle.pm_history.specs.declared.item.Item.{Item}
 use Rattle.pm_history.specs.Items.{one_step}
-use Rattle.pm_selective.specs.declared.apart.Reach.{Reach}
+use Rattle.pm_selective.specs.declared.telling.Reach.{Reach}
 use Rattle.pm_selective.specs.Apart.{moved_reaches, reaches}
 use Rattle.pm_selective.specs.Told.{item_maps}
 

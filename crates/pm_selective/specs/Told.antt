@@ -16,8 +16,7 @@ use Rattle.std.specs.List.{AllByRecursion as Each}
 use Rattle.pm_history.specs.Tidy.{NoRangeUndoes, IsTidy}
 use Rattle.pm_history.specs.Remembers.{Remembers}
 use Rattle.pm_selective.specs.Apart.{LieApart}
-use Rattle.pm_selective.specs.Carried.{left_tokens}
-use Rattle.pm_selective.specs.Histories.{names_of, EndsWith, IsApartEvent}
+use Rattle.pm_selective.specs.Histories.{HasLeft}
 
 -- A replace has one range, and a replaceAround two, which touch exactly where its gap is pinched. Every other step has none.
 abbrev pub IsSpliceMap : List Span → Type 0
@@ -54,17 +53,6 @@ module _ {C : Type 0} where
     pub apart : LieApart (item_maps event) (item_maps later)
 
 module _ {Rules : Type 0} (schema_of : Rules → Schema) (rules : Rules) where
-  -- A timeline ends with the event of these names and later steps that are apart from it, and the undo left the later steps,
-  -- carried and spliced in order onto the document before the event.
-  pub record HasLeft (names : List Name) (first : Doc) (steps : List (TimelineStep Step)) (last : Doc) (w : Undone Doc Step) : Type 0 where
-    pub event : List (TimelineStep Step)
-    pub later : List (TimelineStep Step)
-    pub before : Doc
-    pub named : names ≡ names_of event
-    pub ends : EndsWith schema_of rules event later first steps before last
-    pub apart : IsApartEvent event later
-    pub left : left_tokens (changes_of event) (changes_of later) before.tokens ≡ Some w.doc.tokens
-
   -- Where the items tell that the later steps lie apart from the event, and the undo made as many steps as the event has, that
   -- holds of every timeline that leads to the document, that the items remember, whose names are in order, and in which no step
   -- with a range undoes a step of the event.
@@ -73,4 +61,4 @@ module _ {Rules : Type 0} (schema_of : Rules → Schema) (rules : Rules) where
       TellsApart names items → length w.made ≡ length names → (first : Doc) (steps : List (TimelineStep Step)) → Valid (schema_of rules) first
       → fold (meaning_by schema_of) rules first (changes_of steps) ≡ Some last → Remembers (meaning_by schema_of) rules names first steps items
       → IsTidy (items_from (meaning_by schema_of) rules first steps) names → Each (λ n. NoRangeUndoes (Some n) (items_from (meaning_by schema_of) rules first steps)) names
-      → HasLeft names first steps last w
+      → HasLeft schema_of rules names first steps last w.doc
