@@ -20,6 +20,8 @@ HELP = """usage: ./pm WORDS < SESSION      builds the program if it is missing o
 words
   check       write how many op lines the session has and how large its first document is
   replay      play the session with its lines in file order, and write its report
+  select      play the session as `replay` does, and write which of its lines undid an event that lies apart, and the
+              report
   run         play the session with a thread for each client, and write the order of its lines and its report
   gen CLIENTS LINES NUMBER
               make a session from the number, play it as `replay` does, and write a summary; nothing is read

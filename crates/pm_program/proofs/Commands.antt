@@ -2,7 +2,7 @@
 use Rattle.std.proofs.Common.{◌≡◌, refl}
 use Rattle.std.specs.Prelude.{Option, None, Some}
 use Rattle.pm_program.specs.declared.words.Command.{Command}
-use Rattle.pm_program.specs.declared.words.Command.TheVariants.{Check, Replay, Run, Gen}
+use Rattle.pm_program.specs.declared.words.Command.TheVariants.{Check, Replay, Select, Run, Gen}
 use Rattle.pm_program.specs.Words.{without_threads}
 
 -- a command that is known without threads is not `run`
@@ -10,6 +10,7 @@ pub no-threads : (o : Option Command) (command : Command) → without_threads o 
 no-threads None command e r = absurd (cc)
 no-threads (Some Check) command e r = absurd (cc)
 no-threads (Some Replay) command e r = absurd (cc)
+no-threads (Some Select) command e r = absurd (cc)
 no-threads (Some Run) command e r = absurd (cc)
 no-threads (Some (Gen asked)) command e r = absurd (cc)
 
@@ -18,5 +19,6 @@ pub same-command : (o : Option Command) → (o ≡ Some Run → ⊥) → without
 same-command None h = refl
 same-command (Some Check) h = refl
 same-command (Some Replay) h = refl
+same-command (Some Select) h = refl
 same-command (Some Run) h = absurd (h refl)
 same-command (Some (Gen asked)) h = refl

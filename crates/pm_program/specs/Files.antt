@@ -2,12 +2,13 @@
 use Rattle.std.specs.Prelude.{ℕ, List, ⊤}
 use Rattle.pm_gen.specs.Session.{generated}
 use Rattle.pm_program.specs.declared.words.Command.{Command}
-use Rattle.pm_program.specs.declared.words.Command.TheVariants.{Check, Replay, Run, Gen}
+use Rattle.pm_program.specs.declared.words.Command.TheVariants.{Check, Replay, Select, Run, Gen}
 
 -- the bytes of the file, where the input is this: `gen` makes them, whatever the input is, and to the others they are the input
 abbrev pub file_of : Command → List ℕ → List ℕ
 file_of Check input = input
 file_of Replay input = input
+file_of Select input = input
 file_of Run input = input
 file_of (Gen asked) input = generated asked.clients asked.rounds asked.number
 
@@ -15,5 +16,6 @@ file_of (Gen asked) input = generated asked.clients asked.rounds asked.number
 abbrev pub ReadsInput : Command → Type 0
 ReadsInput Check = ⊤
 ReadsInput Replay = ⊤
+ReadsInput Select = ⊤
 ReadsInput Run = ⊤
 ReadsInput (Gen asked) = ⊥

@@ -6,6 +6,7 @@ pub mod Playing
 pub mod Sounds
 pub mod Summing
 pub mod Running
+pub mod Selecting
 pub mod Finding
 pub mod Output
 pub mod Headline

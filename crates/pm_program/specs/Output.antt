@@ -11,9 +11,10 @@ use Rattle.pm_report.specs.Words.{◌&◌, line}
 use Rattle.pm_program.specs.declared.call.Status.{Status}
 use Rattle.pm_program.specs.declared.call.Status.TheVariants.{Done, SessionRefused, Usage, ReadFault, WriteFault, NoMemory}
 use Rattle.pm_program.specs.declared.words.Command.{Command}
-use Rattle.pm_program.specs.declared.words.Command.TheVariants.{Check, Replay, Run, Gen}
+use Rattle.pm_program.specs.declared.words.Command.TheVariants.{Check, Replay, Select, Run, Gen}
 use Rattle.pm_program.specs.Files.{file_of}
 use Rattle.pm_program.specs.Playing.{report_of}
+use Rattle.pm_program.specs.Selecting.{IsSelected}
 use Rattle.pm_program.specs.Summing.{summary_of}
 use Rattle.pm_program.specs.Running.{IsRun}
 
@@ -25,11 +26,12 @@ refusal r = line (codes "refused" & decimal r.line & decimal (number_of r.code))
 abbrev pub counts_of : Session → List ℕ
 counts_of s = line (codes "ok" & decimal (length s.lines) & decimal (length s.head.doc.tokens))
 
--- What a command may write of what its file is found to be. Of `check`, `replay` and `gen` it is one text; what `run`
--- writes is of an order.
+-- What a command may write of what its file is found to be. Of `check`, `replay` and `gen` it is one text; what `select`
+-- writes tells lines, and what `run` writes is of an order.
 abbrev pub IsTextOf : Command → Result Session Refusal → List ℕ → Type 0
 IsTextOf Check (Ok s) text = text ≡ counts_of s
 IsTextOf Replay (Ok s) text = text ≡ report_of s
+IsTextOf Select (Ok s) text = IsSelected s text
 IsTextOf Run (Ok s) text = IsRun s text
 IsTextOf (Gen asked) (Ok s) text = text ≡ summary_of asked s
 IsTextOf command (Err r) text = text ≡ refusal r

@@ -4,14 +4,15 @@ use Rattle.std.specs.Cmp.Lexicographic.{pointwise}
 use Rattle.pm_gen.specs.Asking.{asked_of}
 use Rattle.pm_gen.specs.Bounds.{InBounds}
 use Rattle.pm_program.specs.declared.words.Command.{Command}
-use Rattle.pm_program.specs.declared.words.Command.TheVariants.{Check, Replay, Run, Gen}
+use Rattle.pm_program.specs.declared.words.Command.TheVariants.{Check, Replay, Select, Run, Gen}
 
 -- what a word asks for
 abbrev pub command_named : List ℕ → Option Command
 command_named word =
     if pointwise nat_eq word (codes "check") then Some Check
     else (if pointwise nat_eq word (codes "replay") then Some Replay
-    else (if pointwise nat_eq word (codes "run") then Some Run else None))
+    else (if pointwise nat_eq word (codes "select") then Some Select
+    else (if pointwise nat_eq word (codes "run") then Some Run else None)))
 
 -- what a word with three numbers asks for
 abbrev pub gen_named : (word clients rounds number : List ℕ) → Option Command
@@ -31,6 +32,7 @@ abbrev pub without_threads : Option Command → Option Command
 without_threads None = None
 without_threads (Some Check) = Some Check
 without_threads (Some Replay) = Some Replay
+without_threads (Some Select) = Some Select
 without_threads (Some Run) = None
 without_threads (Some (Gen asked)) = Some (Gen asked)
 
@@ -42,5 +44,6 @@ plain_command_of words = without_threads (command_of words)
 abbrev pub IsBounded : Command → Type 0
 IsBounded Check = ⊤
 IsBounded Replay = ⊤
+IsBounded Select = ⊤
 IsBounded Run = ⊤
 IsBounded (Gen asked) = InBounds asked.clients asked.rounds

@@ -7,6 +7,7 @@ ghost use Rattle.pm_program.specs.Output.{IsTextOf, status_for, refusal};
 use crate::call::Status;
 use crate::finding::Found;
 use crate::replaying::replay;
+use crate::selecting::select;
 use crate::summing::summarize;
 use crate::words::Command;
 use pm_script::{Refusal, Session};
@@ -47,6 +48,7 @@ fn told(alloc: Global, command: Command, session: &Session) -> Result<String, Al
     match command {
         Command::Check => counts(alloc, session.lines.len(), session.head.doc.size()),
         Command::Replay => replay(alloc, session),
+        Command::Select => select(alloc, session),
         Command::Gen(asked) => summarize(alloc, asked, session),
         Command::Run => unreachable!(),
     }

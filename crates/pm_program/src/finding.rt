@@ -48,7 +48,9 @@ pub fn found_for<R: Source>(
 {
     match command {
         Command::Gen(asked) => Ok(found_made(alloc, asked)?),
-        Command::Check | Command::Replay | Command::Run => found_in(alloc, source),
+        Command::Check | Command::Replay | Command::Select | Command::Run => {
+            found_in(alloc, source)
+        }
     }
 }
 

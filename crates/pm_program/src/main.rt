@@ -9,6 +9,7 @@ mod obeying;
 mod one_output;
 mod replaying;
 mod running;
+mod selecting;
 mod summing;
 #[cfg(test)]
 mod tests;
@@ -36,7 +37,9 @@ fn main(rt: HostRuntime) -> io::Result<ExitCode> {
     // Where standard error takes nothing, the number still tells.
     let _told = match status {
         Status::Done | Status::SessionRefused => Ok(()),
-        Status::Usage => eprintln!(rt; "usage: check | replay | run | gen CLIENTS LINES NUMBER"),
+        Status::Usage => eprintln!(rt;
+            "usage: check | replay | run | gen CLIENTS LINES NUMBER | select"
+        ),
         Status::ReadFault => eprintln!(rt; "read fault"),
         Status::WriteFault => eprintln!(rt; "write fault"),
         Status::NoMemory => eprintln!(rt; "no memory"),

@@ -46,5 +46,9 @@ impl Maker<DocChange> for EditMaker {
 fn as_changes(alloc: Global, steps: Vec<Step>) -> Result<Vec<DocChange>, AllocError>
     ensures { IfOk result (λ v. v.items ≡ map step_of steps.items) }
 {
-    steps.into_iter().map(DocChange::new).collect(alloc)
+    let mut changes = Vec::new(alloc);
+    for step in steps {
+        changes.push(DocChange::new(alloc, step)?)?;
+    }
+    Ok(changes)
 }

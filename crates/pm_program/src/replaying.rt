@@ -5,7 +5,7 @@ ghost use Rattle.pm_schema.specs.Documents.{documents_of};
 ghost use Rattle.pm_apply.specs.Changes.{meaning};
 ghost use Rattle.pm_session.specs.Events.{state_of};
 ghost use Rattle.pm_session.specs.Sounds.{Sound};
-ghost use Rattle.pm_program.specs.Playing.{room_of, report_of};
+ghost use Rattle.pm_program.specs.Playing.{room_of, playing, report_of};
 ghost use Rattle.pm_script.specs.Held.{Holds};
 
 use crate::making::EditMaker;
@@ -13,7 +13,7 @@ use pm_apply::DocChange;
 use pm_head::raw_flags;
 use pm_report::{client_lines, report, with_numbers};
 use pm_script::Session;
-use pm_session::Room;
+use pm_session::{Outcome, Room};
 use std::alloc::{AllocError, Global};
 
 /// The report of a session, whose lines are played in file order.
@@ -22,11 +22,28 @@ pub fn replay(alloc: Global, session: &Session) -> Result<String, AllocError>
     ensures { IfOk result (λ s. string_bytes s ≡ report_of session.now) }
 {
     let schema = &session.head.schema;
-    let entries = session.head.clients.as_slice();
     let lines = session.lines.as_slice();
     let mut room = open(alloc, session)?;
     let outcomes = room.play_all(alloc, schema, &EditMaker, lines)?;
-    let outcomes = with_numbers(alloc, lines, outcomes)?;
+    report_of(alloc, session, room, outcomes)
+}
+
+/// The report of a session whose lines were played in file order, with these outcomes, and left this room.
+pub fn report_of(
+    alloc: Global,
+    session: &Session,
+    room: Room<DocChange>,
+    outcomes: Vec<Outcome<DocChange>>,
+) -> Result<String, AllocError>
+    requires sound { Sound meaning session.now.head.schema (state_of room) }
+    requires outcomes { outcomes.items ≡ (playing session.now).0 }
+    requires room { state_of room ≡ (playing session.now).1 }
+    ensures { IfOk result (λ s. string_bytes s ≡ report_of session.now) }
+{
+    let schema = &session.head.schema;
+    let entries = session.head.clients.as_slice();
+    let mut room = room;
+    let outcomes = with_numbers(alloc, session.lines.as_slice(), outcomes)?;
     let standing = client_lines(alloc, schema, entries, room.members())?;
     room.settle(alloc, schema)?;
     report(alloc, schema, entries, &outcomes, standing.as_str(), &room)

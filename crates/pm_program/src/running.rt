@@ -137,7 +137,8 @@ fn push_numbers(
 ghost use Rattle.std.specs.Prelude.{◌∷◌};
 ghost use Rattle.pm_program.specs.Running.{number_words};
 
-fn number_word(alloc: Global, number: u32) -> Result<String, AllocError>
+/// A blank and the number.
+pub fn number_word(alloc: Global, number: u32) -> Result<String, AllocError>
     ensures { IfOk result (λ s. string_bytes s ≡ 32 ∷ decimal number) }
 {
     format!(in alloc; " {number}")

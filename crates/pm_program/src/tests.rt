@@ -56,7 +56,7 @@ final {"content":[{"content":[{"text":"xab","type":"text"}],"type":"paragraph"}]
 
 // The words, the number of the read that fails, the status, how many bytes are written, and with what they begin. The second
 // read is the last, which finds the end. Wrong words are told before anything is read, and `gen` reads nothing.
-const ENDS: [(&str, u64, Status, usize, &str); 17] = [
+const ENDS: [(&str, u64, Status, usize, &str); 19] = [
     ("", 1, Status::Usage, 0, ""),
     ("replay x", 1, Status::Usage, 0, ""),
     ("run x", 1, Status::Usage, 0, ""),
@@ -77,6 +77,8 @@ const ENDS: [(&str, u64, Status, usize, &str); 17] = [
     ("replay", 1, Status::ReadFault, 0, ""),
     ("replay", 2, Status::ReadFault, 0, ""),
     ("replay", 3, Status::Done, 359, REPORT),
+    ("select", 2, Status::ReadFault, 0, ""),
+    ("select", 3, Status::Done, 365, "apart\n4 made 1\n"),
     ("run", 1, Status::ReadFault, 0, ""),
     ("run", 2, Status::ReadFault, 0, ""),
     ("run", 3, Status::Done, 369, "order 4 5\n4 made 1\n"),

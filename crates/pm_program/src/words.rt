@@ -11,13 +11,15 @@ pub enum Command {
     Check,
     /// Plays a session with its lines in file order, and writes the report.
     Replay,
+    /// Plays a session as `replay` does, and writes at which lines it undid an event that lies apart, and the report.
+    Select,
     /// Plays a session with a thread for each client, and writes the order of its lines and the report.
     Run,
     /// Makes a session from a number, plays it with its lines in file order, and writes a summary. Nothing is read.
     Gen(Asked),
 }
 
-/// The one word `check`, `replay` or `run`, or `gen` with three numbers that a session may be made from. All other words are
+/// The one word `check`, `replay`, `select` or `run`, or `gen` with three numbers that a session may be made from. All other words are
 /// none of the forms.
 pub fn command_of(words: &[String]) -> Option<Command>
     ensures named { result ≡ command_of (map string_bytes words.now) }
@@ -75,6 +77,8 @@ fn command_named(word: &str) -> Option<Command>
         Some(Command::Check)
     } else if word == "replay" {
         Some(Command::Replay)
+    } else if word == "select" {
+        Some(Command::Select)
     } else if word == "run" {
         Some(Command::Run)
     } else {
