@@ -1,6 +1,7 @@
 pub mod Plain
 pub mod Codes
 pub mod Views
+pub mod Kinds
 pub mod Falls
 pub mod Equal
 pub mod Answers

@@ -3,6 +3,7 @@
 
 mod copying;
 mod fault;
+mod kinds;
 mod reading;
 mod same;
 mod text;
@@ -10,6 +11,7 @@ mod value;
 mod writing;
 
 pub use fault::ValueError;
+pub use kinds::Kinds;
 pub use reading::MAX_DEPTH;
 pub use text::Text;
 pub use value::{Field, Fields, Items, Value};

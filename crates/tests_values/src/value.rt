@@ -1,5 +1,5 @@
 //! Tables of JSON texts, with ample memory.
-use pm_value::{Text, Value, ValueError};
+use pm_value::{Kinds, Text, Value, ValueError};
 use serde_json::Value as Json;
 use std::test::Fail;
 
@@ -31,6 +31,32 @@ fn the_first_fault_is_named(rt: HostRuntime) -> Result<(), Fail> {
             Value::from_json(alloc, &json).err() == Some(*fault),
             "at {text}"
         );
+    }
+    Ok(())
+}
+
+#[test]
+fn kinds_tell_values(rt: HostRuntime) -> Result<(), Fail> {
+    let alloc = rt.alloc();
+    let kinds = Kinds {
+        string: true,
+        number: false,
+        boolean: false,
+        null: true,
+    };
+    let rows = [
+        (r#""a""#, true),
+        ("null", true),
+        ("1", false),
+        ("true", false),
+        ("[]", false),
+        ("{}", false),
+    ];
+    for (text, want) in &rows {
+        let json = Json::from_str(alloc, text)?;
+        let value = Value::from_json(alloc, &json)?;
+        assert!(rt; kinds.has(&value) == *want, "at {text}");
+        assert!(rt; Kinds::allow(None, &value), "at {text}");
     }
     Ok(())
 }
