@@ -6,7 +6,7 @@ use Rattle.std.specs.Prelude.{None, Ok, codes, nat_le}
 use Rattle.std.specs.List.{list_all}
 use Rattle.std.specs.List.Sorted.{IsStrictlySortedBy}
 use Rattle.serde_json.specs.Data.{Data, object, Members, no_members, member, put}
-use Rattle.pm_value.specs.Plain.{Plain, depth}
+use Rattle.pm_value.specs.Plain.{Plain, depth, plains_of, plains_depth}
 use Rattle.pm_value.specs.Kept.{InOrder}
 use Rattle.pm_value.specs.Told.{paired}
 use Rattle.pm_value.specs.Reading.{value_of}
@@ -14,6 +14,7 @@ use Rattle.pm_value.specs.Writing.{written, members_written}
 use Rattle.pm_schema.specs.declared.spec.AttrSpec.{AttrSpec}
 use Rattle.pm_schema.specs.Types.{fit_attrs}
 use Rattle.pm_schema.specs.Attrs.{no_attr}
+use Rattle.pm_schema.proofs.FitLaws.{fit-parts}
 use Rattle.pm_docjson.specs.Values.{keys, values_for}
 use Rattle.pm_docjson.specs.Reading.{given_in, given_at, attrs_read}
 use Rattle.pm_docjson.specs.Members.{attr_members, attrs_field, put_attrs}
@@ -113,11 +114,7 @@ put_attrs-empty [] vs ms h = refl
 put_attrs-empty (n ∷ ns) vs ms h = absurd (omega arith)
 
 pub fit-size : (attrs : List AttrSpec) (vs : List Plain) → fit_attrs attrs vs ≡ true → length vs ≡ length attrs
-fit-size attrs vs h = sized (length vs == length attrs) (list_all (λ v. nat_le (depth v) 4) vs) refl h
-  where
-    sized : (a b : Bool) → (length vs == length attrs) ≡ a → (a && b) ≡ true → length vs ≡ length attrs
-    sized true b e g = grind (arith, nat_tests)
-    sized false b e g = absurd (cc)
+fit-size attrs vs h = (fit-parts attrs vs h).many
 
 pub no-attrs : (vs : List Plain) → length vs ≡ 0 → attrs_read [] None ≡ Ok vs
 unfolding attrs_read given_at values_for
@@ -128,36 +125,20 @@ pub attrs-again : (attrs : List AttrSpec) (vs : List Plain) → InOrder (keys at
     → attrs_read attrs (attrs_field (keys attrs) vs) ≡ Ok vs
 unfolding attrs_read given_at written
 attrs-again [] vs order fit read = no-attrs vs (fit-size [] vs fit)
-attrs-again (a ∷ attrs) vs order fit read = rw (read, values_for-again (a ∷ attrs) vs order (fit-size (a ∷ attrs) vs fit)) refl
+attrs-again (a ∷ attrs) vs order fit read = rw (read, values_for-again (a ∷ attrs) vs order fit) refl
 
 -- the name and the value at a place
 
 pub name-at : (attrs : List AttrSpec) (i : ℕ) (k : List ℕ) → i < length attrs → k ≡ (get_or attrs i no_attr).name → k ≡ get_or (keys attrs) i k
 name-at attrs i k within is = is ∙ sym (get_or-map (λ a. a.name) attrs i no_attr k within)
 
-depth-from : (vs : List Plain) (i : ℕ) (v : Plain) → list_all (λ w. nat_le (depth w) 4) vs ≡ true → i < length vs → v ≡ get_or vs i v → depth v ≤ 4
+depth-from : (vs : List Plain) (i : ℕ) (v : Plain) → plains_depth (plains_of vs) ≤ 4 → i < length vs → v ≡ get_or vs i v → depth v ≤ 4
 depth-from [] i v h within is = absurd (omega arith)
-depth-from (w ∷ vs) zero v h within is = rw is (small (depth w) (list_all (λ x. nat_le (depth x) 4) vs) h)
-  where
-    small : (n : ℕ) (b : Bool) → (nat_le n 4 && b) ≡ true → n ≤ 4
-    small n true e = grind (arith, nat_tests)
-    small n false e = absurd (no-and (nat_le n 4) e)
-      where
-        no-and : (a : Bool) → (a && false) ≡ true → ⊥
-        no-and true g = absurd (cc)
-        no-and false g = absurd (cc)
-depth-from (w ∷ vs) (suc i) v h within is = depth-from vs i v (second (nat_le (depth w) 4) (list_all (λ x. nat_le (depth x) 4) vs) h) (omega arith) is
-  where
-    second : (a b : Bool) → (a && b) ≡ true → b ≡ true
-    second true b e = e
-    second false b e = absurd (cc)
+depth-from (w ∷ vs) zero v h within is = rw is (omega (arith, h))
+depth-from (w ∷ vs) (suc i) v h within is = depth-from vs i v (omega (arith, h)) (omega arith) is
 
 pub depth-at : (attrs : List AttrSpec) (vs : List Plain) (i : ℕ) (v : Plain) → fit_attrs attrs vs ≡ true → i < length vs → v ≡ get_or vs i v → depth v ≤ 4
-depth-at attrs vs i v h within is = depth-from vs i v (second (length vs == length attrs) (list_all (λ w. nat_le (depth w) 4) vs) h) within is
-  where
-    second : (a b : Bool) → (a && b) ≡ true → b ≡ true
-    second true b e = e
-    second false b e = absurd (cc)
+depth-at attrs vs i v h within is = depth-from vs i v (fit-parts attrs vs h).low within is
 
 pub keys-size : (attrs : List AttrSpec) (vs : List Plain) → fit_attrs attrs vs ≡ true → length vs ≡ length (keys attrs)
 keys-size attrs vs h = fit-size attrs vs h ∙ sym (length-map attrs (λ a. a.name))

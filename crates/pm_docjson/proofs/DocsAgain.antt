@@ -1,5 +1,5 @@
 -- A document that is written is read again.
-use Rattle.std.proofs.Common.{◌≡◌, ◌<◌, ◌==◌, ℕ, ◌^◌, List, [], ◌∷◌, length, Bool, true, false, cond, nat_lt, refl, ap, sym, subst, arith}
+use Rattle.std.proofs.Common.{◌∙◌, ◌≡◌, ◌<◌, ◌==◌, ℕ, ◌^◌, List, [], ◌∷◌, length, Bool, true, false, cond, nat_lt, refl, ap, sym, subst, arith}
 use Rattle.std.proofs.lemmas.Bool.Decides.{nat_tests}
 use Rattle.std.specs.Prelude.{Some, Ok}
 use Rattle.pm_tokens.specs.Tokens.{Attrs, Token, Doc}
@@ -7,6 +7,8 @@ use Rattle.pm_tokens.specs.Marks.{is_set}
 use Rattle.pm_tokens.specs.Faults.{Valid}
 use Rattle.pm_schema.specs.declared.spec.SchemaSpec.{SchemaSpec}
 use Rattle.pm_schema.specs.Documents.{documents_of}
+use Rattle.pm_tokens.proofs.SchemaLaws.{max-size-small}
+use Rattle.pm_schema.proofs.FitLaws.{node-attrs-are}
 use Rattle.pm_schema.specs.Names.{place_of}
 use Rattle.pm_schema.specs.Types.{fit_attrs, names_of_nodes, node_at}
 use Rattle.pm_node.specs.Documents.{content_tokens, doc_of}
@@ -41,10 +43,10 @@ pub doc-again : (s : SchemaSpec) (d : Doc) → ContentAgain s d.tokens → TypeA
 unfolding documents_of
 doc-again s d content named attrs v other =
     let ts = d.tokens in
-    let p = and_parts (nat_lt d.kind (length s.nodes)) (fit_attrs (node_at s d.kind).attrs d.attrs) v.top_attrs in
+    let p = and_parts (nat_lt d.kind (length s.nodes)) (fit_attrs (node_at s d.kind).attrs d.attrs) (sym (node-attrs-are s d.kind d.attrs) ∙ v.top_attrs) in
     let marks : MarksAgain s d.marks = subst (MarksAgain s) (sym v.top_marks) tt in
     let set : is_set (documents_of s) d.marks ≡ true = subst (λ ms. is_set (documents_of s) ms ≡ true) (sym v.top_marks) refl in
-    let few : length ts < 2 ^ 32 = omega (arith, v.size) in
+    let few : length ts < 2 ^ 32 = omega (arith, v.size, max-size-small (documents_of s)) in
     let held = content-again s Kept (nodes_written s ts) ts (content (content-writable s d v) Kept) few in
     branch-again s Kept d.kind d.attrs d.marks (nodes_written s ts) ts (body_of s d.kind ts) (named (inside d.kind (length s.nodes) p.0)) other (attrs p.1) marks set held refl
   where

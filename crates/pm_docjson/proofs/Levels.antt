@@ -1,5 +1,5 @@
 -- How deep the JSON values of nodes nest.
-use Rattle.std.proofs.Common.{◌≡◌, ◌≤◌, ◌+◌, ◌-◌, ◌*◌, ◌==◌, ℕ, zero, suc, max, List, [], ◌∷◌, length, Bool, true, false, cond, ◌&&◌, not, nat_lt, refl, sym, subst, arith}
+use Rattle.std.proofs.Common.{◌≡◌, ◌≤◌, ◌+◌, ◌-◌, ◌*◌, ◌==◌, ℕ, zero, suc, max, List, [], ◌∷◌, length, Bool, true, false, cond, ◌&&◌, not, nat_lt, refl, sym, subst, ◌∙◌, arith}
 use Rattle.std.proofs.lemmas.Bool.Decides.{nat_tests}
 use Rattle.std.specs.Prelude.{codes, nat_le}
 use Rattle.std.specs.List.{list_all}
@@ -23,6 +23,7 @@ use Rattle.pm_schema.specs.declared.spec.SchemaSpec.{SchemaSpec}
 use Rattle.pm_schema.specs.declared.spec.AttrSpec.{AttrSpec}
 use Rattle.pm_schema.specs.Types.{node_at, mark_at, fit_attrs}
 use Rattle.pm_schema.specs.Documents.{documents_of}
+use Rattle.pm_schema.proofs.FitLaws.{fit-parts, node-attrs-are}
 use Rattle.pm_docjson.specs.Trees.{text, branch, Trees, none, tree, with_unit, Levels, innermost, with_token, read_back}
 use Rattle.pm_docjson.specs.Values.{keys}
 use Rattle.pm_docjson.specs.Writable.{mark_fits, marks_fit, type_fits, is_writable, are_writable}
@@ -75,19 +76,8 @@ mutual
       omega (arith, h, k, p)
 
 -- values that fit are at most four levels deep
-values-low : (vs : List Plain) → list_all (λ v. nat_le (value_depth v) 4) vs ≡ true → plains_depth (plains_of vs) ≤ 4
-values-low [] h = omega arith
-values-low (v ∷ vs) h =
-    let p = and_parts (nat_le (value_depth v) 4) (list_all (λ w. nat_le (value_depth w) 4) vs) h in
-    let low : value_depth v ≤ 4 = at_most (value_depth v) p.0 in
-    let rest = values-low vs p.1 in
-    omega (arith, low, rest)
-  where
-    at_most : (n : ℕ) → nat_le n 4 ≡ true → n ≤ 4
-    at_most n e = grind (arith, nat_tests)
-
 attrs-low : (attrs : List AttrSpec) (vs : List Plain) → fit_attrs attrs vs ≡ true → plains_depth (plains_of vs) ≤ 4
-attrs-low attrs vs h = values-low vs (and_parts (length vs == length attrs) (list_all (λ v. nat_le (value_depth v) 4) vs) h).1
+attrs-low attrs vs h = (fit-parts attrs vs h).low
 
 -- attributes before members that are this deep
 with-attrs : (ks : List (List ℕ)) (vs : List Plain) (ms : Members) (n : ℕ) → plains_depth (plains_of vs) ≤ 4 → members_depth ms ≤ n → 5 ≤ n → members_depth (with_attrs ks vs ms) ≤ n
@@ -246,6 +236,6 @@ module _ (s : SchemaSpec) where
   valid-low d v =
       let w = content-writable s d v in
       let inner = nodes-low 48 d.tokens w.tokens v.whole (depths-bound 48 d.tokens v.depth) in
-      let p = and_parts (nat_lt d.kind (length s.nodes)) (fit_attrs (node_at s d.kind).attrs d.attrs) v.top_attrs in
+      let p = and_parts (nat_lt d.kind (length s.nodes)) (fit_attrs (node_at s d.kind).attrs d.attrs) (sym (node-attrs-are s d.kind d.attrs) ∙ v.top_attrs) in
       let set : marks_fit s d.marks ≡ true = subst (λ ms. marks_fit s ms ≡ true) (sym v.top_marks) refl in
       branch-low d.kind d.attrs d.marks (nodes_written s d.tokens) 105 p.1 set (omega (arith, inner)) (omega arith)

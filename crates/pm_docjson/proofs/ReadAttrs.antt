@@ -1,5 +1,5 @@
 -- Attributes and marks that are read fit their types, where no default is more than four levels deep.
-use Rattle.std.proofs.Common.{◌≡◌, ◌≤◌, ◌<◌, ◌==◌, ℕ, zero, suc, List, [], ◌∷◌, length, get_or, Bool, true, false, cond, nat_lt, refl, ap, subst, ◌∙◌, arith}
+use Rattle.std.proofs.Common.{◌≡◌, ◌≤◌, ◌<◌, ◌==◌, ℕ, zero, suc, List, [], ◌∷◌, length, get_or, Bool, true, false, not, ◌||◌, cond, nat_lt, refl, ap, subst, ◌∙◌, arith}
 use Rattle.std.proofs.lemmas.List.{length-map}
 use Rattle.std.proofs.lemmas.Bool.Decides.{nat_tests}
 use Rattle.std.proofs.lemmas.List.Quantifiers.{position-Some}
@@ -13,19 +13,22 @@ use Rattle.pm_value.specs.declared.fault.ValueError.{ValueError}
 use Rattle.pm_value.specs.declared.value.Value.{Value}
 use Rattle.pm_value.specs.Plain.{Plain, depth}
 use Rattle.pm_value.specs.Views.{plain}
+use Rattle.pm_value.specs.Kinds.{is_allowed}
 use Rattle.pm_value.specs.Reading.{value_of}
 use Rattle.pm_value.proofs.Shallow.{value-shallow}
 use Rattle.pm_marks.specs.declared.mark.Mark.{Mark}
 use Rattle.pm_tokens.specs.Tokens.{Marks}
+use Rattle.pm_tokens.specs.Schemas.{takes}
 use Rattle.pm_tokens.specs.Marks.{is_set}
 use Rattle.pm_schema.specs.declared.spec.SchemaSpec.{SchemaSpec}
 use Rattle.pm_schema.specs.declared.spec.AttrSpec.{AttrSpec}
 use Rattle.pm_schema.specs.declared.spec.NodeSpec.{NodeSpec}
 use Rattle.pm_schema.specs.declared.spec.MarkSpec.{MarkSpec}
-use Rattle.pm_schema.specs.Attrs.{given_for, or_default, value_for, is_unknown}
-use Rattle.pm_schema.specs.Defaults.{is_shallow, are_shallow, HasShallowDefaults}
+use Rattle.pm_schema.specs.declared.schema.Schema.{Schema}
+use Rattle.pm_schema.specs.Attrs.{given_for, or_default, value_for, is_unknown, is_refused, is_other_kind}
+use Rattle.pm_schema.specs.Defaults.{is_shallow, are_shallow, is_kind_of_default, have_kinds, nodes_have_kinds, marks_have_kinds, HasShallowDefaults}
 use Rattle.pm_schema.specs.Names.{place_of}
-use Rattle.pm_schema.specs.Types.{names_of_nodes, names_of_marks, node_at, mark_at, no_node, no_mark, fit_attrs}
+use Rattle.pm_schema.specs.Types.{names_of_nodes, names_of_marks, node_at, mark_at, no_node, no_mark, declared, fit_attrs}
 use Rattle.pm_schema.specs.Documents.{documents_of}
 use Rattle.pm_docjson.specs.declared.fault.DocReadError.TheVariants.{Shape, UnknownType, Attr, NotASet}
 use Rattle.pm_docjson.specs.Fields.{field, text_at}
@@ -94,38 +97,62 @@ value-low given a v low sh h = from (given_for a.name given) refl h
     from None is e = default-low a.default v sh e
     from (Some w) is e = let same : w ≡ v = cc in found-low a.name given v low (is ∙ ap Some same)
 
-record AllLow (attrs : List AttrSpec) (vs : List Plain) : Type 0 where
-  many : length vs ≡ length attrs
-  low : list_all Low vs ≡ true
+-- what is known of the defaults of a type's attributes
+pub record GoodDefaults (attrs : List AttrSpec) : Type 0 where
+  pub shallow : are_shallow attrs ≡ true
+  pub kinds : have_kinds attrs ≡ true
 
-values-low : (given : Given) (attrs : List AttrSpec) (vs : List Plain) → GivenLow given → are_shallow attrs ≡ true → all_values given attrs ≡ Some vs → AllLow attrs vs
-values-low given [] vs low sh h = let same : [] ≡ vs = cc in subst (AllLow []) same (record { many = refl; low = refl })
-values-low given (a ∷ more) vs low sh h =
-    let parts = and_parts (is_shallow a.default) (are_shallow more) sh in
-    from (value_for given a) (all_values given more) (λ v i. value-low given a v low parts.0 i) (λ ws j. values-low given more ws low parts.1 j) h
+-- a value that is given is of a kind that is named, and so is a default
+value-kind : (given : Given) (a : AttrSpec) (v : Plain) → is_kind_of_default a.validate a.default ≡ true → is_other_kind given a ≡ false → value_for given a ≡ Some v → is_allowed a.validate v ≡ true
+value-kind given a v sure none h = from (given_for a.name given) none h
   where
-    from : (o : Option Plain) (os : Option (List Plain)) → ((v : Plain) → o ≡ Some v → Low v ≡ true) → ((ws : List Plain) → os ≡ Some ws → AllLow more ws) → option_and_then (λ v. option_map (λ ws. v ∷ ws) os) o ≡ Some vs → AllLow (a ∷ more) vs
+    un-not : (b : Bool) → not b ≡ false → b ≡ true
+    un-not true e = refl
+    un-not false e = absurd (cc)
+
+    default : (d : Option Value) → is_kind_of_default a.validate d ≡ true → option_map plain d ≡ Some v → is_allowed a.validate v ≡ true
+    default None k e = absurd (cc)
+    default (Some w) k e = let same : plain w ≡ v = cc in subst (λ x. is_allowed a.validate x ≡ true) same k
+
+    from : (o : Option Plain) → is_refused a.validate o ≡ false → or_default o (option_map plain a.default) ≡ Some v → is_allowed a.validate v ≡ true
+    from None k e = default a.default sure e
+    from (Some w) k e = let same : w ≡ v = cc in subst (λ x. is_allowed a.validate x ≡ true) same (un-not (is_allowed a.validate w) k)
+
+neither : (a b : Bool) → (a || b) ≡ false → (a ≡ false) × (b ≡ false)
+neither true b h = absurd (cc)
+neither false b h = (refl, h)
+
+values-fit : (given : Given) (attrs : List AttrSpec) (vs : List Plain) → GivenLow given → GoodDefaults attrs → list_any (is_other_kind given) attrs ≡ false → all_values given attrs ≡ Some vs → fit_attrs attrs vs ≡ true
+values-fit given [] vs low good none h = let same : [] ≡ vs = cc in subst (λ xs. fit_attrs [] xs ≡ true) same refl
+values-fit given (a ∷ more) vs low good none h =
+    let sh = and_parts (is_shallow a.default) (are_shallow more) good.shallow in
+    let ks = and_parts (is_kind_of_default a.validate a.default) (have_kinds more) good.kinds in
+    let no = neither (is_other_kind given a) (list_any (is_other_kind given) more) none in
+    from (value_for given a) (all_values given more)
+    (λ v i. and_from (Low v) (is_allowed a.validate v) (value-low given a v low sh.0 i) (value-kind given a v ks.0 no.0 i))
+    (λ ws j. values-fit given more ws low (record { shallow = sh.1; kinds = ks.1 }) no.1 j) h
+  where
+    from : (o : Option Plain) (os : Option (List Plain)) → ((v : Plain) → o ≡ Some v → takes (declared a) v ≡ true) → ((ws : List Plain) → os ≡ Some ws → fit_attrs more ws ≡ true)
+        → option_and_then (λ v. option_map (λ ws. v ∷ ws) os) o ≡ Some vs → fit_attrs (a ∷ more) vs ≡ true
     from None os i j e = absurd (cc)
     from (Some v) None i j e = absurd (cc)
     from (Some v) (Some ws) i j e =
         let same : v ∷ ws ≡ vs = cc in
-        let rest = j ws refl in
-        subst (AllLow (a ∷ more)) same (record { many = ap suc rest.many; low = and_from (Low v) (list_all Low ws) (i v refl) rest.low })
+        subst (λ xs. fit_attrs (a ∷ more) xs ≡ true) same (and_from (takes (declared a) v) (fit_attrs more ws) (i v refl) (j ws refl))
 
-known : {A : Type 0} (b : Bool) (o : Option A) (x : A) → cond b None o ≡ Some x → o ≡ Some x
-known true o x h = absurd (cc)
-known false o x h = h
+-- no name is unknown and no value of another kind, where values came
+known : {A : Type 0} (b c : Bool) (o : Option A) (x : A) → cond b None (cond c None o) ≡ Some x → (c ≡ false) × (o ≡ Some x)
+known true c o x h = absurd (cc)
+known false true o x h = absurd (cc)
+known false false o x h = (refl, h)
 
 -- the attributes that are read
-pub attrs-fit : (attrs : List AttrSpec) (d : Option Data) (vs : List Plain) → are_shallow attrs ≡ true → attrs_read attrs d ≡ Ok vs → fit_attrs attrs vs ≡ true
+pub attrs-fit : (attrs : List AttrSpec) (d : Option Data) (vs : List Plain) → GoodDefaults attrs → attrs_read attrs d ≡ Ok vs → fit_attrs attrs vs ≡ true
 unfolding attrs_read values_for
-attrs-fit attrs d vs sh h =
+attrs-fit attrs d vs good h =
     let a = first-read (given_at d) (λ given. or_fault Attr (values_for attrs given)) vs h in
-    let w = values-low a.0 attrs vs (given-at d a.0 a.1.0) sh (known (list_any (is_unknown attrs) a.0) (all_values a.0 attrs) vs (there Attr (values_for attrs a.0) vs a.1.1)) in
-    and_from (length vs == length attrs) (list_all Low vs) (same_length (length vs) (length attrs) w.many) w.low
-  where
-    same_length : (n m : ℕ) → n ≡ m → (n == m) ≡ true
-    same_length n m e = grind (arith, nat_tests)
+    let k = known (list_any (is_unknown attrs) a.0) (list_any (is_other_kind a.0) attrs) (all_values a.0 attrs) vs (there Attr (values_for attrs a.0) vs a.1.1) in
+    values-fit a.0 attrs vs (given-at d a.0 a.1.0) good k.0 k.1
 
 -- ---- types
 
@@ -134,11 +161,26 @@ each p [] i d last h = last
 each p (x ∷ xs) zero d last h = (and_parts (p x) (list_all p xs) h).0
 each p (x ∷ xs) (suc i) d last h = each p xs i d last (and_parts (p x) (list_all p xs) h).1
 
-pub node-defaults : (s : SchemaSpec) (k : ℕ) → HasShallowDefaults s → are_shallow (node_at s k).attrs ≡ true
-node-defaults s k h = each (λ (n : NodeSpec). are_shallow n.attrs) s.nodes k no_node refl h.nodes
+-- what is known of the defaults of a schema that was built, where they are shallow
+pub record KnownDefaults (s : SchemaSpec) : Type 0 where
+  pub shallow : HasShallowDefaults s
+  pub nodes : nodes_have_kinds s ≡ true
+  pub marks : marks_have_kinds s ≡ true
 
-pub mark-defaults : (s : SchemaSpec) (k : ℕ) → HasShallowDefaults s → are_shallow (mark_at s k).attrs ≡ true
-mark-defaults s k h = each (λ (m : MarkSpec). are_shallow m.attrs) s.marks k no_mark refl h.marks
+pub known-defaults : (s : Schema) → HasShallowDefaults s.spec → KnownDefaults s.spec
+known-defaults s sh = record { shallow = sh; nodes = s.node_defaults; marks = s.mark_defaults }
+
+pub node-defaults : (s : SchemaSpec) (k : ℕ) → KnownDefaults s → GoodDefaults (node_at s k).attrs
+node-defaults s k h = record {
+  shallow = each (λ (n : NodeSpec). are_shallow n.attrs) s.nodes k no_node refl h.shallow.nodes;
+  kinds = each (λ (n : NodeSpec). have_kinds n.attrs) s.nodes k no_node refl h.nodes;
+}
+
+pub mark-defaults : (s : SchemaSpec) (k : ℕ) → KnownDefaults s → GoodDefaults (mark_at s k).attrs
+mark-defaults s k h = record {
+  shallow = each (λ (m : MarkSpec). are_shallow m.attrs) s.marks k no_mark refl h.shallow.marks;
+  kinds = each (λ (m : MarkSpec). have_kinds m.attrs) s.marks k no_mark refl h.marks;
+}
 
 inside : (name : List ℕ) (names : List (List ℕ)) (k : ℕ) → place_of name names ≡ Some k → k < length names
 inside name names k h = (position-Some (λ n. bytes_eq name n) names k [] h).0
@@ -163,7 +205,7 @@ mark-inside s name k h =
 
 -- ---- marks
 
-pub mark-read : (s : SchemaSpec) (d : Data) (m : Mark (List Plain)) → HasShallowDefaults s → mark_of s d ≡ Ok m → mark_fits s m ≡ true
+pub mark-read : (s : SchemaSpec) (d : Data) (m : Mark (List Plain)) → KnownDefaults s → mark_of s d ≡ Ok m → mark_fits s m ≡ true
 unfolding mark_of
 mark-read s d m sh h =
     let a = first-read (text_at (codes "type") d) (λ name. or_fault UnknownType (place_of name (names_of_marks s)) >>= λ kind. attrs_read (mark_at s kind).attrs (field (codes "attrs") d) >>= λ attrs. Ok (record { kind = kind; attrs = attrs })) m h in
@@ -176,7 +218,7 @@ mark-read s d m sh h =
     (mark-inside s a.0 b.0 (there UnknownType (place_of a.0 (names_of_marks s)) b.0 b.1.0))
     (attrs-fit (mark_at s b.0).attrs (field (codes "attrs") d) c.0 (mark-defaults s b.0 sh) c.1.0))
 
-marks-listed : (s : SchemaSpec) (ds : Items) (ms : Marks) → HasShallowDefaults s → mark_list s ds ≡ Ok ms → list_all (mark_fits s) ms ≡ true
+marks-listed : (s : SchemaSpec) (ds : Items) (ms : Marks) → KnownDefaults s → mark_list s ds ≡ Ok ms → list_all (mark_fits s) ms ≡ true
 unfolding mark_list
 marks-listed s no_items ms sh h = let same : [] ≡ ms = cc in subst (λ x. list_all (mark_fits s) x ≡ true) same refl
 marks-listed s (item d ds) ms sh h =
@@ -193,7 +235,7 @@ set-read s xs ms h = from (is_set (documents_of s) xs) refl h
     from false is e = absurd (cc)
 
 -- the marks of a node that is read
-pub marks-read-fit : (s : SchemaSpec) (d : Option Data) (ms : Marks) → HasShallowDefaults s → marks_of s d ≡ Ok ms → marks_fit s ms ≡ true
+pub marks-read-fit : (s : SchemaSpec) (d : Option Data) (ms : Marks) → KnownDefaults s → marks_of s d ≡ Ok ms → marks_fit s ms ≡ true
 unfolding marks_of
 marks-read-fit s None ms sh h = let same : [] ≡ ms = cc in subst (λ x. marks_fit s x ≡ true) same refl
 marks-read-fit s (Some d) ms sh h =

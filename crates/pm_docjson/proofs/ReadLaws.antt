@@ -5,7 +5,6 @@ use Rattle.serde_json.specs.Data.{Data, Items}
 use Rattle.pm_tokens.specs.Tokens.{Token, Open, Close, Leaf, CodeUnit}
 use Rattle.pm_tokens.specs.Faults.{first_broken}
 use Rattle.pm_schema.specs.declared.spec.SchemaSpec.{SchemaSpec}
-use Rattle.pm_schema.specs.Defaults.{HasShallowDefaults}
 use Rattle.pm_schema.specs.Types.{node_at}
 use Rattle.pm_schema.specs.Documents.{documents_of}
 use Rattle.pm_node.specs.Trees.{node_tokens}
@@ -14,7 +13,7 @@ use Rattle.pm_docjson.specs.declared.leaves.LeafContent.TheVariants.{Kept, Refus
 use Rattle.pm_docjson.specs.Laws.{has_no_filled_leaf, ReadNodeComesBack, ReadNodesAreWritable}
 use Rattle.pm_docjson.specs.Reading.{bounded, node_list}
 use Rattle.pm_docjson.specs.Writable.{type_fits, marks_fit, is_writable, are_writable}
-use Rattle.pm_docjson.proofs.ReadAttrs.{first-read}
+use Rattle.pm_docjson.proofs.ReadAttrs.{first-read, KnownDefaults}
 use Rattle.pm_docjson.proofs.ReadNodes.{fits_by, all_by, node-read, list-read}
 use Rattle.pm_docjson.proofs.ViewTexts.{HasTexts, EachHasTexts}
 use Rattle.std.proofs.lemmas.Bool.{and_parts, and_from}
@@ -40,7 +39,7 @@ module _ (s : SchemaSpec) where
   loose (Leaf k a m ∷ ts) h e = let p = and_parts (is_writable s (Leaf k a m)) (all_by s false ts) h in and_from (is_writable s (Leaf k a m)) (are_writable s ts) p.0 (loose ts p.1 e)
   loose (CodeUnit u m ∷ ts) h e = let p = and_parts (marks_fit s m) (all_by s false ts) h in and_from (marks_fit s m) (are_writable s ts) p.0 (loose ts p.1 e)
 
-  module _ (sh : HasShallowDefaults s) (plain : (node_at s (documents_of s).text).attrs ≡ []) where
+  module _ (sh : KnownDefaults s) (plain : (node_at s (documents_of s).text).attrs ≡ []) where
     pub node-back : (d : Data) → HasTexts d → ReadNodeComesBack s d
     node-back d texts = record {
       refused = λ n h. let w = node-read s Refused sh plain d n texts h in (record { tokens = strict (node_tokens n) w.tokens.fits; pairs = w.tokens.pairs 1; filled = w.some }, w.itself);

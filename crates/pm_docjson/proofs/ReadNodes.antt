@@ -15,7 +15,6 @@ use Rattle.pm_tokens.specs.Tokens.{Attrs, Marks, Token, Open, Close, Leaf, CodeU
 use Rattle.pm_tokens.specs.Kids.{text_tokens}
 use Rattle.pm_schema.specs.declared.spec.SchemaSpec.{SchemaSpec}
 use Rattle.pm_schema.specs.declared.spec.AttrSpec.{AttrSpec}
-use Rattle.pm_schema.specs.Defaults.{HasShallowDefaults}
 use Rattle.pm_schema.specs.Names.{place_of}
 use Rattle.pm_schema.specs.Types.{names_of_nodes, node_at, fit_attrs}
 use Rattle.pm_schema.specs.Documents.{documents_of}
@@ -30,7 +29,7 @@ use Rattle.pm_docjson.specs.Reading.{attrs_read, marks_of, filled, refuses, no_n
 use Rattle.pm_docjson.specs.Writable.{marks_fit, type_fits, is_writable}
 use Rattle.pm_docjson.specs.Writing.{as_read}
 use Rattle.pm_docjson.proofs.Pairs.{NoBroken, broken-closed}
-use Rattle.pm_docjson.proofs.ReadAttrs.{first-read, there, attrs-fit, node-defaults, node-inside, marks-read-fit}
+use Rattle.pm_docjson.proofs.ReadAttrs.{first-read, there, attrs-fit, node-defaults, node-inside, marks-read-fit, KnownDefaults}
 use Rattle.pm_docjson.proofs.ReadPairs.{pairs-append, text-pairs, some-units, some-tokens}
 use Rattle.pm_docjson.proofs.ViewTexts.{HasTexts, EachHasTexts, AllHaveTexts, text-found}
 use Rattle.std.proofs.lemmas.Bool.{and_parts, and_from}
@@ -92,12 +91,9 @@ module _ (s : SchemaSpec) (strict : Bool) where
 
   no-attrs : (attrs : List AttrSpec) (vs : Attrs) → attrs ≡ [] → fit_attrs attrs vs ≡ true → vs ≡ []
   no-attrs attrs [] is h = refl
-  no-attrs attrs (v ∷ vs) is h = absurd (none (subst (λ x. fit_attrs x (v ∷ vs) ≡ true) is h))
-    where
-      none : fit_attrs [] (v ∷ vs) ≡ true → ⊥
-      none e = let p = and_parts (length (v ∷ vs) == 0) _ e in grind (arith, nat_tests, p.0)
+  no-attrs attrs (v ∷ vs) is h = absurd (let none : fit_attrs [] (v ∷ vs) ≡ true = subst (λ x. fit_attrs x (v ∷ vs) ≡ true) is h in cc)
 
-  text-read : (d : Data) (n : Node) → HasShallowDefaults s → (node_at s (documents_of s).text).attrs ≡ [] → HasTexts d → text_from s d ≡ Ok n → IsRead n
+  text-read : (d : Data) (n : Node) → KnownDefaults s → (node_at s (documents_of s).text).attrs ≡ [] → HasTexts d → text_from s d ≡ Ok n → IsRead n
   unfolding text_from
   text-read d n sh plain texts h =
       let t = (documents_of s).text in
@@ -163,7 +159,7 @@ module _ (s : SchemaSpec) (strict : Bool) where
       opens true false f = refl
       opens false l f = refl
 
-module _ (s : SchemaSpec) (l : LeafContent) (sh : HasShallowDefaults s) (plain : (node_at s (documents_of s).text).attrs ≡ []) where
+module _ (s : SchemaSpec) (l : LeafContent) (sh : KnownDefaults s) (plain : (node_at s (documents_of s).text).attrs ≡ []) where
   -- the tokens, where content of leaf types is refused or kept as l says
   abbrev Tokens : List Token → Type 0
   Tokens = AreRead s (refuses l)

@@ -4,7 +4,7 @@ use Rattle.std.specs.Prelude.{Option, Some, None, option_map, option_and_then, i
 use Rattle.std.specs.List.{list_any}
 use Rattle.pm_value.specs.Plain.{Plain}
 use Rattle.pm_schema.specs.declared.spec.AttrSpec.{AttrSpec}
-use Rattle.pm_schema.specs.Attrs.{value_for, is_missing, is_unknown, no_attr, no_pair, IsFirstAt, NonePasses, AreValues}
+use Rattle.pm_schema.specs.Attrs.{value_for, is_missing, is_unknown, is_other_kind, no_attr, no_pair, IsFirstAt, NonePasses, AreValues}
 use Rattle.pm_docjson.specs.Values.{Given, all_values, values_for}
 
 none-any : {X : Type 0} (p : X → Bool) (xs : List X) (d : X) → NonePasses p xs d → list_any p xs ≡ false
@@ -42,18 +42,30 @@ not-all (a ∷ attrs) given (suc j) l h = by_value (value_for given a) (not-all 
     by_value None e = refl
     by_value (Some v) e = ap (option_map (λ vs. v ∷ vs)) e
 
-pub values-yes : (attrs : List AttrSpec) (given : Given) (values : List Plain) → AreValues attrs given values → NonePasses (is_unknown attrs) given no_pair → values_for attrs given ≡ Some values
+-- no value is given for an unknown attribute, and none of another kind
+pub values-yes : (attrs : List AttrSpec) (given : Given) (values : List Plain) → AreValues attrs given values → NonePasses (is_unknown attrs) given no_pair → NonePasses (is_other_kind given) attrs no_attr → values_for attrs given ≡ Some values
 unfolding values_for
-values-yes attrs given values are known = ap (λ b. cond b None (all_values given attrs)) (none-any (is_unknown attrs) given no_pair known) ∙ all-some attrs values given are
+values-yes attrs given values are known kinds =
+    ap (λ b. cond b None (cond (list_any (is_other_kind given) attrs) None (all_values given attrs))) (none-any (is_unknown attrs) given no_pair known)
+    ∙ (ap (λ b. cond b None (all_values given attrs)) (none-any (is_other_kind given) attrs no_attr kinds) ∙ all-some attrs values given are)
 
 pub values-unknown : (attrs : List AttrSpec) (given : Given) (i : ℕ) → IsFirstAt (is_unknown attrs) given no_pair i → values_for attrs given ≡ None
 unfolding values_for
-values-unknown attrs given i f = ap (λ b. cond b None (all_values given attrs)) (any-at (is_unknown attrs) given no_pair i f.inside f.here)
+values-unknown attrs given i f = ap (λ b. cond b None (cond (list_any (is_other_kind given) attrs) None (all_values given attrs))) (any-at (is_unknown attrs) given no_pair i f.inside f.here)
+
+pub values-kind : (attrs : List AttrSpec) (given : Given) (j : ℕ) → IsFirstAt (is_other_kind given) attrs no_attr j → values_for attrs given ≡ None
+unfolding values_for
+values-kind attrs given j f = by_test (list_any (is_unknown attrs) given)
+  where
+    by_test : (b : Bool) → cond b None (cond (list_any (is_other_kind given) attrs) None (all_values given attrs)) ≡ None
+    by_test true = refl
+    by_test false = ap (λ b. cond b None (all_values given attrs)) (any-at (is_other_kind given) attrs no_attr j f.inside f.here)
 
 pub values-missing : (attrs : List AttrSpec) (given : Given) (j : ℕ) → IsFirstAt (is_missing given) attrs no_attr j → values_for attrs given ≡ None
 unfolding values_for
-values-missing attrs given j f = by_test (list_any (is_unknown attrs) given)
+values-missing attrs given j f = by_test (list_any (is_unknown attrs) given) (list_any (is_other_kind given) attrs)
   where
-    by_test : (b : Bool) → cond b None (all_values given attrs) ≡ None
-    by_test true = refl
-    by_test false = not-all attrs given j f.inside f.here
+    by_test : (a b : Bool) → cond a None (cond b None (all_values given attrs)) ≡ None
+    by_test true b = refl
+    by_test false true = refl
+    by_test false false = not-all attrs given j f.inside f.here

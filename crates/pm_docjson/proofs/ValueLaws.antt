@@ -1,6 +1,6 @@
 -- The attributes of a type that are given under all their names are those values.
 use Rattle.std.proofs.Common.{◌≡◌, ℕ, List, [], ◌∷◌, ◌++◌, length, Bool, true, false, cond, refl, ap, sym, ◌∙◌, append_assoc, arith, not, ◌||◌}
-use Rattle.std.specs.Prelude.{Some, None, option_map, option_and_then}
+use Rattle.std.specs.Prelude.{nat_le, Some, None, option_map, option_and_then}
 use Rattle.std.specs.List.{list_any, AllByRecursion}
 use Rattle.std.specs.List.Sorted.{IsStrictlySortedBy}
 use Rattle.std.specs.Ordering.{nat_cmp}
@@ -10,11 +10,16 @@ use Rattle.std.specs.declared.cmp.Ordering.TheVariants.{Less}
 use Rattle.std.proofs.lemmas.Slice.Eq.{bytes_eq-Decides}
 use Rattle.std.proofs.lemmas.Map.Text.{is_eq-slice_cmp}
 use Rattle.std.proofs.Common.{is_eq}
-use Rattle.pm_value.specs.Plain.{Plain}
+use Rattle.pm_value.specs.Plain.{Plain, depth}
+use Rattle.pm_value.specs.Kinds.{is_allowed}
+use Rattle.pm_tokens.specs.Schemas.{takes}
 use Rattle.pm_value.specs.Kept.{InOrder}
 use Rattle.pm_value.specs.Told.{paired}
 use Rattle.pm_schema.specs.declared.spec.AttrSpec.{AttrSpec}
-use Rattle.pm_schema.specs.Attrs.{given_for, value_for, is_unknown}
+use Rattle.pm_schema.specs.Types.{declared, fit_attrs}
+use Rattle.pm_schema.specs.Attrs.{given_for, value_for, is_unknown, is_refused, is_other_kind}
+use Rattle.pm_schema.proofs.FitLaws.{fit-parts}
+use Rattle.std.proofs.lemmas.Bool.{and_parts}
 use Rattle.pm_docjson.specs.Values.{Given, keys, all_values, values_for}
 
 -- none of the given names is this one
@@ -88,9 +93,30 @@ none-unknown attrs [] values h = refl
 none-unknown attrs (n ∷ ns) [] h = refl
 none-unknown attrs (n ∷ ns) (v ∷ values) h = ap (λ b. not b || list_any (is_unknown attrs) (paired ns values)) h.0 ∙ none-unknown attrs ns values h.1
 
+-- ---- each value is of a kind that its attribute names
+
+given_for-here : (n : List ℕ) (v : Plain) (front rest : Given) → NotIn n front → given_for n (front ++ ((n, v) ∷ rest)) ≡ Some v
+given_for-here n v front rest h = given_for-skip n front ((n, v) ∷ rest) h ∙ rw ((bytes_eq-Decides n n).1 refl) refl
+
+none-other : (attrs : List AttrSpec) (values : List Plain) (front : Given) → InOrder (keys attrs) → fit_attrs attrs values ≡ true → AllByRecursion (λ n. NotIn n front) (keys attrs)
+    → list_any (is_other_kind (front ++ paired (keys attrs) values)) attrs ≡ false
+unfolding IsStrictlySortedBy
+none-other [] values front order fit apart = refl
+none-other (a ∷ attrs) [] front order fit apart = absurd (cc)
+none-other (a ∷ attrs) (v ∷ values) front order fit apart =
+    let p = and_parts (takes (declared a) v) (fit_attrs attrs values) fit in
+    let q = and_parts (nat_le (depth v) 4) (is_allowed a.validate v) p.0 in
+    let more = paired (keys attrs) values in
+    let moved : front ++ ((a.name, v) ∷ more) ≡ (front ++ (a.name, v) ∷ []) ++ more = sym (append_assoc front ((a.name, v) ∷ []) more) in
+    let rest = none-other attrs values (front ++ (a.name, v) ∷ []) order.1 p.1 (all-not_in a.name v (keys attrs) front order.0 apart.1) in
+    let first : is_other_kind (front ++ ((a.name, v) ∷ more)) a ≡ false = ap (is_refused a.validate) (given_for-here a.name v front more apart.0) ∙ ap not q.1 in
+    ap (λ b. b || list_any (is_other_kind (front ++ ((a.name, v) ∷ more))) attrs) first ∙ (ap (λ g. list_any (is_other_kind g) attrs) moved ∙ rest)
+
 -- the attributes are those values where they are given in the order of their names
-pub values_for-again : (attrs : List AttrSpec) (values : List Plain) → InOrder (keys attrs) → length values ≡ length attrs → values_for attrs (paired (keys attrs) values) ≡ Some values
+pub values_for-again : (attrs : List AttrSpec) (values : List Plain) → InOrder (keys attrs) → fit_attrs attrs values ≡ true → values_for attrs (paired (keys attrs) values) ≡ Some values
 unfolding values_for
-values_for-again attrs values order size =
-    ap (λ b. cond b None (all_values (paired (keys attrs) values) attrs)) (none-unknown attrs (keys attrs) values (all-declared attrs))
-    ∙ all_values-again attrs values [] order size (none-apart (keys attrs))
+values_for-again attrs values order fit =
+    let given = paired (keys attrs) values in
+    ap (λ b. cond b None (cond (list_any (is_other_kind given) attrs) None (all_values given attrs))) (none-unknown attrs (keys attrs) values (all-declared attrs))
+    ∙ (ap (λ b. cond b None (all_values given attrs)) (none-other attrs values [] order fit (none-apart (keys attrs)))
+    ∙ all_values-again attrs values [] order (fit-parts attrs values fit).many (none-apart (keys attrs)))

@@ -1,8 +1,9 @@
 -- A valid document whose top node has the body of its type can be written.
-use Rattle.std.proofs.Common.{◌≡◌, ℕ, ◌+◌, ◌<◌, List, [], ◌∷◌, ◌++◌, length, Bool, true, ◌&&◌, not, ◌==◌, nat_lt, cond, refl, ap, sym, subst, arith}
+use Rattle.std.proofs.Common.{◌≡◌, ℕ, ◌+◌, ◌<◌, List, [], ◌∷◌, ◌++◌, length, Bool, true, ◌&&◌, not, ◌==◌, nat_lt, cond, refl, ap, sym, subst, ◌∙◌, arith}
 use Rattle.std.specs.Prelude.{Option, Some, None}
 use Rattle.std.specs.List.{list_all}
 use Rattle.pm_tokens.specs.Tokens.{Attrs, Marks, Token, Open, Close, Leaf, CodeUnit, Doc}
+use Rattle.pm_tokens.specs.Schemas.{node_attrs, mark_attrs}
 use Rattle.pm_tokens.specs.Scan.{head_of}
 use Rattle.pm_tokens.specs.Marks.{is_set, are_allowed, have_attrs}
 use Rattle.pm_tokens.specs.Kids.{kids}
@@ -10,8 +11,9 @@ use Rattle.pm_tokens.specs.Faults.{attrs_fit, marks_fit as fit_marks, content_fi
 use Rattle.pm_tokens.proofs.PairLaws.{first-none}
 use Rattle.pm_tokens.proofs.ValidLaws.{token-fits, valid-tokens}
 use Rattle.pm_schema.specs.declared.spec.SchemaSpec.{SchemaSpec}
-use Rattle.pm_schema.specs.Types.{node_at, mark_at, fit_attrs}
+use Rattle.pm_schema.specs.Types.{node_at, fit_attrs}
 use Rattle.pm_schema.specs.Documents.{documents_of}
+use Rattle.pm_schema.proofs.FitLaws.{node-attrs-are, mark-attrs-are}
 use Rattle.pm_node.specs.Trees.{body_tokens, node_tokens}
 use Rattle.pm_node.specs.Documents.{doc_of, content_tokens}
 use Rattle.pm_node.specs.declared.node.Node.{Node}
@@ -23,16 +25,14 @@ use Rattle.std.proofs.lemmas.Bool.{and_parts, and_from}
 
 -- attributes fit by either reading
 marks-fit : (s : SchemaSpec) (ms : Marks) → have_attrs (documents_of s) ms ≡ true → list_all (mark_fits s) ms ≡ true
-unfolding documents_of
 marks-fit s [] h = refl
 marks-fit s (m ∷ ms) h =
-    let p = and_parts (nat_lt m.kind (length s.marks) && fit_attrs (mark_at s m.kind).attrs m.attrs) (have_attrs (documents_of s) ms) h in
-    and_from (mark_fits s m) (list_all (mark_fits s) ms) p.0 (marks-fit s ms p.1)
+    let p = and_parts (mark_attrs (documents_of s) m.kind m.attrs) (have_attrs (documents_of s) ms) h in
+    and_from (mark_fits s m) (list_all (mark_fits s) ms) (sym (mark-attrs-are s m.kind m.attrs) ∙ p.0) (marks-fit s ms p.1)
 
-type-fits : (s : SchemaSpec) (k : ℕ) (a : Attrs) → (documents_of s).node_attrs k a ≡ true → not (k == (documents_of s).text) ≡ true → type_fits s k a ≡ true
-unfolding documents_of
+type-fits : (s : SchemaSpec) (k : ℕ) (a : Attrs) → node_attrs (documents_of s) k a ≡ true → not (k == (documents_of s).text) ≡ true → type_fits s k a ≡ true
 type-fits s k a h no_text =
-    let p = and_parts (nat_lt k (length s.nodes)) (fit_attrs (node_at s k).attrs a) h in
+    let p = and_parts (nat_lt k (length s.nodes)) (fit_attrs (node_at s k).attrs a) (sym (node-attrs-are s k a) ∙ h) in
     and_from (nat_lt k (length s.nodes)) (not (k == (documents_of s).text) && fit_attrs (node_at s k).attrs a) p.0
     (and_from (not (k == (documents_of s).text)) (fit_attrs (node_at s k).attrs a) no_text p.1)
 
@@ -44,7 +44,7 @@ set-fits s p ms h k =
 token-writable : (s : SchemaSpec) (p : ℕ) (t : Token) (next : List Token) → attrs_fit (documents_of s) t ≡ true → fit_marks (documents_of s) p t ≡ true → content_fits (documents_of s) t next ≡ true → is_writable s t ≡ true
 token-writable s p (Open k a m) next at mt ct =
     let d = documents_of s in
-    let x = and_parts (d.node_attrs k a) (have_attrs d m) at in
+    let x = and_parts (node_attrs d k a) (have_attrs d m) at in
     let y = and_parts (not (k == d.text) && not (d.is_leaf k)) (d.accepts k (kids d.text 0 None next)) ct in
     let z = and_parts (not (k == d.text)) (not (d.is_leaf k)) y.0 in
     and_from (type_fits s k a) (not (d.is_leaf k) && marks_fit s m) (type-fits s k a x.0 z.0)
@@ -52,7 +52,7 @@ token-writable s p (Open k a m) next at mt ct =
 token-writable s p Close next at mt ct = refl
 token-writable s p (Leaf k a m) next at mt ct =
     let d = documents_of s in
-    let x = and_parts (d.node_attrs k a) (have_attrs d m) at in
+    let x = and_parts (node_attrs d k a) (have_attrs d m) at in
     let y = and_parts (not (k == d.text)) (d.is_leaf k) ct in
     and_from (type_fits s k a) (d.is_leaf k && marks_fit s m) (type-fits s k a x.0 y.0)
     (and_from (d.is_leaf k) (marks_fit s m) y.1 (set-fits s p m x.1 mt))

@@ -19,8 +19,8 @@ use serde_json::{Map, Value as Json};
 use std::alloc::{AllocError, Global};
 
 /// The attributes of a type, where the field `attrs` of the JSON value gives their values; without the field none is given. `Shape`
-/// comes where the field is no object; `Attr` where a value can't be read, is missing without a default, or is of no attribute of
-/// the type.
+/// comes where the field is no object; `Attr` where a value can't be read, is missing without a default, is of no attribute of
+/// the type, or of no kind that its attribute names.
 #[tactic(auto, unfolding(crate::specs::Reading::attrs_read))]
 pub fn read_attrs(
     alloc: Global,
@@ -49,6 +49,7 @@ fn values_for(
         Ok(attrs) => Ok(attrs),
         Err(AttrError::Missing { attr: _ }) => Err(DocReadError::Attr),
         Err(AttrError::Unknown { index: _ }) => Err(DocReadError::Attr),
+        Err(AttrError::Kind { attr: _ }) => Err(DocReadError::Attr),
         Err(AttrError::NoMemory) => Err(DocReadError::NoMemory),
     }
 }

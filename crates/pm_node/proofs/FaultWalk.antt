@@ -3,7 +3,7 @@ use Rattle.std.specs.Prelude.{◌≡◌, ℕ, ◌+◌, ◌<◌, ◌≤◌, Bool,
 use Rattle.std.specs.declared.sync.Arc.{Arc}
 use Rattle.std.proofs.Common.{refl, ap, sym, ◌∙◌, subst, arith}
 use Rattle.pm_tokens.specs.Tokens.{Marks, Token}
-use Rattle.pm_tokens.specs.Schemas.{Schema}
+use Rattle.pm_tokens.specs.Schemas.{Schema, node_attrs}
 use Rattle.pm_tokens.specs.Scan.{Balanced}
 use Rattle.pm_tokens.specs.Kids.{text_tokens, kids}
 use Rattle.pm_tokens.specs.Marks.{have_attrs, is_set, are_allowed}
@@ -81,14 +81,14 @@ module _ (s : Schema) (parent : ℕ) where
   open_fits k inner = not (k == s.text) && not (s.is_leaf k) && s.accepts k (kids s.text 0 None inner)
 
   -- a node's own fault, or the first in its content
-  node-fault : (at : ℕ) (ps : List ℕ) (n : Node) (inner : List Token) (f : Bool) → n.body ≡ Children inner → Balanced inner → f ≡ s.node_attrs n.kind n.attrs
+  node-fault : (at : ℕ) (ps : List ℕ) (n : Node) (inner : List Token) (f : Bool) → n.body ≡ Children inner → Balanced inner → f ≡ node_attrs s n.kind n.attrs
       → first_fault s at (parent ∷ ps) (node_tokens n) ≡ first_some (fault_unless (f && have_attrs s n.marks) (is_set s n.marks && are_allowed s parent n.marks) (open_fits n.kind inner) at) (first_fault s (at + 1) (n.kind ∷ parent ∷ ps) inner)
   node-fault at ps n inner f is b fit =
       ap (first_fault s at (parent ∷ ps)) (node_tokens_at n (Children inner) is)
       ∙ (fault-node s at (parent ∷ ps) n.kind n.attrs n.marks b
       ∙ ap (λ z. first_some (fault_unless (z && have_attrs s n.marks) (is_set s n.marks && are_allowed s parent n.marks) (open_fits n.kind inner) at) (first_fault s (at + 1) (n.kind ∷ parent ∷ ps) inner)) (sym fit))
 
-  module _ (at : ℕ) (ps : List ℕ) (n : Node) (inner : List Token) (f : Bool) (is : n.body ≡ Children inner) (b : Balanced inner) (fit : f ≡ s.node_attrs n.kind n.attrs) where
+  module _ (at : ℕ) (ps : List ℕ) (n : Node) (inner : List Token) (f : Bool) (is : n.body ≡ Children inner) (b : Balanced inner) (fit : f ≡ node_attrs s n.kind n.attrs) where
     pub node-bad-content : fault_unless (f && have_attrs s n.marks) (is_set s n.marks && are_allowed s parent n.marks) true at ≡ None → open_fits n.kind inner ≡ false → first_fault s at (parent ∷ ps) (node_tokens n) ≡ Some (BadContent at)
     node-bad-content h e =
         node-fault at ps n inner f is b fit ∙ (ap (λ z. first_some z (first_fault s (at + 1) (n.kind ∷ parent ∷ ps) inner)) (no-content (f && have_attrs s n.marks) (is_set s n.marks && are_allowed s parent n.marks) (open_fits n.kind inner) at h)

@@ -79,7 +79,7 @@ filled-node s fills n k e = ap (λ b. cond b (Some (leaf_tokens s k)) (option_ma
 
 -- the size with so many tokens before
 abbrev pub onto : ℕ → Option (List Token) → Option ℕ
-onto t o = option_map (λ ts. min (t + length ts) 500001) o
+onto t o = option_map (λ ts. min (t + length ts) 1000001) o
 
 pub onto-none : (t : ℕ) (o p : Option (List Token)) → None ≡ measured o → onto t (both o p) ≡ None
 onto-none t None p h = refl
@@ -88,26 +88,26 @@ onto-none t (Some ts) p h = absurd (cc)
 some-number : (m n : ℕ) → Some m ≡ Some n → m ≡ n
 some-number m n e = ap (λ o. unwrap_or o m) e
 
-pub onto-some : (t z u : ℕ) (o p : Option (List Token)) → Some z ≡ measured o → u ≡ min (t + z) 500001 → onto t (both o p) ≡ onto u p
+pub onto-some : (t z u : ℕ) (o p : Option (List Token)) → Some z ≡ measured o → u ≡ min (t + z) 1000001 → onto t (both o p) ≡ onto u p
 onto-some t z u None p h e = absurd (cc)
 onto-some t z u (Some ts) None h e = refl
 onto-some t z u (Some ts) (Some us) h e =
-    let m : z ≡ min (length ts) 500001 = some-number _ _ h in
+    let m : z ≡ min (length ts) 1000001 = some-number _ _ h in
     let l : length (ts ++ us) ≡ length ts + length us = length-append ts us in
-    let g : min (t + length (ts ++ us)) 500001 ≡ min (u + length us) 500001 = omega (arith, m, l, e) in
+    let g : min (t + length (ts ++ us)) 1000001 ≡ min (u + length us) 1000001 = omega (arith, m, l, e) in
     ap Some g
 
 pub onto-all : (o : Option (List Token)) → onto 0 o ≡ measured o
 onto-all None = refl
-onto-all (Some ts) = ap (λ (n : ℕ). Some (min n 500001)) (zero-add (length ts))
+onto-all (Some ts) = ap (λ (n : ℕ). Some (min n 1000001)) (zero-add (length ts))
 
 -- the size of a node is two more than that of its content
-pub around-size : (s : SchemaSpec) (k : ℕ) (o : Option (List Token)) (z : ℕ) → Some z ≡ measured o → Some (min (z + 2) 500001) ≡ measured (option_map (around s k) o)
+pub around-size : (s : SchemaSpec) (k : ℕ) (o : Option (List Token)) (z : ℕ) → Some z ≡ measured o → Some (min (z + 2) 1000001) ≡ measured (option_map (around s k) o)
 around-size s k None z h = absurd (cc)
 around-size s k (Some ts) z h =
-    let m : z ≡ min (length ts) 500001 = some-number _ _ h in
+    let m : z ≡ min (length ts) 1000001 = some-number _ _ h in
     let l : length (ts ++ (Close ∷ [])) ≡ length ts + 1 = length-append ts (Close ∷ []) in
-    let g : min (z + 2) 500001 ≡ min (suc (length (ts ++ (Close ∷ [])))) 500001 = omega (arith, m, l) in
+    let g : min (z + 2) 1000001 ≡ min (suc (length (ts ++ (Close ∷ [])))) 1000001 = omega (arith, m, l) in
     ap Some g
 
 pub around-none : (s : SchemaSpec) (k : ℕ) (o : Option (List Token)) → None ≡ measured o → None ≡ measured (option_map (around s k) o)
@@ -140,23 +140,27 @@ pub joined-end : (f : ℕ → Option (List Token)) (ks : List ℕ) (i : ℕ) →
 joined-end f ks i l = ap (λ xs. joined (map f xs)) (drop_all i ks l)
 
 -- a size at most the greatest is that of the tokens
-pub small-size : (o : Option (List Token)) (z : ℕ) → Some z ≡ measured o → z ≤ 500000 → Small o
+pub small-size : (o : Option (List Token)) (z : ℕ) → Some z ≡ measured o → z ≤ 1000000 → Small o
 small-size None z h l = absurd (cc)
-small-size (Some ts) z h l = let m : z ≡ min (length ts) 500001 = some-number _ _ h in omega (arith, m, l)
+small-size (Some ts) z h l = let m : z ≡ min (length ts) 1000001 = some-number _ _ h in omega (arith, m, l)
 
-pub small-tokens : (o : Option (List Token)) (ts : List Token) → o ≡ Some ts → Small o → length ts ≤ 500000
-small-tokens o ts e h = subst Small e h
+pub few-tokens : (o : Option (List Token)) (ts : List Token) (z most : ℕ) → o ≡ Some ts → Some z ≡ measured o → most ≤ 1000000 → z ≤ most → length ts ≤ most
+few-tokens None ts z most e h b l = absurd (cc)
+few-tokens (Some us) ts z most e h b l =
+    let m : z ≡ min (length us) 1000001 = some-number _ _ h in
+    let same : us ≡ ts = cc in
+    subst (λ (xs : List Token). length xs ≤ most) same (omega (arith, m, b, l))
 
 pub none-size : (o : Option (List Token)) → None ≡ measured o → o ≡ None
 none-size None h = refl
 none-size (Some ts) h = absurd (cc)
 
-pub large-size : (o : Option (List Token)) (z : ℕ) → Some z ≡ measured o → 500000 < z → (ts : List Token) × (o ≡ Some ts) × (500000 < length ts)
-large-size None z h l = absurd (cc)
-large-size (Some ts) z h l = let m : z ≡ min (length ts) 500001 = some-number _ _ h in (ts, refl, omega (arith, m, l))
+pub large-size : (o : Option (List Token)) (z most : ℕ) → Some z ≡ measured o → most < z → (ts : List Token) × (o ≡ Some ts) × (most < length ts)
+large-size None z most h l = absurd (cc)
+large-size (Some ts) z most h l = let m : z ≡ min (length ts) 1000001 = some-number _ _ h in (ts, refl, omega (arith, m, l))
 
-pub onto-end : (t : ℕ) → t ≤ 500001 → onto t (Some []) ≡ Some t
-onto-end t l = let g : min (t + 0) 500001 ≡ t = omega (arith, l) in ap Some g
+pub onto-end : (t : ℕ) → t ≤ 1000001 → onto t (Some []) ≡ Some t
+onto-end t l = let g : min (t + 0) 1000001 ≡ t = omega (arith, l) in ap Some g
 
 append-nil : (ts : List Token) → ts ++ [] ≡ ts
 append-nil [] = refl
@@ -170,10 +174,10 @@ pub both-end : (ts : List Token) (o : Option (List Token)) → o ≡ Some [] →
 both-end ts o e = ap (both (Some ts)) e ∙ ap Some (append-nil ts)
 
 -- room for one more of them
-pub small-room : (o p : Option (List Token)) (ts us : List Token) → o ≡ Some us → Small (both (Some ts) (both o p)) → length ts + length us ≤ 500000
+pub small-room : (o p : Option (List Token)) (ts us : List Token) → o ≡ Some us → Small (both (Some ts) (both o p)) → length ts + length us ≤ 1000000
 small-room o None ts us e h = absurd (subst (λ q. Small (both (Some ts) (both q None))) e h)
 small-room o (Some vs) ts us e h =
-    let g : length (ts ++ (us ++ vs)) ≤ 500000 = subst (λ q. Small (both (Some ts) (both q (Some vs)))) e h in
+    let g : length (ts ++ (us ++ vs)) ≤ 1000000 = subst (λ q. Small (both (Some ts) (both q (Some vs)))) e h in
     let a = length-append ts (us ++ vs) in
     let b = length-append us vs in
     omega (arith, g, a, b)

@@ -2,7 +2,7 @@
 use Rattle.std.specs.Prelude.{◌≡◌, ℕ, ◌+◌, true, ◌&&◌, Option, Some, None, List, [], ◌∷◌}
 use Rattle.std.proofs.Common.{refl, ap, ◌∙◌}
 use Rattle.pm_tokens.specs.Tokens.{Marks, Token, Doc, with_tokens}
-use Rattle.pm_tokens.specs.Schemas.{Schema, max_depth}
+use Rattle.pm_tokens.specs.Schemas.{Schema, max_depth, node_attrs}
 use Rattle.pm_tokens.specs.Scan.{head_of}
 use Rattle.pm_tokens.specs.Kids.{kids}
 use Rattle.pm_tokens.specs.Faults.{attrs_fit, marks_fit, content_fits, high_of, Valid, fault_unless, under, first_fault, first_broken, no_marks, token_fits, place_from, top_fits, fault_place}
@@ -48,8 +48,8 @@ moved-none at (Some p) h = absurd (cc)
 pub holds-place : (s : Schema) (d : Doc) (ts : List Token) → Valid s d → Holds s d.kind max_depth ts → fault_place s (with_tokens d ts) ≡ None
 holds-place s d ts v h =
     let top : top_fits s (with_tokens d ts) ≡ true =
-    and_from (s.node_attrs d.kind d.attrs && no_marks d.marks) (s.accepts d.kind (kids s.text 0 None ts))
-    (and_from (s.node_attrs d.kind d.attrs) (no_marks d.marks) v.top_attrs (ap no_marks v.top_marks)) h.accepted in
+    and_from (node_attrs s d.kind d.attrs && no_marks d.marks) (s.accepts d.kind (kids s.text 0 None ts))
+    (and_from (node_attrs s d.kind d.attrs) (no_marks d.marks) v.top_attrs (ap no_marks v.top_marks)) h.accepted in
     let below : least (place_in (first_broken 0 None ts)) (place_in (first_fault s 0 (d.kind ∷ []) ts)) ≡ None = rw (h.unbroken 0, h.faultless 0 []) refl in
     none-first (top_fits s (with_tokens d ts)) (place_from s (d.kind ∷ []) None ts) top
     (moved-none 0 (place_from s (d.kind ∷ []) None ts) (place-least s 0 (d.kind ∷ []) None ts ∙ below))

@@ -2,7 +2,7 @@
 use Rattle.std.specs.Prelude.{◌≡◌, ℕ, ◌+◌, ◌≤◌, min, Bool, true, false, ◌&&◌, cond, Option, Some, None, option_map, List, [], ◌∷◌}
 use Rattle.std.proofs.Common.{refl, ap, sym, ◌∙◌, arith}
 use Rattle.pm_tokens.specs.Tokens.{Marks, Token}
-use Rattle.pm_tokens.specs.Schemas.{Schema}
+use Rattle.pm_tokens.specs.Schemas.{Schema, node_attrs}
 use Rattle.pm_tokens.specs.Scan.{head_of}
 use Rattle.pm_tokens.specs.Kids.{kids}
 use Rattle.pm_tokens.specs.Faults.{Fault, Pair, attrs_fit, marks_fit, content_fits, pair_fits, high_of, under, fault_unless, first_some, first_fault, first_broken, one_on, place_unless, place_from, no_marks, top_fits, fault_place}
@@ -100,7 +100,7 @@ some-marks [] h = absurd (h refl)
 some-marks (m ∷ ms) h = refl
 
 -- else it is the least below it
-pub below-top : (s : Schema) (n : Node) (ts : List Token) (broken : Option ℕ) → s.node_attrs n.kind n.attrs ≡ true → n.marks ≡ [] → s.accepts n.kind (kids s.text 0 None ts) ≡ true
+pub below-top : (s : Schema) (n : Node) (ts : List Token) (broken : Option ℕ) → node_attrs s n.kind n.attrs ≡ true → n.marks ≡ [] → s.accepts n.kind (kids s.text 0 None ts) ≡ true
     → option_map Pair broken ≡ first_broken 1 None ts → least broken (place_in (first_fault s 1 (n.kind ∷ []) ts)) ≡ fault_place s (doc_with n ts)
 below-top s n ts broken a m k e =
     let top : top_fits s (doc_with n ts) ≡ true = rw (a, m, k) refl in

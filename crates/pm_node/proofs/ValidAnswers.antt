@@ -1,22 +1,13 @@
 -- What the first fault says of the validity of a document.
-use Rattle.std.specs.Prelude.{◌≡◌, ◌≢◌, ◌<◌, nat_le, true, false, Some, None, length, Result, Ok, Err, OnOk, IfErr}
-use Rattle.std.proofs.Common.{refl, arith}
-use Rattle.std.proofs.lemmas.Bool.Decides.{nat_tests}
-use Rattle.pm_tokens.specs.Tokens.{Marks, Doc}
-use Rattle.pm_tokens.specs.Schemas.{Schema, max_size}
-use Rattle.pm_tokens.specs.Scan.{Balanced, none, is_whole}
-use Rattle.pm_tokens.specs.Faults.{Large, Valid, fault}
-use Rattle.pm_tokens.proofs.ScanLaws.{of-whole}
-use Rattle.pm_tokens.proofs.BalanceLaws.{balanced-whole}
-use Rattle.pm_tokens.proofs.KidLaws.{balanced-text}
+use Rattle.std.specs.Prelude.{◌≡◌, ◌≢◌, true, None, Result, Ok, Err, OnOk, IfErr}
+use Rattle.std.proofs.Common.{refl}
+use Rattle.pm_tokens.specs.Tokens.{Doc}
+use Rattle.pm_tokens.specs.Schemas.{Schema}
+use Rattle.pm_tokens.specs.Scan.{is_whole}
+use Rattle.pm_tokens.specs.Faults.{Valid, fault}
 use Rattle.pm_tokens.proofs.ValidLaws.{valid-fault, fault-valid}
-use Rattle.pm_node.specs.declared.node.Node.{Node}
-use Rattle.pm_node.specs.declared.node.Body.{Body}
-use Rattle.pm_node.specs.declared.node.Body.TheVariants.{Text, Leaf as Childless, Children}
 use Rattle.pm_node.specs.declared.fault.CheckError.{CheckError}
 use Rattle.pm_node.specs.declared.fault.CheckError.TheVariants as error
-use Rattle.pm_node.specs.Trees.{WholeBody}
-use Rattle.pm_node.specs.Documents.{content_tokens, doc_of}
 use Rattle.pm_node.specs.Checks.{Tells, Checks}
 
 pub valid-answer : (s : Schema) (d : Doc) (r : Result (Unit {0}) CheckError) → is_whole d.tokens ≡ true → Checks r (fault s d) → OnOk r (Valid s d)

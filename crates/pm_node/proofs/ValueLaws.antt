@@ -1,21 +1,15 @@
--- Values of bounded depth, one by one and all together.
-use Rattle.std.specs.Prelude.{◌≡◌, ◌↔◌, ℕ, ◌≤◌, max, nat_le, Bool, true, false, ◌&&◌, List, [], ◌∷◌}
-use Rattle.std.specs.List.{list_all}
-use Rattle.std.proofs.Common.{refl, ap, sym, ◌∙◌, arith}
-use Rattle.std.proofs.lemmas.Bool.Decides.{nat_tests}
-use Rattle.pm_value.specs.Plain.{Plain, depth, plains_of, plains_depth}
+-- Values that fit the attributes of a type, told by tests of their parts.
+use Rattle.std.proofs.Common.{◌≡◌, Bool, true, false, List, refl, sym}
+use Rattle.pm_value.specs.Plain.{Plain}
+use Rattle.pm_schema.specs.declared.spec.AttrSpec.{AttrSpec}
+use Rattle.pm_schema.specs.Types.{fit_attrs}
+use Rattle.pm_schema.proofs.FitLaws.{Fits, fits-are, fit-parts}
 
-both-within : (a b n : ℕ) → (nat_le a n && nat_le b n) ≡ nat_le (max a b) n
-both-within a b n = grind (arith, nat_tests)
-
-pub all-within : (n : ℕ) (vs : List Plain) → list_all (λ v. nat_le (depth v) n) vs ≡ nat_le (plains_depth (plains_of vs)) n
-all-within n [] = grind (arith, nat_tests)
-all-within n (v ∷ vs) = ap (λ b. nat_le (depth v) n && b) (all-within n vs) ∙ both-within (depth v) (plains_depth (plains_of vs)) n
-
-pub test-within : (r : Bool) (x n : ℕ) → (r ≡ true) ↔ (x ≤ n) → r ≡ nat_le x n
-test-within true x n h = let w : x ≤ n = h.0 refl in grind (arith, nat_tests)
-test-within false x n h = by (nat_le x n) refl
+-- a test that is true exactly where they fit
+pub fit-told : (attrs : List AttrSpec) (values : List Plain) (r : Bool) → (r ≡ true → Fits attrs values) → (Fits attrs values → r ≡ true) → r ≡ fit_attrs attrs values
+fit-told attrs values true to from = sym (fits-are attrs values (to refl))
+fit-told attrs values false to from = by (fit_attrs attrs values) refl
   where
-    by : (b : Bool) → nat_le x n ≡ b → false ≡ nat_le x n
+    by : (b : Bool) → fit_attrs attrs values ≡ b → false ≡ fit_attrs attrs values
     by false e = sym e
-    by true e = let w : x ≤ n = grind (arith, nat_tests) in let f : false ≡ true = h.1 w in absurd (cc)
+    by true e = let f : false ≡ true = from (fit-parts attrs values e) in absurd (cc)

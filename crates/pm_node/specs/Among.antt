@@ -1,9 +1,7 @@
 -- Where a position stands among children, and runs of them.
-use Rattle.std.specs.Prelude.{◌≡◌, ℕ, ◌+◌, ◌≤◌, ◌<◌, List, ◌++◌, length, take, get_or}
+use Rattle.std.specs.Prelude.{◌≡◌, ℕ, ◌+◌, ◌≤◌, ◌<◌, List, length, take, get_or}
 use Rattle.std.specs.declared.sync.Arc.{Arc}
 use Rattle.std.specs.Arc.{arc_value}
-use Rattle.pm_tokens.specs.Tokens.{Token}
-use Rattle.pm_tokens.specs.Scan.{part}
 use Rattle.pm_node.specs.declared.node.Node.{Node}
 use Rattle.pm_node.specs.Trees.{node_tokens, list_tokens}
 

@@ -10,7 +10,9 @@ use Rattle.pm_tokens.specs.Tokens.{Attrs, Token, Open, Close, Leaf}
 use Rattle.pm_schema.specs.declared.spec.AttrSpec.{AttrSpec}
 use Rattle.pm_schema.specs.declared.spec.SchemaSpec.{SchemaSpec}
 use Rattle.pm_schema.specs.declared.schema.Schema.{Schema}
+use Rattle.pm_tokens.specs.Schemas.{max_size}
 use Rattle.pm_schema.specs.Types.{node_at, is_leaf}
+use Rattle.pm_schema.specs.Documents.{documents_of}
 use Rattle.pm_schema.specs.Made.{can_be_made}
 use Rattle.pm_node.specs.declared.filled.FillError.{FillError}
 use Rattle.pm_node.specs.declared.filled.FillError.TheVariants.{NotGeneratable, Deep, Large, NoMemory}
@@ -63,11 +65,11 @@ pub record Filling (s : Schema) (k : ℕ) (o : Option (List Token)) : Type 0 whe
 abbrev pub CanBeMade : Schema → ℕ → Type 0
 CanBeMade s k = can_be_made (node_at s.spec k) ≡ true
 
--- the filled node has more than 500,000 tokens
+-- the filled node has more tokens than the schema allows a document
 pub record TooLarge (s : Schema) (k : ℕ) : Type 0 where
   pub tokens : List Token
   pub filling : Filling s k (Some tokens)
-  pub large : 500000 < length tokens
+  pub large : max_size (documents_of s.spec) < length tokens
 
 -- Why there is no filled node: the type can't be made; else it nests too deep; else it is too large; want of memory at any
 -- time.

@@ -22,14 +22,11 @@ use pm_marks::MarkSet;
 use pm_schema::Schema;
 use std::alloc::Global;
 
-/// The greatest number of tokens of a document.
-pub const MAX_SIZE: usize = 500_000;
-
 /// The greatest number of nodes that a position of a document is in.
 pub const MAX_DEPTH: usize = 48;
 
 impl Document {
-    /// The first fault of the document: its size, its depth, a broken unit, and then the least place with a fault of
+    /// The first fault of the document: its size, which the schema limits, its depth, a broken unit, and then the least place with a fault of
     /// attributes, marks or children, at one place in this order.
     pub fn check(&self, alloc: Global, schema: &Schema) -> Result<(), CheckError>
         ensures first { Checks result (fault (documents_of schema.now.spec) self.now) }
@@ -51,7 +48,7 @@ fn content_fault(
 ) -> Result<(), CheckError>
     ensures { Checks result (fault (documents_of schema.now.spec) (doc_with top.now content.now)) }
 {
-    if content.size() > MAX_SIZE {
+    if content.size() > schema.max_size() {
         return Err(CheckError::Large);
     }
     if !nests_within(content, MAX_DEPTH) {

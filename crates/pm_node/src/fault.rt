@@ -16,7 +16,7 @@ pub enum CheckError {
     Attrs { at: usize },
     #[error("a position is in more than 48 nodes")]
     Deep,
-    #[error("there are more than 500,000 tokens")]
+    #[error("there are more tokens than the schema allows")]
     Large,
     #[error("the unit at place {at} is a surrogate in no pair")]
     Pair { at: usize },

@@ -2,13 +2,15 @@
 ghost use Rattle.std.specs.Prelude.{◌≡◌, ◌<◌, ◌≤◌, ◌+◌, ℕ, suc, List, [], min, Some, None, true, map, length, slice_index_or, IfOk, IfErr, OnOk};
 ghost use Rattle.pm_auto.specs.declared.auto.Auto.{Auto};
 ghost use Rattle.pm_auto.specs.Finish.{all_can};
+ghost use Rattle.pm_tokens.specs.Schemas.{max_size};
 ghost use Rattle.pm_schema.specs.Types.{node_at};
+ghost use Rattle.pm_schema.specs.Documents.{documents_of};
 ghost use Rattle.pm_node.specs.Trees.{node_tokens};
 ghost use Rattle.pm_node.specs.Filled.{IsFill, AreFills, Filling, CanBeMade, IsFillFault, defaults, joined, filled_tokens};
 ghost use Rattle.pm_node.specs.Sizes.{Sizes, Small, measured};
 ghost use Rattle.pm_node.specs.declared.filled.FillError.TheVariants.{NoMemory};
 
-use crate::check::{MAX_DEPTH, MAX_SIZE};
+use crate::check::MAX_DEPTH;
 use crate::node::{Body, Fragment, Node};
 use pm_attrs::Attrs;
 use pm_auto::TypeId;
@@ -19,6 +21,9 @@ use std::alloc::{AllocError, AllocFailed, Global};
 use std::sync::Arc;
 use thiserror::Error;
 
+/// Up to here sizes of filled nodes are told apart. No schema allows a document more tokens.
+const COUNTED: usize = 1_000_000;
+
 /// Why a node can't be made from its type alone.
 #[derive(Clone, Copy, Debug, PartialEq, Eq, Error)]
 pub enum FillError {
@@ -26,7 +31,7 @@ pub enum FillError {
     NotGeneratable,
     #[error("the filled node nests more than 48 levels below itself")]
     Deep,
-    #[error("the filled node has more than 500,000 tokens")]
+    #[error("the filled node has more tokens than the schema allows")]
     Large,
     #[error("no memory")]
     NoMemory,
@@ -51,12 +56,12 @@ impl<T: Drop> From<AllocFailed<T>> for FillError {
 /// A node of the type with default attributes, without marks, that holds the shortest list of types that its content may
 /// be, the first by the order of edges, each of them filled in the same way. `NotGeneratable` exactly where the type is
 /// that of texts or has an attribute without default; else `Deep` exactly where the node would nest more than 48 levels
-/// below itself, or without end, where a leaf is no level; else `Large` exactly where it would have more than 500,000
-/// tokens, its own open and close among them.
+/// below itself, or without end, where a leaf is no level; else `Large` exactly where it would have more tokens than the
+/// schema allows a document, its own open and close among them.
 pub fn make_filled(alloc: Global, schema: &Schema, kind: TypeId) -> Result<Node, FillError>
     requires { kind < length schema.now.spec.nodes }
     ensures filled { IfOk result (λ n. Filling schema.now kind (Some (node_tokens n))) }
-    ensures small { IfOk result (λ n. length (node_tokens n) ≤ 500000) }
+    ensures small { IfOk result (λ n. length (node_tokens n) ≤ max_size (documents_of schema.now.spec)) }
     ensures generatable { OnOk result (CanBeMade schema.now kind) }
     ensures refused { IfErr result (IsFillFault schema.now kind) }
 {
@@ -69,7 +74,7 @@ pub fn make_filled(alloc: Global, schema: &Schema, kind: TypeId) -> Result<Node,
     match size_at(sizes.as_slice(), kind) {
         None => Err(FillError::Deep),
         Some(size) => {
-            if size > MAX_SIZE {
+            if size > schema.max_size() {
                 return Err(FillError::Large);
             }
             let node = filled_node(alloc, schema, fills, MAX_DEPTH + 1, kind)?;
@@ -205,12 +210,12 @@ fn content_size(schema: &Schema, sizes: &[Option<usize>], kinds: &[TypeId]) -> O
     Some(total)
 }
 
-/// The sum, where any number above the greatest size counts as the one above it.
+/// The sum, where any number above `COUNTED` counts as the one above it.
 fn capped(a: usize, b: usize) -> usize
-    ensures { result ≡ min (a + b) 500001 }
+    ensures { result ≡ min (a + b) 1000001 }
 {
-    if a > MAX_SIZE || b > MAX_SIZE - a {
-        return MAX_SIZE + 1;
+    if a > COUNTED || b > COUNTED - a {
+        return COUNTED + 1;
     }
     a + b
 }

@@ -21,7 +21,7 @@ mod units;
 mod values;
 
 pub use around::{Difference, stays_valid_around};
-pub use check::{MAX_DEPTH, MAX_SIZE};
+pub use check::MAX_DEPTH;
 pub use children::{Children, Found};
 pub use document::Document;
 pub use fault::CheckError;

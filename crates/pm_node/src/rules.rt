@@ -1,14 +1,15 @@
 //! What a schema says of a node.
 #![tactic(auto, unfolding(pm_schema::specs::Documents::documents_of))]
 
-ghost use Rattle.std.specs.Prelude.{◌≡◌, ◌<◌, ◌&&◌, ◌==◌, [], not, length, nat_le, None, IfOk, IsTrue};
-ghost use Rattle.std.specs.List.{list_all};
-ghost use Rattle.pm_value.specs.Plain.{depth};
+ghost use Rattle.std.specs.Prelude.{◌≡◌, ◌<◌, ◌&&◌, ◌==◌, ◌↔◌, [], not, length, None, IfOk, IsTrue};
 ghost use Rattle.pm_value.specs.Views.{plains};
 ghost use Rattle.pm_attrs.specs.Attrs.{same_attrs};
 ghost use Rattle.pm_marks.specs.Sets.{same_marks, all_added};
 ghost use Rattle.pm_tokens.specs.Kids.{kids};
 ghost use Rattle.pm_tokens.specs.Marks.{have_attrs, is_set, are_allowed};
+ghost use Rattle.pm_tokens.specs.Schemas.{node_attrs, mark_attrs};
+ghost use Rattle.pm_schema.specs.Attrs.{IsType, attrs_of, AreOfKinds};
+ghost use Rattle.pm_schema.specs.Types.{fit_attrs};
 ghost use Rattle.pm_schema.specs.Documents.{documents_of};
 ghost use Rattle.pm_node.specs.Kinds.{kind_in};
 
@@ -26,24 +27,43 @@ const MAX_VALUE_DEPTH: usize = 4;
 
 /// Whether the attributes are those that the node type declares.
 pub fn node_attrs_fit(schema: &Schema, kind: TypeId, attrs: &Attrs) -> bool
-    ensures fit { result ≡ (documents_of schema.now.spec).node_attrs kind attrs.now }
+    ensures fit { result ≡ node_attrs (documents_of schema.now.spec) kind attrs.now }
     ensures known { IsTrue result → kind < length schema.now.spec.nodes }
 {
-    kind < schema.node_count() && values_fit(attrs.values(), schema.attr_count(AnyType::Node(kind)))
+    kind < schema.node_count() && values_fit(schema, AnyType::Node(kind), attrs.values())
 }
 
 /// Whether the attributes are those that the mark type declares.
 fn mark_attrs_fit(schema: &Schema, mark: MarkId, attrs: &Attrs) -> bool
-    ensures { result ≡ (documents_of schema.now.spec).mark_attrs mark attrs.now }
+    ensures { result ≡ mark_attrs (documents_of schema.now.spec) mark attrs.now }
 {
-    mark < schema.mark_count() && values_fit(attrs.values(), schema.attr_count(AnyType::Mark(mark)))
+    mark < schema.mark_count() && values_fit(schema, AnyType::Mark(mark), attrs.values())
 }
 
-/// Whether there are so many values, none of which nests too deep.
-fn values_fit(values: &[Value], count: usize) -> bool
-    ensures { result ≡ ((length (plains values.now) == count) && list_all (λ v. nat_le (depth v) 4) (plains values.now)) }
+/// Whether there is one value for each attribute of the type, none nests too deep, and each is of a kind that its attribute
+/// names.
+fn values_fit(schema: &Schema, kind: AnyType, values: &[Value]) -> bool
+    requires { IsType schema.now.spec kind }
+    ensures { result ≡ fit_attrs (attrs_of schema.now.spec kind) (plains values.now) }
 {
-    values.len() == count && values_are_within(values, MAX_VALUE_DEPTH)
+    if values.len() != schema.attr_count(kind) {
+        return false;
+    }
+    values_are_within(values, MAX_VALUE_DEPTH) && kinds_fit(schema, kind, values)
+}
+
+/// Whether each value is of a kind that its attribute names.
+fn kinds_fit(schema: &Schema, kind: AnyType, values: &[Value]) -> bool
+    requires known { IsType schema.now.spec kind }
+    requires full { length values.now ≡ length (attrs_of schema.now.spec kind) }
+    ensures { IsTrue result ↔ AreOfKinds (attrs_of schema.now.spec kind) (plains values.now) }
+{
+    for i in 0..values.len() {
+        if !schema.attr_allows(kind, i, &values[i]) {
+            return false;
+        }
+    }
+    true
 }
 
 /// Whether each mark has the attributes of its type.

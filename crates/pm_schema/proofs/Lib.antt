@@ -11,3 +11,4 @@ mod Dead
 mod Makes
 mod Pairs
 mod Differ
+pub mod FitLaws

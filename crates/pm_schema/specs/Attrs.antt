@@ -4,12 +4,14 @@ use Rattle.std.specs.List.{list_any}
 use Rattle.std.specs.Str.{bytes_eq}
 use Rattle.std.specs.declared.alloc.Global.{Global}
 use Rattle.pm_value.specs.Plain.{Plain, null}
+use Rattle.pm_value.specs.Kinds.{is_allowed}
+use Rattle.pm_value.specs.declared.kinds.Kinds.{Kinds}
 use Rattle.pm_value.specs.Views.{plain}
 use Rattle.pm_value.specs.declared.value.Value.{Value}
 use Rattle.pm_schema.specs.declared.spec.AttrSpec.{AttrSpec}
 use Rattle.pm_schema.specs.declared.spec.SchemaSpec.{SchemaSpec}
 use Rattle.pm_schema.specs.declared.error.AttrError.{AttrError}
-use Rattle.pm_schema.specs.declared.error.AttrError.TheVariants.{Missing, Unknown, NoMemory}
+use Rattle.pm_schema.specs.declared.error.AttrError.TheVariants.{Missing, Unknown, Kind, NoMemory}
 use Rattle.pm_schema.specs.declared.kinds.AnyType.{AnyType}
 use Rattle.pm_schema.specs.declared.kinds.AnyType.TheVariants.{Node, Mark}
 use Rattle.pm_schema.specs.Types.{node_at, mark_at}
@@ -20,7 +22,7 @@ IsType s (Node k) = k < length s.nodes
 IsType s (Mark m) = m < length s.marks
 
 abbrev pub no_attr : AttrSpec
-no_attr = record { name = []; default = None }
+no_attr = record { name = []; default = None; validate = None }
 
 -- the attributes that the type declares
 abbrev pub attrs_of : SchemaSpec → AnyType → List AttrSpec
@@ -53,6 +55,15 @@ is_missing given a = is_none (value_for given a)
 abbrev pub is_unknown : List AttrSpec → List ℕ × Plain → Bool
 is_unknown attrs g = not (list_any (λ a. bytes_eq g.0 a.name) attrs)
 
+-- a value is given that is of no kind that is named
+abbrev pub is_refused : Option Kinds → Option Plain → Bool
+is_refused ks None = false
+is_refused ks (Some v) = not (is_allowed ks v)
+
+-- that is so of the value that is given for the attribute
+abbrev pub is_other_kind : List (List ℕ × Plain) → AttrSpec → Bool
+is_other_kind given a = is_refused a.validate (given_for a.name given)
+
 -- the first place of the list that passes the test
 pub record IsFirstAt {X : Type 0} (p : X → Bool) (xs : List X) (d : X) (i : ℕ) : Type 0 where
   pub inside : i < length xs
@@ -70,9 +81,15 @@ no_pair = ([], null)
 abbrev pub AreValues : List AttrSpec → List (List ℕ × Plain) → List Plain → Type 0
 AreValues attrs given values = map Some values ≡ map (value_for given) attrs
 
--- Why there are no values: the first attribute that is missing; else the first name that is unknown; want of memory at any
--- time.
+-- each of the values is of a kind that its attribute names
+abbrev pub AreOfKinds : List AttrSpec → List Plain → Type 0
+AreOfKinds attrs values = (i : ℕ) → i < length values → is_allowed (slice_index_or attrs i no_attr).validate (slice_index_or values i null) ≡ true
+
+-- Why there are no values: the first attribute that is missing; else the first name that is unknown; else the first attribute
+-- for which a value of no named kind is given; want of memory at any time.
 abbrev pub IsAttrFault : List AttrSpec → List (List ℕ × Plain) → AttrError → Type 0
 IsAttrFault attrs given (Missing j) = IsFirstAt (is_missing given) attrs no_attr j
 IsAttrFault attrs given (Unknown i) = NonePasses (is_missing given) attrs no_attr × IsFirstAt (is_unknown attrs) given no_pair i
+IsAttrFault attrs given (Kind j) =
+    NonePasses (is_missing given) attrs no_attr × NonePasses (is_unknown attrs) given no_pair × IsFirstAt (is_other_kind given) attrs no_attr j
 IsAttrFault attrs given NoMemory = Unit {0}

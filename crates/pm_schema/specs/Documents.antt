@@ -1,10 +1,10 @@
 -- What documents need of a schema, from its spec.
-use Rattle.std.specs.Prelude.{nat_lt, ◌&&◌, false, length, codes, unwrap_or, slice_index_or}
+use Rattle.std.specs.Prelude.{nat_lt, false, if◌then◌else◌, length, map, codes, unwrap_or, slice_index_or, Some, None}
 use Rattle.pm_auto.specs.Runs.{fits}
 use Rattle.pm_tokens.specs.Schemas as documents
 use Rattle.pm_schema.specs.declared.spec.SchemaSpec.{SchemaSpec}
 use Rattle.pm_schema.specs.Names.{place_of}
-use Rattle.pm_schema.specs.Types.{names_of_nodes, node_at, mark_at, is_leaf, is_inline, is_atom, fit_attrs}
+use Rattle.pm_schema.specs.Types.{names_of_nodes, node_at, mark_at, is_leaf, is_inline, is_atom, declared}
 use Rattle.pm_schema.specs.Contents.{starts}
 use Rattle.pm_schema.specs.MarkTexts.{allowed_row, exclude_table}
 
@@ -20,6 +20,7 @@ documents_of s =
       is_atom = λ k. is_atom (node_at s k);
       allows = λ k m. slice_index_or (allowed_row s (node_at s k)) m false;
       excludes = exclude_table s;
-      node_attrs = λ k values. nat_lt k (length s.nodes) && fit_attrs (node_at s k).attrs values;
-      mark_attrs = λ m values. nat_lt m (length s.marks) && fit_attrs (mark_at s m).attrs values;
+      node_declares = λ k. if nat_lt k (length s.nodes) then Some (map declared (node_at s k).attrs) else None;
+      mark_declares = λ m. if nat_lt m (length s.marks) then Some (map declared (mark_at s m).attrs) else None;
+      version = s.version;
     }

@@ -1,9 +1,9 @@
 -- The types that a schema's spec gives, by their places.
-use Rattle.std.specs.Prelude.{ℕ, Bool, true, false, ◌||◌, ◌&&◌, ◌==◌, nat_le, List, [], map, length, None, is_none, slice_index_or, codes}
-use Rattle.std.specs.List.{list_all}
+use Rattle.std.specs.Prelude.{ℕ, Bool, true, false, ◌||◌, ◌==◌, List, [], map, None, is_none, slice_index_or, codes}
 use Rattle.std.specs.Str.{bytes_eq}
 use Rattle.pm_auto.specs.declared.expr.Expr.{Expr, Empty}
-use Rattle.pm_value.specs.Plain.{Plain, depth}
+use Rattle.pm_value.specs.Plain.{Plain}
+use Rattle.pm_tokens.specs.Schemas.{Declared, fit_declared}
 use Rattle.pm_schema.specs.declared.spec.AttrSpec.{AttrSpec}
 use Rattle.pm_schema.specs.declared.spec.NodeSpec.{NodeSpec}
 use Rattle.pm_schema.specs.declared.spec.MarkSpec.{MarkSpec}
@@ -62,6 +62,14 @@ is_inclusive m = m.inclusive
 abbrev pub is_required : AttrSpec → Bool
 is_required a = is_none a.default
 
--- the values are one for each attribute that the type declares, each of depth at most 4
+-- the attribute as documents see it
+abbrev pub declared : AttrSpec → Declared
+declared a = record { name = a.name; kinds = a.validate }
+
+-- the values are one for each attribute that the type declares, each of depth at most 4 and of a kind that is named
 abbrev pub fit_attrs : List AttrSpec → List Plain → Bool
-fit_attrs attrs values = (length values == length attrs) && list_all (λ v. nat_le (depth v) 4) values
+fit_attrs attrs values = fit_declared (map declared attrs) values
+
+-- the version is 1 or 2
+abbrev pub is_version : ℕ → Bool
+is_version v = (v == 1) || (v == 2)

@@ -1,5 +1,8 @@
 //! Building a schema.
-ghost use Rattle.std.specs.Prelude.{◌≡◌, map, IfOk, IfErr};
+ghost use Rattle.std.specs.Prelude.{◌≡◌, true, map, IfOk, IfErr};
+ghost use Rattle.std.specs.List.{list_all};
+ghost use Rattle.pm_schema.specs.Types.{is_version};
+ghost use Rattle.pm_schema.specs.Defaults.{have_kinds};
 ghost use Rattle.pm_schema.specs.Made.{can_wrap};
 ghost use Rattle.pm_schema.specs.Built.{IsBuilt};
 ghost use Rattle.pm_schema.specs.Refusals.{IsRefused};
@@ -10,7 +13,7 @@ use crate::generated::generatable;
 use crate::marks::{allowed_rows, check_marks, exclude_rules};
 use crate::naming::name_types;
 use crate::schema::Schema;
-use crate::spec::{NodeSpec, SchemaSpec};
+use crate::spec::{MarkSpec, NodeSpec, SchemaSpec};
 use crate::types::find_types;
 use pm_list::Listed;
 use std::alloc::{AllocError, Global};
@@ -26,8 +29,26 @@ fn wrappers(alloc: Global, nodes: &[NodeSpec]) -> Result<Listed<bool>, AllocErro
     Ok(list)
 }
 
+/// Each default of a node type is of a kind that its attribute names, as the attributes of each type know.
+fn node_defaults(nodes: &[NodeSpec])
+    ensures { list_all (λ n. have_kinds n.attrs) nodes.now ≡ true }
+{
+    for node in nodes {
+        let _ = node.attrs.as_slice();
+    }
+}
+
+/// Each default of a mark type likewise.
+fn mark_defaults(marks: &[MarkSpec])
+    ensures { list_all (λ m. have_kinds m.attrs) marks.now ≡ true }
+{
+    for mark in marks {
+        let _ = mark.attrs.as_slice();
+    }
+}
+
 impl Schema {
-    /// The schema of these types. A schema that is built has no dead end: from each state of each type a valid end can be
+    /// The schema of these types, whose version has to be 1 or 2. A schema that is built has no dead end: from each state of each type a valid end can be
     /// reached through types that can be made.
     ///
     /// The refusals, in the order in which they are looked for: `NoTop` where no type has the top name or it is `text`;
@@ -36,6 +57,7 @@ impl Schema {
     /// type and of no group; `Content` with the fault of the first type for whose content there is no automaton; `DeadEnd`
     /// with the first type that has a state from which no generatable types lead to a valid end.
     pub fn build(alloc: Global, spec: SchemaSpec) -> Result<Schema, SchemaError>
+        requires { is_version spec.version ≡ true }
         ensures spec { IfOk result (λ s. s.spec ≡ spec) }
         ensures built { IfOk result IsBuilt }
         ensures refused { IfErr result (IsRefused spec) }
@@ -49,6 +71,8 @@ impl Schema {
         let allowed = allowed_rows(alloc, &spec, autos.as_slice())?;
         let rules = exclude_rules(alloc, &spec)?;
         let may_wrap = wrappers(alloc, spec.nodes.as_slice())?;
+        node_defaults(spec.nodes.as_slice());
+        mark_defaults(spec.marks.as_slice());
         Ok(Schema {
             spec,
             node_names,

@@ -72,6 +72,9 @@ pub enum AttrError {
     /// The first given name, by its place, that no attribute has.
     #[error("no attribute has the given name {index}")]
     Unknown { index: usize },
+    /// The first attribute, by its place, for which a value of no kind that it names is given.
+    #[error("attribute {attr} has a value of another kind")]
+    Kind { attr: usize },
     #[error("no memory")]
     NoMemory,
 }

@@ -1,10 +1,11 @@
 //! A schema, and its look-ups.
-ghost use Rattle.std.specs.Prelude.{◌≡◌, ◌<◌, [], length, map, slice_index_or, Some, codes, IfSome, true, false};
+ghost use Rattle.std.specs.Prelude.{◌≡◌, ◌<◌, ◌≤◌, [], length, map, slice_index_or, Some, codes, IfSome, true, false};
 ghost use Rattle.pm_schema.specs.Names.{place_of};
-ghost use Rattle.pm_schema.specs.Types.{names_of_nodes, names_of_marks, node_at, mark_at, is_inline as inline_of, is_leaf as leaf_of, is_atom as atom_of, is_inclusive};
+ghost use Rattle.pm_schema.specs.Types.{names_of_nodes, names_of_marks, node_at, mark_at, is_inline as inline_of, is_leaf as leaf_of, is_atom as atom_of, is_inclusive, is_version};
 ghost use Rattle.pm_schema.specs.Contents.{Runs, All_run, all_run-prop};
 ghost use Rattle.pm_schema.specs.MarkTexts.{allowed_row, exclude_table};
-ghost use Rattle.pm_tokens.specs.Schemas.{compatible};
+ghost use Rattle.pm_schema.specs.Defaults.{nodes_have_kinds, marks_have_kinds};
+ghost use Rattle.pm_tokens.specs.Schemas.{compatible, max_size};
 ghost use Rattle.pm_schema.specs.Documents.{documents_of};
 ghost use Rattle.pm_schema.specs.Refusals.{has_double_name, is_plain_text};
 ghost use Rattle.pm_schema.specs.Generated.{NeverStuck, never_stuck-prop};
@@ -43,6 +44,9 @@ pub struct Schema {
     ghost makes: { generatable ≡ map can_be_made spec.nodes },
     ghost never_stuck: { NeverStuck generatable autos } by { never_stuck-prop generatable autos },
     ghost wraps: { may_wrap ≡ map can_wrap spec.nodes },
+    ghost versioned: { is_version spec.version ≡ true },
+    ghost node_defaults: { nodes_have_kinds spec ≡ true },
+    ghost mark_defaults: { marks_have_kinds spec ≡ true },
 }
 
 impl Schema {
@@ -214,6 +218,19 @@ impl Schema {
         ensures { result ≡ compatible (documents_of self.now.spec) a b }
     {
         a == b || self.auto(a).compatible(self.auto(b))
+    }
+
+    /// The greatest size of a document in tokens: 500,000 in version 1, and 1,000,000 in version 2. It takes no memory.
+    #[tactic(auto, unfolding(crate::specs::Documents::documents_of))]
+    pub fn max_size(&self) -> usize
+        ensures size { result ≡ max_size (documents_of self.now.spec) }
+        ensures small { result ≤ 1000000 }
+    {
+        if self.spec.version == 1 {
+            500_000
+        } else {
+            1_000_000
+        }
     }
 
     /// Which mark types exclude which.

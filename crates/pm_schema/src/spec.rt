@@ -6,13 +6,15 @@ ghost use Rattle.pm_schema.specs.Made.{needs_attrs, can_be_made, can_wrap};
 use crate::declared::AttrSpecs;
 use pm_auto::Expr;
 use pm_list::Listed;
-use pm_value::{Text, Value};
+use pm_value::{Kinds, Text, Value};
 
 /// An attribute that a type declares. Where it has no default, each node or mark of the type has to give a value.
 #[derive(Drop)]
 pub struct AttrSpec {
     pub name: Text,
     pub default: Option<Value>,
+    /// The kinds of values that it may have, any where it is absent. A default has to be of one of them.
+    pub validate: Option<Kinds>,
 }
 
 /// A node type.
@@ -48,6 +50,8 @@ pub struct SchemaSpec {
     pub nodes: Listed<NodeSpec>,
     pub marks: Listed<MarkSpec>,
     pub top: Text,
+    /// The version of the session file, 1 or 2. It decides how many tokens a document may have.
+    pub version: u32,
 }
 
 impl NodeSpec {

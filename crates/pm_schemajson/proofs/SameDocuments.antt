@@ -1,7 +1,7 @@
 -- Two specs whose types one JSON writes are one schema to documents.
 use Rattle.std.proofs.Common.{◌≡◌, ℕ, zero, suc, true, false, ◌||◌, ◌&&◌, List, [], ◌∷◌, length, map, refl, ap, ◌∙◌, sym}
-use Rattle.std.specs.Prelude.{slice_index_or, codes, Option, Some, None, unwrap_or, ◌==◌, nat_le, nat_lt, if◌then◌else◌, replicate, slice_set}
-use Rattle.std.specs.List.{list_any, list_all}
+use Rattle.std.specs.Prelude.{slice_index_or, codes, Option, Some, None, unwrap_or, nat_lt, if◌then◌else◌, replicate, slice_set}
+use Rattle.std.specs.List.{list_any}
 use Rattle.std.specs.Str.{bytes_eq}
 use Rattle.pm_auto.specs.declared.expr.Expr.{Expr}
 use Rattle.pm_auto.specs.Tree.{tree}
@@ -9,17 +9,18 @@ use Rattle.pm_auto.specs.Trim.{trim}
 use Rattle.pm_auto.specs.Table.{rows}
 use Rattle.pm_auto.specs.Runs.{fits, accepts_rows}
 use Rattle.pm_auto.specs.States.{start_of, kinds, once}
-use Rattle.pm_value.specs.Plain.{Plain, depth}
+use Rattle.pm_tokens.specs.Schemas.{Declared}
 use Rattle.pm_schema.specs.declared.spec.NodeSpec.{NodeSpec}
 use Rattle.pm_schema.specs.declared.spec.MarkSpec.{MarkSpec}
 use Rattle.pm_schema.specs.declared.spec.SchemaSpec.{SchemaSpec}
 use Rattle.pm_schema.specs.Names.{place_of}
-use Rattle.pm_schema.specs.Types.{no_mark, node_at, mark_at, is_leaf, is_inline, is_atom, fit_attrs}
+use Rattle.pm_schema.specs.Types.{no_mark, node_at, mark_at, is_leaf, is_inline, is_atom, declared}
 use Rattle.pm_schema.specs.Contents.{starts}
 use Rattle.pm_schema.specs.MarkTexts.{words, is_type, is_all, means, names, named_row, excluded_by, excluded_rows, first_is_inline, allowed_by, allowed_row}
 use Rattle.pm_schema.specs.Documents.{documents_of}
 use Rattle.pm_schema.proofs.SameLaws.{same-expand}
-use Rattle.pm_schemajson.specs.Views.{node_type, node_types, mark_type, mark_types, types_of_spec}
+use Rattle.pm_schemajson.specs.Types.{Attribute}
+use Rattle.pm_schemajson.specs.Views.{attribute, node_type, node_types, mark_type, mark_types, types_of_spec}
 use Rattle.pm_schemajson.proofs.SameTypes.{map-alike, long-alike, any-alike, names-alike, node-alike, empty-is, no_tree}
 
 -- ---- one node type
@@ -74,6 +75,12 @@ mark-at-alike (n ∷ ns) [] k h = absurd (cc)
 mark-at-alike (n ∷ ns) (m ∷ ms) zero h = cc
 mark-at-alike (n ∷ ns) (m ∷ ms) (suc k) h = let e : mark_types ns ≡ mark_types ms = cc in mark-at-alike ns ms k e
 
+-- ---- attributes
+
+-- an attribute as documents see it, from what JSON writes of it
+abbrev seen : Attribute → Declared
+seen a = record { name = a.name; kinds = a.validate }
+
 -- ---- two specs
 
 module _ (s t : SchemaSpec) (h : types_of_spec s ≡ types_of_spec t) where
@@ -102,21 +109,17 @@ module _ (s t : SchemaSpec) (h : types_of_spec s ≡ types_of_spec t) where
       allowed-by-alike (node_at s k).content (node_at t k).content (node_at s k).marks (ap (λ x. x.content) e)
       ∙ ap (λ x. allowed_by t (node_at t k).content x.marks) e
 
-  node-attrs-alike : (k : ℕ) (values : List Plain) → nat_lt k (length s.nodes) && fit_attrs (node_at s k).attrs values ≡ nat_lt k (length t.nodes) && fit_attrs (node_at t k).attrs values
-  node-attrs-alike k values =
-      let n = long-alike node_type s.nodes t.nodes nodes-same in
-      let a = long-alike _ (node_at s k).attrs (node_at t k).attrs (ap (λ x. x.attrs) (node-alike s t k h)) in
-      λ i. nat_lt k (n i) && ((length values == a i) && list_all (λ v. nat_le (depth v) 4) values)
+  node-declares-alike : (k : ℕ) → map declared (node_at s k).attrs ≡ map declared (node_at t k).attrs
+  node-declares-alike k = map-alike attribute seen (node_at s k).attrs (node_at t k).attrs (ap (λ x. x.attrs) (node-alike s t k h))
 
-  mark-attrs-alike : (m : ℕ) (values : List Plain) → nat_lt m (length s.marks) && fit_attrs (mark_at s m).attrs values ≡ nat_lt m (length t.marks) && fit_attrs (mark_at t m).attrs values
-  mark-attrs-alike m values =
-      let n = long-alike mark_type s.marks t.marks marks-same in
-      let a = long-alike _ (mark_at s m).attrs (mark_at t m).attrs (ap (λ x. x.attrs) (mark-alike m)) in
-      λ i. nat_lt m (n i) && ((length values == a i) && list_all (λ v. nat_le (depth v) 4) values)
+  mark-declares-alike : (m : ℕ) → map declared (mark_at s m).attrs ≡ map declared (mark_at t m).attrs
+  mark-declares-alike m = map-alike attribute seen (mark_at s m).attrs (mark_at t m).attrs (ap (λ x. x.attrs) (mark-alike m))
 
   pub documents-alike : documents_of s ≡ documents_of t
   unfolding documents_of
   documents-alike =
+      let n = long-alike node_type s.nodes t.nodes nodes-same in
+      let m = long-alike mark_type s.marks t.marks marks-same in
       let content : (k : ℕ) → tree (node_at s k).content ≡ tree (node_at t k).content = λ k. ap (λ x. x.content) (node-alike s t k h) in
       λ i. record {
         text = unwrap_or (place_of (codes "text") (names-alike s t h i)) 0;
@@ -127,6 +130,7 @@ module _ (s t : SchemaSpec) (h : types_of_spec s ≡ types_of_spec t) where
         is_atom = λ k. atom-alike (node_at s k) (node_at t k) (node-alike s t k h) i;
         allows = λ k m. slice_index_or (allowed-alike k i) m false;
         excludes = rows-alike s.marks t.marks marks-same 0 s.marks t.marks marks-same i;
-        node_attrs = λ k values. node-attrs-alike k values i;
-        mark_attrs = λ m values. mark-attrs-alike m values i;
+        node_declares = λ k. if nat_lt k (n i) then Some (node-declares-alike k i) else None;
+        mark_declares = λ k. if nat_lt k (m i) then Some (mark-declares-alike k i) else None;
+        version = (h i).version;
       }

@@ -1,9 +1,9 @@
 -- Reading alone never tells a fault of building, and no fault that it tells carries want of memory.
 use Rattle.std.proofs.Common.{◌≡◌, ℕ, ◌+◌, List, [], ◌∷◌, Bool, true, false, Option, Some, None, Result, Ok, Err, map, sym, subst}
-use Rattle.std.specs.Prelude.{codes, option_and_then, IfErr, if◌then◌else◌}
+use Rattle.std.specs.Prelude.{codes, option_and_then, IfErr, if◌then◌else◌, ◌==◌}
 use Rattle.std.specs.Result.{IsErrAnd}
 use Rattle.serde_json.specs.Data.{Data, Items, no_items, item, Members, no_members, member}
-use Rattle.serde_json.specs.Find.{get, as_str, as_bool, as_array, as_object}
+use Rattle.serde_json.specs.Find.{get, as_str, as_bool, as_array, as_object, as_number, as_u64}
 use Rattle.pm_list.specs.Readings.{◌>>=◌}
 use Rattle.pm_auto.specs.Tree.{Tree}
 use Rattle.pm_expr.specs.Names.{Named}
@@ -17,12 +17,13 @@ use Rattle.pm_value.specs.declared.fault.ValueError.TheVariants as value
 use Rattle.pm_schemajson.specs.declared.error.Field.{Field}
 use Rattle.pm_schemajson.specs.declared.error.Field.TheVariants as the
 use Rattle.pm_schemajson.specs.declared.error.SchemaReadError.{SchemaReadError}
-use Rattle.pm_schemajson.specs.declared.error.SchemaReadError.TheVariants.{Shape, Expr, Schema, Attr, NoMemory, Name}
+use Rattle.pm_schemajson.specs.declared.error.SchemaReadError.TheVariants.{Shape, Expr, Schema, Attr, NoMemory, Name, BadDefault}
 use Rattle.pm_schemajson.specs.Answers.{Fails}
-use Rattle.pm_schemajson.specs.Types.{NodeType}
+use Rattle.pm_schemajson.specs.Types.{Attribute, NodeType}
 use Rattle.pm_schemajson.specs.Words.{is_name, names_in}
 use Rattle.pm_schemajson.specs.Fields.{field, of_kind, text_if, text_or, truth_or}
-use Rattle.pm_schemajson.specs.Reading.{name_of, well_formed, groups_of, default_from, default_of, attr_list, attrs_of, node_fields, mark_fields, node_list, mark_list, marks_of, types_of}
+use Rattle.pm_schemajson.specs.Reading.{name_of, well_formed, groups_of, default_from, default_of, attr_of, attr_list, attrs_of, node_fields, mark_fields, node_list, mark_list, marks_of, types_of}
+use Rattle.pm_schemajson.specs.Versions.{version_in, version_of, kinds_in, kinds_if, validate_of, is_kept, with_kept}
 use Rattle.pm_schemajson.specs.Contents.{named, with_content, content_of, contents_of, schema_of}
 use Rattle.pm_schemajson.specs.Views.{IsFault}
 
@@ -48,6 +49,7 @@ onward (Err (Attr value.Wide)) f h g = tt
 onward (Err (Attr value.Deep)) f h g = tt
 onward (Err NoMemory) f h g = tt
 onward (Err (Name a)) f h g = tt
+onward (Err (BadDefault n)) f h g = tt
 
 kinds : {A : Type 0} (a : Field) (o : Option A) → Unbuilt (of_kind a o)
 kinds a None = tt
@@ -92,65 +94,103 @@ defaults : (o : Option Data) → Unbuilt (default_of o)
 defaults None = tt
 defaults (Some d) = values (value_of d)
 
-attributes : (ms : Members) → Unbuilt (attr_list ms)
-unfolding attr_list
-attributes no_members = tt
-attributes (member k d ms) =
+versions : (o : Option Data) → Unbuilt (version_of o)
+versions None = tt
+versions (Some d) = at (option_and_then as_u64 (as_number d))
+  where
+    one : (n : ℕ) (b c : Bool) → Unbuilt {A = ℕ} (if b then Ok 1 else (if c then Ok 2 else Err (Shape the.Version)))
+    one n true c = tt
+    one n false true = tt
+    one n false false = tt
+
+    at : (o : Option ℕ) → Unbuilt (version_in o)
+    at None = tt
+    at (Some n) = one n (n == 1) (n == 2)
+
+named-kinds : (o : Option Data) → Unbuilt (kinds_if o)
+named-kinds None = tt
+named-kinds (Some d) = onward (of_kind the.Validate (option_and_then kinds_in (as_str d))) (λ ks. Ok (Some ks)) (kinds the.Validate (option_and_then kinds_in (as_str d))) (λ ks. tt)
+
+validates : (version : ℕ) (o : Option Data) → Unbuilt (validate_of version o)
+validates version o = at (version == 1)
+  where
+    at : (b : Bool) → Unbuilt (if b then Ok None else kinds_if o)
+    at true = tt
+    at false = named-kinds o
+
+kept : (n : ℕ) (a : Attribute) → Unbuilt (with_kept n a)
+kept n a = at (is_kept a.validate a.default)
+  where
+    at : (b : Bool) → Unbuilt (if b then Ok a else Err (BadDefault n))
+    at true = tt
+    at false = tt
+
+attribute : (version n : ℕ) (k : List ℕ) (d : Data) → Unbuilt (attr_of version n k d)
+unfolding attr_of
+attribute version n k d =
     onward (of_kind the.Attrs (as_object d)) _ (kinds the.Attrs (as_object d))
     (λ ns. onward (default_of (get (codes "default") d)) _ (defaults (get (codes "default") d))
-    (λ v. onward (attr_list ms) (λ rest. Ok (record { name = k; default = v } ∷ rest)) (attributes ms) (λ rest. tt)))
+    (λ v. onward (validate_of version (field (codes "validate") d)) _ (validates version (field (codes "validate") d)) (λ ks. kept n (record { name = k; default = v; validate = ks }))))
 
-attrs : (o : Option Data) → Unbuilt (attrs_of o)
+attributes : (version n : ℕ) (ms : Members) → Unbuilt (attr_list version n ms)
+unfolding attr_list
+attributes version n no_members = tt
+attributes version n (member k d ms) =
+    onward (attr_of version n k d) _ (attribute version n k d)
+    (λ first. onward (attr_list version (n + 1) ms) (λ rest. Ok (first ∷ rest)) (attributes version (n + 1) ms) (λ rest. tt))
+
+attrs : (version : ℕ) (o : Option Data) → Unbuilt (attrs_of version o)
 unfolding attrs_of
-attrs None = tt
-attrs (Some d) = onward (of_kind the.Attrs (as_object d)) attr_list (kinds the.Attrs (as_object d)) attributes
+attrs version None = tt
+attrs version (Some d) = onward (of_kind the.Attrs (as_object d)) (attr_list version 0) (kinds the.Attrs (as_object d)) (attributes version 0)
 
-node : (d : Data) → Unbuilt (node_fields d)
+node : (version : ℕ) (d : Data) → Unbuilt (node_fields version d)
 unfolding node_fields
-node d =
+node version d =
     onward (name_of d) _ (names d)
     (λ name. onward (text_or [] the.Content (field (codes "content") d)) _ (texts [] the.Content (field (codes "content") d))
     (λ content. onward (groups_of d) _ (groups d)
     (λ groups. onward (text_if the.Marks (field (codes "marks") d)) _ (texts-if the.Marks (field (codes "marks") d))
     (λ marks. onward (truth_or false the.Inline (field (codes "inline") d)) _ (truths false the.Inline (field (codes "inline") d))
     (λ inline. onward (truth_or false the.Atom (field (codes "atom") d)) _ (truths false the.Atom (field (codes "atom") d))
-    (λ atom. onward (attrs_of (field (codes "attrs") d)) _ (attrs (field (codes "attrs") d)) (λ _. tt)))))))
+    (λ atom. onward (attrs_of version (field (codes "attrs") d)) _ (attrs version (field (codes "attrs") d)) (λ _. tt)))))))
 
-mark : (d : Data) → Unbuilt (mark_fields d)
+mark : (version : ℕ) (d : Data) → Unbuilt (mark_fields version d)
 unfolding mark_fields
-mark d =
+mark version d =
     onward (name_of d) _ (names d)
-    (λ name. onward (attrs_of (field (codes "attrs") d)) _ (attrs (field (codes "attrs") d))
+    (λ name. onward (attrs_of version (field (codes "attrs") d)) _ (attrs version (field (codes "attrs") d))
     (λ attrs. onward (truth_or true the.Inclusive (field (codes "inclusive") d)) _ (truths true the.Inclusive (field (codes "inclusive") d))
     (λ inclusive. onward (text_if the.Excludes (field (codes "excludes") d)) _ (texts-if the.Excludes (field (codes "excludes") d))
     (λ excludes. onward (groups_of d) _ (groups d) (λ _. tt)))))
 
-nodes : (ds : Items) → Unbuilt (node_list ds)
+nodes : (version : ℕ) (ds : Items) → Unbuilt (node_list version ds)
 unfolding node_list
-nodes no_items = tt
-nodes (item d ds) =
+nodes version no_items = tt
+nodes version (item d ds) =
     onward (of_kind the.Nodes (as_object d)) _ (kinds the.Nodes (as_object d))
-    (λ _. onward (node_fields d) _ (node d) (λ first. onward (node_list ds) (λ rest. Ok (first ∷ rest)) (nodes ds) (λ _. tt)))
+    (λ _. onward (node_fields version d) _ (node version d) (λ first. onward (node_list version ds) (λ rest. Ok (first ∷ rest)) (nodes version ds) (λ _. tt)))
 
-marks : (ds : Items) → Unbuilt (mark_list ds)
+marks : (version : ℕ) (ds : Items) → Unbuilt (mark_list version ds)
 unfolding mark_list
-marks no_items = tt
-marks (item d ds) =
+marks version no_items = tt
+marks version (item d ds) =
     onward (of_kind the.Marks (as_object d)) _ (kinds the.Marks (as_object d))
-    (λ _. onward (mark_fields d) _ (mark d) (λ first. onward (mark_list ds) (λ rest. Ok (first ∷ rest)) (marks ds) (λ _. tt)))
+    (λ _. onward (mark_fields version d) _ (mark version d) (λ first. onward (mark_list version ds) (λ rest. Ok (first ∷ rest)) (marks version ds) (λ _. tt)))
 
-marks-field : (o : Option Data) → Unbuilt (marks_of o)
+marks-field : (version : ℕ) (o : Option Data) → Unbuilt (marks_of version o)
 unfolding marks_of
-marks-field None = tt
-marks-field (Some d) = onward (of_kind the.Marks (as_array d)) mark_list (kinds the.Marks (as_array d)) marks
+marks-field version None = tt
+marks-field version (Some d) = onward (of_kind the.Marks (as_array d)) (mark_list version) (kinds the.Marks (as_array d)) (marks version)
 
 types : (d : Data) → Unbuilt (types_of d)
 unfolding types_of
 types d =
-    onward (of_kind the.Nodes (option_and_then as_array (get (codes "nodes") d))) _ (kinds the.Nodes (option_and_then as_array (get (codes "nodes") d)))
-    (λ items. onward (node_list items) _ (nodes items)
-    (λ ns. onward (marks_of (field (codes "marks") d)) _ (marks-field (field (codes "marks") d))
-    (λ ms. onward (text_or (codes "doc") the.TopNode (field (codes "topNode") d)) _ (texts (codes "doc") the.TopNode (field (codes "topNode") d)) (λ _. tt))))
+    onward (version_of (field (codes "version") d)) _ (versions (field (codes "version") d))
+    (λ version. onward (of_kind the.Nodes (option_and_then as_array (get (codes "nodes") d))) _ (kinds the.Nodes (option_and_then as_array (get (codes "nodes") d)))
+    (λ items. onward (node_list version items) _ (nodes version items)
+    (λ ns. onward (marks_of version (field (codes "marks") d)) _ (marks-field version (field (codes "marks") d))
+    (λ ms. onward (text_or (codes "doc") the.TopNode (field (codes "topNode") d)) _ (texts (codes "doc") the.TopNode (field (codes "topNode") d)) (λ _. tt)))))
 
 content : (k : ℕ) (r : Result Tree ExprError) → Unbuilt (content_of k r)
 content k (Ok e) = tt
@@ -188,6 +228,7 @@ fault-is d (Attr value.Wide) h = h
 fault-is d (Attr value.Deep) h = h
 fault-is d NoMemory h = tt
 fault-is d (Name a) h = h
+fault-is d (BadDefault n) h = h
 
 pub handed-is : {X : Type 0} (d : Data) (f : SchemaReadError) (r : Result X SchemaReadError) → IsErrAnd r (λ e. e ≡ f) → Fails f (schema_of d) → IfErr r (IsFault d)
 handed-is d f (Ok x) h i = absurd h

@@ -37,4 +37,4 @@ unfoldable pub schema_of : Data → Result (Types Tree) SchemaReadError
 schema_of d = do
   types ← types_of d
   nodes ← contents_of (map named types.nodes) 0 types.nodes
-  Ok (record { nodes = nodes; marks = types.marks; top = types.top })
+  Ok (record { nodes = nodes; marks = types.marks; top = types.top; version = types.version })

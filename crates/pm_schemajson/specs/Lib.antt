@@ -3,6 +3,7 @@ pub mod Answers
 pub mod Types
 pub mod Words
 pub mod Fields
+pub mod Versions
 pub mod Reading
 pub mod Contents
 pub mod Views

@@ -21,7 +21,7 @@ use Rattle.pm_schemajson.specs.Types.{Attribute, NodeType, MarkType, Types}
 use Rattle.pm_schemajson.specs.Contents.{schema_of}
 
 abbrev pub attribute : AttrSpec → Attribute
-attribute a = record { name = a.name; default = option_map plain a.default }
+attribute a = record { name = a.name; default = option_map plain a.default; validate = a.validate }
 
 abbrev pub attributes : List AttrSpec → List Attribute
 attributes xs = map attribute xs
@@ -47,7 +47,7 @@ abbrev pub mark_types : List MarkSpec → List MarkType
 mark_types ms = map mark_type ms
 
 abbrev pub types_of_spec : SchemaSpec → Types Tree
-types_of_spec s = record { nodes = node_types s.nodes; marks = mark_types s.marks; top = s.top }
+types_of_spec s = record { nodes = node_types s.nodes; marks = mark_types s.marks; top = s.top; version = s.version }
 
 -- the schema is built of the types that this JSON writes
 abbrev pub IsSchemaOf : Data → BuiltSchema → Type 0

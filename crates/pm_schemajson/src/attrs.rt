@@ -1,21 +1,23 @@
 //! The attributes that a type declares.
-ghost use Rattle.std.specs.Prelude.{◌≡◌, ◌++◌, ◌∷◌, [], codes, option_map, OnOk};
+ghost use Rattle.std.specs.Prelude.{◌≡◌, true, codes, option_map, IfOk};
 ghost use Rattle.serde_json.specs.Find.{get};
 ghost use Rattle.serde_json.specs.View.{view, members_view};
 ghost use Rattle.pm_value.specs.Views.{plain};
-ghost use Rattle.pm_schema.specs.AttrNames.{attr_names};
+ghost use Rattle.pm_schema.specs.Defaults.{is_kind_of_default};
 ghost use Rattle.pm_schemajson.specs.Answers.{Gives};
 ghost use Rattle.pm_schemajson.specs.Fields.{field as field_of};
-ghost use Rattle.pm_schemajson.specs.Reading.{default_of as default_from_json, attr_list as attr_list_of, attrs_of as attrs_from};
-ghost use Rattle.pm_schemajson.specs.Views.{attributes};
+ghost use Rattle.pm_schemajson.specs.Reading.{default_of as default_from_json, attr_of as attr_from, attr_list as attr_list_of, attrs_of as attrs_from};
+ghost use Rattle.pm_schemajson.specs.Versions.{is_kept};
+ghost use Rattle.pm_schemajson.specs.Views.{attribute, attributes};
 
 use crate::error::{Field, SchemaReadError};
 use crate::fields::{field, object};
+use crate::versions::validate_of;
 use pm_list::Listed;
 use pm_schema::{AttrSpec, AttrSpecs};
-use pm_value::{Text, Value};
+use pm_value::{Kinds, Text, Value};
 use serde_json::{Map, Value as Json};
-use std::alloc::{AllocError, Global};
+use std::alloc::Global;
 
 /// The default in the entry of an attribute.
 fn default_of(alloc: Global, json: &Json) -> Result<Option<Value>, SchemaReadError>
@@ -30,43 +32,74 @@ fn default_of(alloc: Global, json: &Json) -> Result<Option<Value>, SchemaReadErr
     }
 }
 
-fn push_attr(
-    alloc: Global,
-    attrs: &mut Listed<AttrSpec>,
-    name: &str,
-    default: Option<Value>,
-) -> Result<(), AllocError>
-    ensures attributes { OnOk result (attributes attrs.new ≡ attributes attrs.old ++ (record { name = name.now; default = option_map plain default }) ∷ []) }
-    ensures names { OnOk result (attr_names attrs.new ≡ attr_names attrs.old ++ name.now ∷ []) }
+/// Whether the default, if there is one, is of a kind that is named.
+fn is_kept(default: &Option<Value>, kinds: Option<Kinds>) -> bool
+    ensures kept { result ≡ is_kept kinds (option_map plain default.now) }
+    ensures kind { result ≡ is_kind_of_default kinds default.now }
 {
-    let name = Text::from_str(alloc, name)?;
-    attrs.push(AttrSpec { name, default })?;
-    Ok(())
+    match default {
+        Some(value) => Kinds::allow(kinds, value),
+        None => true,
+    }
 }
 
-#[tactic(auto, using(crate::proofs::Fronts::attrs), unfolding(crate::specs::Reading::attr_list))]
-fn attr_list(alloc: Global, members: &Map<String, Json>) -> Result<AttrSpecs, SchemaReadError>
-    ensures { Gives attributes result (attr_list_of (members_view members.now.entries)) }
+/// The attribute of an entry, which has the place `attr` among those of its type.
+#[tactic(auto, unfolding(crate::specs::Reading::attr_of))]
+fn attr_of(
+    alloc: Global,
+    version: u32,
+    attr: usize,
+    name: &str,
+    json: &Json,
+) -> Result<AttrSpec, SchemaReadError>
+    ensures read { Gives attribute result (attr_from version attr name.now (view json.now)) }
+    ensures name { IfOk result (λ a. a.name ≡ name.now) }
+    ensures kind { IfOk result (λ a. is_kind_of_default a.validate a.default ≡ true) }
+{
+    object(json, Field::Attrs)?;
+    let default = default_of(alloc, json)?;
+    let validate = validate_of(alloc, version, json)?;
+    if !is_kept(&default, validate) {
+        return Err(SchemaReadError::BadDefault { attr });
+    }
+    let name = Text::from_str(alloc, name)?;
+    Ok(AttrSpec {
+        name,
+        default,
+        validate,
+    })
+}
+
+#[tactic(auto, unfolding(crate::specs::Reading::attr_list))]
+fn attr_list(
+    alloc: Global,
+    version: u32,
+    members: &Map<String, Json>,
+) -> Result<AttrSpecs, SchemaReadError>
+    ensures { Gives attributes result (attr_list_of version 0 (members_view members.now.entries)) }
 {
     let mut attrs = Listed::from_vec(Vec::with_capacity(alloc, members.len())?);
     for (name, value) in members.iter() {
-        object(value, Field::Attrs)?;
-        let default = default_of(alloc, value)?;
-        push_attr(alloc, &mut attrs, name.as_str(), default)?;
+        let attr = attr_of(alloc, version, attrs.len(), name.as_str(), value)?;
+        attrs.push(attr)?;
     }
     Ok(AttrSpecs::from_list(attrs))
 }
 
 /// The field `attrs` of a type.
 #[tactic(auto, unfolding(crate::specs::Reading::attrs_of))]
-pub(crate) fn attrs_of(alloc: Global, json: &Json) -> Result<AttrSpecs, SchemaReadError>
-    ensures { Gives attributes result (attrs_from (field_of (codes "attrs") (view json.now))) }
+pub(crate) fn attrs_of(
+    alloc: Global,
+    version: u32,
+    json: &Json,
+) -> Result<AttrSpecs, SchemaReadError>
+    ensures { Gives attributes result (attrs_from version (field_of (codes "attrs") (view json.now))) }
 {
     match field(json, "attrs") {
         None => Ok(AttrSpecs::new(alloc)),
         Some(value) => {
             let members = object(value, Field::Attrs)?;
-            attr_list(alloc, members)
+            attr_list(alloc, version, members)
         }
     }
 }

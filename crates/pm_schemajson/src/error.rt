@@ -14,6 +14,7 @@ use thiserror::Error;
 /// stands; `Marks` is the list of mark types and the field `marks` of a node type.
 #[derive(Clone, Copy, Debug, PartialEq, Eq)]
 pub enum Field {
+    Version,
     Nodes,
     Marks,
     TopNode,
@@ -23,6 +24,7 @@ pub enum Field {
     Inline,
     Atom,
     Attrs,
+    Validate,
     Inclusive,
     Excludes,
 }
@@ -48,6 +50,10 @@ pub enum SchemaReadError {
     /// A name is not 1 to 64 ASCII letters, digits and `_`, or it is `_` alone.
     #[error("an ill-formed name in {field:?}")]
     Name { field: Field },
+    /// The default of the attribute of this place, in byte order of the names of its type, is of no kind that the attribute
+    /// names.
+    #[error("the default of attribute {attr} is of another kind")]
+    BadDefault { attr: usize },
 }
 
 impl From<AllocError> for SchemaReadError {

@@ -11,6 +11,7 @@ mod marks;
 mod named;
 mod nodes;
 mod reading;
+mod versions;
 mod words;
 
 pub use error::{Field, SchemaReadError};

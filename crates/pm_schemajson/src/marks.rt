@@ -16,11 +16,11 @@ use serde_json::Value;
 use std::alloc::Global;
 
 #[tactic(auto, unfolding(crate::specs::Reading::mark_fields))]
-fn mark_fields(alloc: Global, json: &Value) -> Result<MarkSpec, SchemaReadError>
-    ensures { Gives mark_type result (fields_of_mark (view json.now)) }
+fn mark_fields(alloc: Global, version: u32, json: &Value) -> Result<MarkSpec, SchemaReadError>
+    ensures { Gives mark_type result (fields_of_mark version (view json.now)) }
 {
     let name = name_of(alloc, json)?;
-    let attrs = attrs_of(alloc, json)?;
+    let attrs = attrs_of(alloc, version, json)?;
     let inclusive = truth_or(json, "inclusive", Field::Inclusive, true)?;
     let excludes = text_if(alloc, json, "excludes", Field::Excludes)?;
     let groups = groups_of(alloc, json)?;
@@ -34,27 +34,35 @@ fn mark_fields(alloc: Global, json: &Value) -> Result<MarkSpec, SchemaReadError>
 }
 
 #[tactic(auto, unfolding(crate::specs::Reading::mark_list))]
-fn mark_list(alloc: Global, items: &[Value]) -> Result<Listed<MarkSpec>, SchemaReadError>
-    ensures { Gives mark_types result (list_of_marks (items_view items.now)) }
+fn mark_list(
+    alloc: Global,
+    version: u32,
+    items: &[Value],
+) -> Result<Listed<MarkSpec>, SchemaReadError>
+    ensures { Gives mark_types result (list_of_marks version (items_view items.now)) }
 {
     let mut marks = Listed::new(alloc);
     for item in items {
         object(item, Field::Marks)?;
-        marks.push(mark_fields(alloc, item)?)?;
+        marks.push(mark_fields(alloc, version, item)?)?;
     }
     Ok(marks)
 }
 
 /// The field `marks` of a schema.
 #[tactic(auto, unfolding(crate::specs::Reading::marks_of))]
-pub(crate) fn marks_of(alloc: Global, json: &Value) -> Result<Listed<MarkSpec>, SchemaReadError>
-    ensures { Gives mark_types result (marks_from (field_of (codes "marks") (view json.now))) }
+pub(crate) fn marks_of(
+    alloc: Global,
+    version: u32,
+    json: &Value,
+) -> Result<Listed<MarkSpec>, SchemaReadError>
+    ensures { Gives mark_types result (marks_from version (field_of (codes "marks") (view json.now))) }
 {
     match field(json, "marks") {
         None => Ok(Listed::new(alloc)),
         Some(value) => {
             let items = array(value, Field::Marks)?;
-            mark_list(alloc, items)
+            mark_list(alloc, version, items)
         }
     }
 }

@@ -14,8 +14,8 @@ use serde_json::Value;
 use std::alloc::Global;
 
 #[tactic(auto, unfolding(crate::specs::Reading::node_fields))]
-fn node_fields(alloc: Global, json: &Value) -> Result<NodeText, SchemaReadError>
-    ensures { Gives node_text result (fields_of_node (view json.now)) }
+fn node_fields(alloc: Global, version: u32, json: &Value) -> Result<NodeText, SchemaReadError>
+    ensures { Gives node_text result (fields_of_node version (view json.now)) }
 {
     let name = name_of(alloc, json)?;
     let content = text_or(alloc, json, "content", Field::Content, "")?;
@@ -23,7 +23,7 @@ fn node_fields(alloc: Global, json: &Value) -> Result<NodeText, SchemaReadError>
     let marks = text_if(alloc, json, "marks", Field::Marks)?;
     let inline = truth_or(json, "inline", Field::Inline, false)?;
     let atom = truth_or(json, "atom", Field::Atom, false)?;
-    let attrs = attrs_of(alloc, json)?;
+    let attrs = attrs_of(alloc, version, json)?;
     Ok(NodeText {
         name,
         content,
@@ -37,13 +37,17 @@ fn node_fields(alloc: Global, json: &Value) -> Result<NodeText, SchemaReadError>
 
 /// The entries of `nodes`.
 #[tactic(auto, unfolding(crate::specs::Reading::node_list))]
-pub(crate) fn node_list(alloc: Global, items: &[Value]) -> Result<Vec<NodeText>, SchemaReadError>
-    ensures { Gives (λ v. node_texts v.items) result (list_of_nodes (items_view items.now)) }
+pub(crate) fn node_list(
+    alloc: Global,
+    version: u32,
+    items: &[Value],
+) -> Result<Vec<NodeText>, SchemaReadError>
+    ensures { Gives (λ v. node_texts v.items) result (list_of_nodes version (items_view items.now)) }
 {
     let mut nodes = Vec::new(alloc);
     for item in items {
         object(item, Field::Nodes)?;
-        nodes.push(node_fields(alloc, item)?)?;
+        nodes.push(node_fields(alloc, version, item)?)?;
     }
     Ok(nodes)
 }

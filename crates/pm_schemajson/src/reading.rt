@@ -11,20 +11,22 @@ use crate::exprs::contents;
 use crate::fields::{array, text_or};
 use crate::marks::marks_of;
 use crate::nodes::node_list;
+use crate::versions::version_of;
 use pm_schema::{Schema, SchemaSpec};
 use serde_json::Value;
 use std::alloc::Global;
 
-/// The schema that a JSON object writes: `nodes`, a list of node types; `marks`, a list of mark types, none where it is
+/// The schema that a JSON object writes: `version`, the whole number 1 or 2, 1 where it is absent; `nodes`, a list of node types; `marks`, a list of mark types, none where it is
 /// absent; `topNode`, the name of the top node's type, `doc` where it is absent. A node type has `name`, `content` (a
 /// content expression, empty where it is absent), `group` (names with blanks between), `marks` (a text), `inline`, `atom`
 /// (both false where they are absent) and `attrs`; a mark type has `name`, `attrs`, `inclusive` (true where it is absent),
-/// `excludes` (a text) and `group`. In `attrs` each member is an attribute, an object whose `default` is the default. A field
-/// that may be absent may be null; a `default` of null is a default.
+/// `excludes` (a text) and `group`. In `attrs` each member is an attribute, an object whose `default` is the default, and
+/// whose `validate` in version 2 is a text that names the kinds of values that it may have: one or more of `string`, `number`,
+/// `boolean` and `null` with `|` between. A field that may be absent may be null; a `default` of null is a default.
 ///
 /// The first fault: first fields in this order, lists from the front, attributes in byte order of their names: `Shape` where
 /// a field is absent or of another kind, `Name` at an ill-formed name in `name` or `group`, `Attr` at a default that is no
-/// value. Then `Expr` at the first node type whose content is no expression. Then `Schema`, where the types make no schema.
+/// value, and `BadDefault` at one of no kind that its attribute names. Then `Expr` at the first node type whose content is no expression. Then `Schema`, where the types make no schema.
 /// Each default nests at most four levels deep (`shallow`).
 pub fn read_schema(alloc: Global, json: &Value) -> Result<Schema, SchemaReadError>
     ensures built { IfOk result (IsSchemaOf (view json.now)) }
@@ -40,13 +42,19 @@ pub fn read_schema(alloc: Global, json: &Value) -> Result<Schema, SchemaReadErro
 fn read_spec(alloc: Global, json: &Value) -> Result<SchemaSpec, SchemaReadError>
     ensures { Gives types_of_spec result (schema_of (view json.now)) }
 {
+    let version = version_of(json)?;
     let value = json.get("nodes").ok_or(SchemaReadError::Shape {
         field: Field::Nodes,
     })?;
     let items = array(value, Field::Nodes)?;
-    let texts = node_list(alloc, items)?;
-    let marks = marks_of(alloc, json)?;
+    let texts = node_list(alloc, version, items)?;
+    let marks = marks_of(alloc, version, json)?;
     let top = text_or(alloc, json, "topNode", Field::TopNode, "doc")?;
     let nodes = contents(alloc, texts)?;
-    Ok(SchemaSpec { nodes, marks, top })
+    Ok(SchemaSpec {
+        nodes,
+        marks,
+        top,
+        version,
+    })
 }

@@ -6,7 +6,6 @@ use Rattle.serde_json.specs.Find.{get, as_array, as_null}
 use Rattle.pm_list.specs.Readings.{◌>>=◌}
 use Rattle.pm_tokens.specs.Slices.{Slice, is_slice, slice_size}
 use Rattle.pm_schema.specs.declared.spec.SchemaSpec.{SchemaSpec}
-use Rattle.pm_schema.specs.Defaults.{HasShallowDefaults}
 use Rattle.pm_schema.specs.Documents.{documents_of}
 use Rattle.pm_schema.specs.Types.{node_at}
 use Rattle.pm_slice.specs.Sides.{sides, no_slice, or_none}
@@ -14,7 +13,7 @@ use Rattle.pm_docjson.specs.declared.fault.DocReadError.TheVariants.{Shape, Open
 use Rattle.pm_docjson.specs.declared.leaves.LeafContent.TheVariants.{Refused}
 use Rattle.pm_docjson.specs.Reading.{nodes_of}
 use Rattle.pm_docjson.specs.Writable.{AreWritable}
-use Rattle.pm_docjson.proofs.ReadAttrs.{first-read, there}
+use Rattle.pm_docjson.proofs.ReadAttrs.{first-read, there, KnownDefaults}
 use Rattle.pm_docjson.proofs.ReadLaws.{nodes-writable}
 use Rattle.pm_docjson.proofs.ViewTexts.{HasTexts, EachHasTexts, field-texts}
 use Rattle.pm_slicejson.specs.Numbers.{count_at}
@@ -50,7 +49,7 @@ module _ (s : SchemaSpec) where
       from true e = let same : or_none sl ≡ made = cc in subst (λ (x : Slice). AreWritable s x.content) same (either (slice_size sl == 0))
       from false e = absurd (cc)
 
-  module _ (sh : HasShallowDefaults s) (plain : (node_at s (documents_of s).text).attrs ≡ []) where
+  module _ (sh : KnownDefaults s) (plain : (node_at s (documents_of s).text).attrs ≡ []) where
     sides-read : (d : Data) (sl : Slice) → HasTexts d → sides_of s d ≡ Ok sl → AreWritable s sl.content
     unfolding sides_of
     sides-read d sl t h =

@@ -109,14 +109,14 @@ some-cases None y f h = inr (refl, h)
 some-cases (Some x) y f h = inl h
 
 pub fault-is : (s : Schema) (d : Doc) (f : Fault) → fault s d ≡ Some f → IsFault s d f
-fault-is s d f h = sized (nat_le (length d.tokens) max_size) (nat_le (deepest 0 d.tokens) max_depth) refl refl h
+fault-is s d f h = sized (nat_le (length d.tokens) (max_size s)) (nat_le (deepest 0 d.tokens) max_depth) refl refl h
   where
-    sized : (b c : Bool) → nat_le (length d.tokens) max_size ≡ b → nat_le (deepest 0 d.tokens) max_depth ≡ c
+    sized : (b c : Bool) → nat_le (length d.tokens) (max_size s) ≡ b → nat_le (deepest 0 d.tokens) max_depth ≡ c
         → (if not b then Some Large else (if not c then Some Deep else first_some (first_broken 1 None d.tokens) (first_some (top_fault s d) (first_fault s 1 (d.kind ∷ []) d.tokens)))) ≡ Some f → IsFault s d f
-    sized false c e g k = subst (IsFault s d) (let z : Large ≡ f = cc in z) (large (leb-false (length d.tokens) max_size e))
-    sized true false e g k = subst (IsFault s d) (let z : Deep ≡ f = cc in z) (deep (leb-true (length d.tokens) max_size e) (leb-false (deepest 0 d.tokens) max_depth g))
+    sized false c e g k = subst (IsFault s d) (let z : Large ≡ f = cc in z) (large (leb-false (length d.tokens) (max_size s) e))
+    sized true false e g k = subst (IsFault s d) (let z : Deep ≡ f = cc in z) (deep (leb-true (length d.tokens) (max_size s) e) (leb-false (deepest 0 d.tokens) max_depth g))
     sized true true e g k =
-        let l = leb-true (length d.tokens) max_size e in
+        let l = leb-true (length d.tokens) (max_size s) e in
         let p = leb-true (deepest 0 d.tokens) max_depth g in
         elim (some-cases (first_broken 1 None d.tokens) (first_some (top_fault s d) (first_fault s 1 (d.kind ∷ []) d.tokens)) f k) [
           | inl x ↦ (let y = broken-first 1 None d.tokens f x in subst (IsFault s d) (sym y.2) (broken l p y.0 y.1))

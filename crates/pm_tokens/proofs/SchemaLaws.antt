@@ -1,9 +1,9 @@
--- Compatible types: each with itself, and both ways.
-use Rattle.std.specs.Prelude.{◌≡◌, ℕ, ◌==◌, Bool, true, false, ◌||◌, List, [], ◌∷◌}
+-- Compatible types: each with itself, and both ways. The greatest size.
+use Rattle.std.specs.Prelude.{◌≡◌, ℕ, ◌≤◌, ◌==◌, Bool, if◌then◌else◌, true, false, ◌||◌, List, [], ◌∷◌}
 use Rattle.std.specs.List.{list_any}
 use Rattle.std.proofs.lemmas.Bool.{eqb-true, eqb-false, eq-eqb}
-use Rattle.std.proofs.Common.{refl, ap, sym, ◌∙◌}
-use Rattle.pm_tokens.specs.Schemas.{Schema, share, compatible}
+use Rattle.std.proofs.Common.{refl, ap, sym, ◌∙◌, arith}
+use Rattle.pm_tokens.specs.Schemas.{Schema, share, compatible, max_size}
 
 eqb-both : (a b : ℕ) → (a == b) ≡ (b == a)
 eqb-both a b = at (a == b) (b == a) refl refl
@@ -42,3 +42,11 @@ compatible-itself s k = rw (eq-eqb k k refl) refl
 
 pub compatible-both : (s : Schema) (k l : ℕ) → compatible s k l ≡ compatible s l k
 compatible-both s k l = rw (eqb-both k l, share-both (s.starts k) (s.starts l)) refl
+
+-- no schema allows more than a million tokens
+pub max-size-small : (s : Schema) → max_size s ≤ 1000000
+max-size-small s = at (s.version == 1)
+  where
+    at : (b : Bool) → (if b then 500000 else 1000000) ≤ 1000000
+    at true = omega arith
+    at false = omega arith

@@ -3,7 +3,7 @@ use Rattle.std.specs.Prelude.{◌≡◌, ℕ, ◌+◌, Bool, true, false, ◌&&�
 use Rattle.std.proofs.lemmas.Bool.{leb-true, le-leb, and_parts, and_from}
 use Rattle.std.proofs.Common.{refl, ap, sym, subst}
 use Rattle.pm_tokens.specs.Tokens.{Marks, Token, Open, Close, Leaf, CodeUnit, Doc}
-use Rattle.pm_tokens.specs.Schemas.{Schema, max_size, max_depth}
+use Rattle.pm_tokens.specs.Schemas.{Schema, max_size, max_depth, node_attrs}
 use Rattle.pm_tokens.specs.Scan.{head_of, unclosed, is_whole, deepest, ends_high, starts_low}
 use Rattle.pm_tokens.specs.Kids.{kids}
 use Rattle.pm_tokens.specs.Faults.{attrs_fit, marks_fit, content_fits, high_of, pair_fits, last_high, StandsIn, Valid, Fault, Large, Deep, Pair, first_some, fault_unless, under, first_fault, first_broken, no_marks, top_fault, fault, token_fits, place_from, top_fits, fault_place}
@@ -63,8 +63,8 @@ module _ (s : Schema) where
 -- a valid document's parts
 pub valid-top : (s : Schema) (d : Doc) → Valid s d → top_fits s d ≡ true
 valid-top s d v =
-    and_from (s.node_attrs d.kind d.attrs && no_marks d.marks) (s.accepts d.kind (kids s.text 0 None d.tokens))
-    (and_from (s.node_attrs d.kind d.attrs) (no_marks d.marks) v.top_attrs (ap no_marks v.top_marks)) v.top_content
+    and_from (node_attrs s d.kind d.attrs && no_marks d.marks) (s.accepts d.kind (kids s.text 0 None d.tokens))
+    (and_from (node_attrs s d.kind d.attrs) (no_marks d.marks) v.top_attrs (ap no_marks v.top_marks)) v.top_content
 
 pub valid-tokens : (s : Schema) (d : Doc) → Valid s d → place_from s (d.kind ∷ []) None d.tokens ≡ None
 valid-tokens s d v = each-place s (d.kind ∷ []) None d.tokens (λ before t behind e. record {
@@ -78,22 +78,22 @@ valid-tokens s d v = each-place s (d.kind ∷ []) None d.tokens (λ before t beh
 pub valid-place : (s : Schema) (d : Doc) → Valid s d → fault_place s d ≡ None
 valid-place s d v = none-first (top_fits s d) (place_from s (d.kind ∷ []) None d.tokens) (valid-top s d v) (valid-tokens s d v)
 
-pub valid-size : (s : Schema) (d : Doc) → Valid s d → nat_le (length d.tokens) max_size ≡ true
-valid-size s d v = le-leb (length d.tokens) max_size v.size
+pub valid-size : (s : Schema) (d : Doc) → Valid s d → nat_le (length d.tokens) (max_size s) ≡ true
+valid-size s d v = le-leb (length d.tokens) (max_size s) v.size
 
 pub valid-depth : (s : Schema) (d : Doc) → Valid s d → nat_le (deepest 0 d.tokens) max_depth ≡ true
 valid-depth s d v = le-leb (deepest 0 d.tokens) max_depth (depths-bound max_depth d.tokens v.depth)
 
 -- a whole number of nodes of no more than the greatest size and depth, where no place has a fault, is valid
-pub place-valid : (s : Schema) (d : Doc) → is_whole d.tokens ≡ true → nat_le (length d.tokens) max_size ≡ true → nat_le (deepest 0 d.tokens) max_depth ≡ true → fault_place s d ≡ None → Valid s d
+pub place-valid : (s : Schema) (d : Doc) → is_whole d.tokens ≡ true → nat_le (length d.tokens) (max_size s) ≡ true → nat_le (deepest 0 d.tokens) max_depth ≡ true → fault_place s d ≡ None → Valid s d
 place-valid s d w l p h =
     let f = first-none (top_fits s d) (place_from s (d.kind ∷ []) None d.tokens) h in
-    let a = and_parts (s.node_attrs d.kind d.attrs && no_marks d.marks) (s.accepts d.kind (kids s.text 0 None d.tokens)) f.0 in
-    let b = and_parts (s.node_attrs d.kind d.attrs) (no_marks d.marks) a.0 in
+    let a = and_parts (node_attrs s d.kind d.attrs && no_marks d.marks) (s.accepts d.kind (kids s.text 0 None d.tokens)) f.0 in
+    let b = and_parts (node_attrs s d.kind d.attrs) (no_marks d.marks) a.0 in
     let each = place-each s (d.kind ∷ []) None d.tokens f.1 in
     record {
       whole = w;
-      size = leb-true (length d.tokens) max_size l;
+      size = leb-true (length d.tokens) (max_size s) l;
       depth = deepest-bounds max_depth d.tokens (leb-true (deepest 0 d.tokens) max_depth p);
       pairs = λ before t behind e. (each before t behind e).pair;
       top_attrs = b.0;
@@ -158,13 +158,13 @@ sized false c x h = absurd (cc)
 -- a whole number of nodes without a first fault is valid
 pub fault-valid : (s : Schema) (d : Doc) → is_whole d.tokens ≡ true → fault s d ≡ None → Valid s d
 fault-valid s d w h =
-    let z = sized (nat_le (length d.tokens) max_size) (nat_le (deepest 0 d.tokens) max_depth) _ h in
+    let z = sized (nat_le (length d.tokens) (max_size s)) (nat_le (deepest 0 d.tokens) max_depth) _ h in
     let a = some-none (first_broken 1 None d.tokens) (first_some (top_fault s d) (first_fault s 1 (d.kind ∷ []) d.tokens)) z.2 in
     let b = some-none (top_fault s d) (first_fault s 1 (d.kind ∷ []) d.tokens) a.1 in
-    let u = unless-none (s.node_attrs d.kind d.attrs) (no_marks d.marks) (s.accepts d.kind (kids s.text 0 None d.tokens)) 0 b.0 in
+    let u = unless-none (node_attrs s d.kind d.attrs) (no_marks d.marks) (s.accepts d.kind (kids s.text 0 None d.tokens)) 0 b.0 in
     place-valid s d w z.0 z.1
     (none-first (top_fits s d) (place_from s (d.kind ∷ []) None d.tokens)
-    (and_from (s.node_attrs d.kind d.attrs && no_marks d.marks) (s.accepts d.kind (kids s.text 0 None d.tokens)) (and_from (s.node_attrs d.kind d.attrs) (no_marks d.marks) u.0 u.1) u.2)
+    (and_from (node_attrs s d.kind d.attrs && no_marks d.marks) (s.accepts d.kind (kids s.text 0 None d.tokens)) (and_from (node_attrs s d.kind d.attrs) (no_marks d.marks) u.0 u.1) u.2)
     (none-readings s (d.kind ∷ []) None 1 d.tokens b.1 a.0))
 
 -- beside a position of a valid document that parts no pair stands no half of a pair

@@ -3,7 +3,7 @@ use Rattle.std.specs.Prelude.{◌≡◌, ℕ, ◌+◌, ◌≤◌, Bool, true, fa
 use Rattle.std.specs.Char.Utf16.{is_high_surrogate, is_low_surrogate}
 use Rattle.pm_marks.specs.Sets.{same_marks}
 use Rattle.pm_tokens.specs.Tokens.{Marks, Token, Open, Close, Leaf, CodeUnit, Doc, marks_of}
-use Rattle.pm_tokens.specs.Schemas.{Schema, max_size, max_depth}
+use Rattle.pm_tokens.specs.Schemas.{Schema, max_size, max_depth, node_attrs}
 use Rattle.pm_tokens.specs.Scan.{head_of, tail_of, unclosed, is_whole, depth_at, deepest}
 use Rattle.pm_attrs.specs.Attrs.{same_attrs}
 use Rattle.pm_tokens.specs.Marks.{is_set, are_allowed, have_attrs}
@@ -13,9 +13,9 @@ use Rattle.pm_tokens.specs.Kids.{kids, goes_on}
 
 -- a node's attributes, and those of the token's marks, are the ones that the types declare
 abbrev pub attrs_fit : Schema → Token → Bool
-attrs_fit s (Open k a m) = s.node_attrs k a && have_attrs s m
+attrs_fit s (Open k a m) = node_attrs s k a && have_attrs s m
 attrs_fit s Close = true
-attrs_fit s (Leaf k a m) = s.node_attrs k a && have_attrs s m
+attrs_fit s (Leaf k a m) = node_attrs s k a && have_attrs s m
 attrs_fit s (CodeUnit u m) = have_attrs s m
 
 -- the token's marks are a set that the parent's type allows
@@ -69,10 +69,10 @@ StandsIn ts before t behind = ts ≡ before ++ (t ∷ behind)
 -- accepts. The top node has no marks.
 pub record Valid (s : Schema) (d : Doc) : Type 0 where
   pub whole : is_whole d.tokens ≡ true
-  pub size : length d.tokens ≤ max_size
+  pub size : length d.tokens ≤ max_size s
   pub depth : (p : ℕ) → depth_at d.tokens p ≤ max_depth
   pub pairs : (before : List Token) (t : Token) (behind : List Token) → StandsIn d.tokens before t behind → pair_fits (last_high None before) t behind ≡ true
-  pub top_attrs : s.node_attrs d.kind d.attrs ≡ true
+  pub top_attrs : node_attrs s d.kind d.attrs ≡ true
   pub top_marks : d.marks ≡ []
   pub top_content : s.accepts d.kind (kids s.text 0 None d.tokens) ≡ true
   pub attrs : (before : List Token) (t : Token) (behind : List Token) → StandsIn d.tokens before t behind → attrs_fit s t ≡ true
@@ -124,12 +124,12 @@ no_marks (m ∷ ms) = false
 
 -- the fault of the top node
 abbrev pub top_fault : Schema → Doc → Option Fault
-top_fault s d = fault_unless (s.node_attrs d.kind d.attrs) (no_marks d.marks) (s.accepts d.kind (kids s.text 0 None d.tokens)) 0
+top_fault s d = fault_unless (node_attrs s d.kind d.attrs) (no_marks d.marks) (s.accepts d.kind (kids s.text 0 None d.tokens)) 0
 
 -- the first fault: size and depth first, then pairs, and then the least place, with attributes before marks before content
 abbrev pub fault : Schema → Doc → Option Fault
 fault s d =
-    if not (nat_le (length d.tokens) max_size) then Some Large
+    if not (nat_le (length d.tokens) (max_size s)) then Some Large
     else (if not (nat_le (deepest 0 d.tokens) max_depth) then Some Deep
     else first_some (first_broken 1 None d.tokens) (first_some (top_fault s d) (first_fault s 1 (d.kind ∷ []) d.tokens)))
 
@@ -154,7 +154,7 @@ place_from s ps high (t ∷ ts) = place_unless (token_fits s (head_of ps) high t
 
 -- the top node has no fault
 abbrev pub top_fits : Schema → Doc → Bool
-top_fits s d = s.node_attrs d.kind d.attrs && no_marks d.marks && s.accepts d.kind (kids s.text 0 None d.tokens)
+top_fits s d = node_attrs s d.kind d.attrs && no_marks d.marks && s.accepts d.kind (kids s.text 0 None d.tokens)
 
 -- the least place with a fault of attributes, marks or content, or with a broken unit
 abbrev pub fault_place : Schema → Doc → Option ℕ

@@ -1,7 +1,7 @@
 -- What the first fault of a document is, by cases: that one is there, and none before it.
 use Rattle.std.specs.Prelude.{◌≡◌, ℕ, ◌+◌, ◌≤◌, ◌<◌, ◌⊎◌, suc, Bool, true, false, ◌&&◌, List, [], ◌∷◌, length, Option, Some, None}
 use Rattle.pm_tokens.specs.Tokens.{Marks, Token, Doc}
-use Rattle.pm_tokens.specs.Schemas.{Schema, max_size, max_depth}
+use Rattle.pm_tokens.specs.Schemas.{Schema, max_size, max_depth, node_attrs}
 use Rattle.pm_tokens.specs.Scan.{head_of, unclosed, deepest}
 use Rattle.pm_tokens.specs.Kids.{kids}
 use Rattle.pm_tokens.specs.Faults.{attrs_fit, marks_fit, content_fits, pair_fits, last_high, StandsIn, Fault, Large, Deep, Pair, fault_unless, first_broken, no_marks, top_fault, token_fits, top_fits}
@@ -45,12 +45,12 @@ pub record FirstFault (s : Schema) (ps : List ℕ) (at : ℕ) (ts : List Token) 
 -- The fault of a document that is not valid. It is too large; or else too deep; or else its first broken unit; or else a
 -- fault of the top node; or else of the first token that has one. There attributes come before marks, and marks before content.
 pub data IsFault (s : Schema) (d : Doc) : Fault → Type 0 where
-  large : max_size < length d.tokens → IsFault s d Large
-  deep : length d.tokens ≤ max_size → max_depth < deepest 0 d.tokens → IsFault s d Deep
-  broken : length d.tokens ≤ max_size → deepest 0 d.tokens ≤ max_depth → (n : ℕ) → IsFirst (pair_at None) d.tokens n → IsFault s d (Pair (1 + n))
-  top : length d.tokens ≤ max_size → deepest 0 d.tokens ≤ max_depth → first_broken 1 None d.tokens ≡ None
-      → (f : Fault) → FaultAt (s.node_attrs d.kind d.attrs) (no_marks d.marks) (s.accepts d.kind (kids s.text 0 None d.tokens)) 0 f → IsFault s d f
-  inside : length d.tokens ≤ max_size → deepest 0 d.tokens ≤ max_depth → first_broken 1 None d.tokens ≡ None → top_fault s d ≡ None
+  large : max_size s < length d.tokens → IsFault s d Large
+  deep : length d.tokens ≤ max_size s → max_depth < deepest 0 d.tokens → IsFault s d Deep
+  broken : length d.tokens ≤ max_size s → deepest 0 d.tokens ≤ max_depth → (n : ℕ) → IsFirst (pair_at None) d.tokens n → IsFault s d (Pair (1 + n))
+  top : length d.tokens ≤ max_size s → deepest 0 d.tokens ≤ max_depth → first_broken 1 None d.tokens ≡ None
+      → (f : Fault) → FaultAt (node_attrs s d.kind d.attrs) (no_marks d.marks) (s.accepts d.kind (kids s.text 0 None d.tokens)) 0 f → IsFault s d f
+  inside : length d.tokens ≤ max_size s → deepest 0 d.tokens ≤ max_depth → first_broken 1 None d.tokens ≡ None → top_fault s d ≡ None
       → (f : Fault) → FirstFault s (d.kind ∷ []) 1 d.tokens f → IsFault s d f
 
 -- the least faulty place of a document: the top node's, or that of the first token that has a fault

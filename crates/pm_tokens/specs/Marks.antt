@@ -3,7 +3,7 @@ use Rattle.std.specs.Prelude.{ℕ, Bool, true, ◌&&◌, [], ◌∷◌}
 use Rattle.pm_attrs.specs.Attrs.{same_attrs}
 use Rattle.pm_marks.specs.Sets.{same_marks, all_added}
 use Rattle.pm_tokens.specs.Tokens.{Marks}
-use Rattle.pm_tokens.specs.Schemas.{Schema}
+use Rattle.pm_tokens.specs.Schemas.{Schema, mark_attrs}
 
 -- adding the marks in order to the empty set gives them back
 abbrev pub is_set : Schema → Marks → Bool
@@ -17,4 +17,4 @@ are_allowed s parent (m ∷ ms) = s.allows parent m.kind && are_allowed s parent
 -- each mark has the attributes of its type
 abbrev pub have_attrs : Schema → Marks → Bool
 have_attrs s [] = true
-have_attrs s (m ∷ ms) = s.mark_attrs m.kind m.attrs && have_attrs s ms
+have_attrs s (m ∷ ms) = mark_attrs s m.kind m.attrs && have_attrs s ms

@@ -46,8 +46,12 @@ fn declared(alloc: Global, kind: TypeId) -> Result<AttrSpecs, AllocError> {
         return Ok(AttrSpecs::new(alloc));
     }
     let name = Text::from_str(alloc, "src")?;
-    let default = None;
-    AttrSpecs::one(alloc, AttrSpec { name, default })
+    let attr = AttrSpec {
+        name,
+        default: None,
+        validate: None,
+    };
+    AttrSpecs::one(alloc, attr)
 }
 
 fn schema(alloc: Global) -> Result<Schema, Fail> {
@@ -73,6 +77,7 @@ fn schema(alloc: Global) -> Result<Schema, Fail> {
         nodes,
         marks: Listed::new(alloc),
         top: Text::from_str(alloc, "type 4")?,
+        version: 1,
     };
     Ok(Schema::build(alloc, spec)?)
 }

@@ -3,7 +3,7 @@ use pm_attrs::Attrs;
 use pm_auto::{Expr, TypeId};
 use pm_list::Listed;
 use pm_marks::{Mark, MarkId, MarkRules, MarkSet};
-use pm_node::{Body, CheckError, Document, Fragment, MAX_DEPTH, MAX_SIZE, Node, Units};
+use pm_node::{Body, CheckError, Document, Fragment, MAX_DEPTH, Node, Units};
 use pm_schema::{AttrSpec, AttrSpecs, MarkSpec, NodeSpec, Schema, SchemaSpec};
 use pm_value::{Text, Value};
 use std::alloc::{AllocError, Global};
@@ -52,8 +52,12 @@ fn declared(alloc: Global, name: &str) -> Result<AttrSpecs, AllocError> {
         return Ok(AttrSpecs::new(alloc));
     }
     let name = Text::from_str(alloc, name)?;
-    let default = None;
-    AttrSpecs::one(alloc, AttrSpec { name, default })
+    let attr = AttrSpec {
+        name,
+        default: None,
+        validate: None,
+    };
+    AttrSpecs::one(alloc, attr)
 }
 
 fn node_types(alloc: Global) -> Result<Listed<NodeSpec>, AllocError> {
@@ -107,6 +111,7 @@ fn schema(alloc: Global) -> Result<Schema, Fail> {
         nodes: node_types(alloc)?,
         marks: mark_types(alloc)?,
         top: Text::from_str(alloc, "doc")?,
+        version: 1,
     };
     Ok(Schema::build(alloc, spec)?)
 }
@@ -307,7 +312,7 @@ fn size_comes_before_depth_before_pairs(rt: HostRuntime) -> Result<(), Fail> {
     assert!(rt; fault_of(alloc, &schema, &deep) == Some(CheckError::Pair { at: 49 }));
     let deeper = nested(alloc, MAX_DEPTH + 1)?;
     assert!(rt; fault_of(alloc, &schema, &deeper) == Some(CheckError::Deep));
-    let long = text(alloc, vec![in alloc; 97; MAX_SIZE + 1]?, &[])?;
+    let long = text(alloc, vec![in alloc; 97; schema.max_size() + 1]?, &[])?;
     let long = Document::new(alloc, block(alloc, DOC, &[], vec![in alloc; long]?)?)?;
     assert!(rt; fault_of(alloc, &schema, &long) == Some(CheckError::Large));
     Ok(())

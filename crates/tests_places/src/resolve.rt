@@ -70,6 +70,7 @@ fn schema(alloc: Global) -> Result<Schema, Fail> {
         nodes,
         marks,
         top: Text::from_str(alloc, "doc")?,
+        version: 1,
     };
     Ok(Schema::build(alloc, spec)?)
 }

@@ -1,6 +1,7 @@
 //! Tables of schemas, with ample memory. The types of the small schema are 0 doc, 1 paragraph, 2 blockquote, 3 heading,
 //! 4 bullet_list, 5 list_item, 6 image, 7 text; its marks are 0 link, 1 em, 2 strong, 3 code.
-ghost use Rattle.std.specs.Prelude.{◌<◌, length};
+ghost use Rattle.std.specs.Prelude.{◌≡◌, ◌<◌, true, length, IfOk};
+ghost use Rattle.pm_schema.specs.Types.{is_version};
 
 use pm_auto::Expr;
 use pm_list::Listed;
@@ -69,7 +70,28 @@ fn content(alloc: Global, words: &str) -> Result<Expr, AllocError> {
 
 fn attr(alloc: Global, name: &str, default: Option<Value>) -> Result<AttrSpecs, AllocError> {
     let name = Text::from_str(alloc, name)?;
-    AttrSpecs::one(alloc, AttrSpec { name, default })
+    let validate = None;
+    match default {
+        Some(value) => {
+            let default = Some(value);
+            AttrSpecs::one(
+                alloc,
+                AttrSpec {
+                    name,
+                    default,
+                    validate,
+                },
+            )
+        }
+        None => AttrSpecs::one(
+            alloc,
+            AttrSpec {
+                name,
+                default: None,
+                validate,
+            },
+        ),
+    }
 }
 
 /// The attributes of the type or mark of this name.
@@ -147,11 +169,14 @@ fn marks(alloc: Global) -> Result<Listed<MarkSpec>, AllocError> {
     Ok(marks)
 }
 
-fn spec(alloc: Global, rows: &[(&str, &str)], top: &str) -> Result<SchemaSpec, AllocError> {
+fn spec(alloc: Global, rows: &[(&str, &str)], top: &str) -> Result<SchemaSpec, AllocError>
+    ensures { IfOk result (λ s. is_version s.version ≡ true) }
+{
     Ok(SchemaSpec {
         nodes: nodes(alloc, rows)?,
         marks: marks(alloc)?,
         top: Text::from_str(alloc, top)?,
+        version: 1,
     })
 }
 
@@ -243,9 +268,10 @@ fn allowed(schema: &Schema, name: &str) -> Option<[bool; 4]> {
 fn marks_exclude_by_names_and_groups(rt: HostRuntime) -> Result<(), Fail> {
     let alloc = rt.alloc();
     let mut spec = spec(alloc, &NODES, "doc")?;
-    for (name, marks) in [("note", "styles em"), ("bare", " \t")] {
-        spec.nodes.push(node(alloc, name, "text*", Some(marks))?)?;
-    }
+    let note = node(alloc, "note", "text*", Some("styles em"))?;
+    let bare = node(alloc, "bare", "text*", Some(" \t"))?;
+    spec.nodes.push(note)?;
+    spec.nodes.push(bare)?;
     content_decides(&spec);
     let schema = Schema::build(alloc, spec).ok().ok_or("refused")?;
     let rows = [

@@ -4,7 +4,7 @@ mod rows;
 
 use builds::BUILDS;
 use pm_schemajson::{SchemaReadError, read_schema};
-use rows::{CONTENTS, NAMES, SHAPES, VALUES};
+use rows::{CONTENTS, KINDS, NAMES, SHAPES, VALUES};
 use serde_json::Value;
 use std::alloc::Global;
 use std::test::Fail;
@@ -38,6 +38,18 @@ fn tells_the_first_default_that_is_no_value(rt: HostRuntime) -> Result<(), Fail>
     for (text, fault) in VALUES {
         let told = fault_of(rt.alloc(), text)?;
         assert!(rt; told == Some(SchemaReadError::Attr(fault)), "{text}");
+    }
+    Ok(())
+}
+
+#[test]
+fn tells_the_first_default_of_another_kind(rt: HostRuntime) -> Result<(), Fail> {
+    for (text, attr) in KINDS {
+        let told = fault_of(rt.alloc(), text)?;
+        assert!(rt;
+            told == Some(SchemaReadError::BadDefault { attr }),
+            "{text}"
+        );
     }
     Ok(())
 }

@@ -4,7 +4,19 @@ use pm_schemajson::Field;
 use pm_value::ValueError;
 
 /// A field that is absent or of another kind: first lines with one fault, then lines in which a later fault isn't told.
-pub(super) const SHAPES: [(&str, Field); 33] = [
+pub(super) const SHAPES: [(&str, Field); 39] = [
+    (r#"{"version":1.0}"#, Field::Version),
+    (r#"{"version":"1","nodes":1}"#, Field::Version),
+    (r#"{"version":3}"#, Field::Version),
+    (r#"{"version":null}"#, Field::Nodes),
+    (
+        r#"{"version":2,"nodes":[{"name":"a","attrs":{"x":{"validate":"int"}}}]}"#,
+        Field::Validate,
+    ),
+    (
+        r#"{"version":2,"nodes":[{"name":"a","attrs":{"x":{"validate":"string|"}}}]}"#,
+        Field::Validate,
+    ),
     (r#"{}"#, Field::Nodes),
     (r#"[]"#, Field::Nodes),
     (r#"{"nodes":null}"#, Field::Nodes),
@@ -233,5 +245,17 @@ pub(super) const CONTENTS: [(&str, usize, ExprError); 13] = [
         r#"{"nodes":[{"name":"doc","content":"text+"},{"name":"text","content":")"}]}"#,
         1,
         ExprError::Syntax { at: 0 },
+    ),
+];
+
+/// A default of a kind that its attribute does not name, by the place of the attribute.
+pub(super) const KINDS: [(&str, usize); 2] = [
+    (
+        r#"{"version":2,"nodes":[{"name":"a","attrs":{"x":{"default":"1","validate":"number"}}}]}"#,
+        0,
+    ),
+    (
+        r#"{"version":2,"nodes":[{"name":"a","attrs":{"y":{"default":[],"validate":"string|number|boolean|null"},"x":{"default":null,"validate":"null|null"}}}]}"#,
+        1,
     ),
 ];

@@ -1,8 +1,7 @@
-use Rattle.std.proofs.Common.{◌≡◌, ◌+◌, ◌-◌, ◌<◌, ◌≤◌, length, length-append, get_or, arith, refl, ap, sym, ◌∙◌, subst}
+use Rattle.std.proofs.Common.{◌≡◌, ◌+◌, ◌<◌, length, arith, ap, sym, subst}
 use Rattle.std.specs.Prelude.{if◌then◌else◌, ◌++◌}
 use Rattle.std.proofs.lemmas.List.{append-nil}
 use Rattle.std.specs.Arc.{arc_value}
-use Rattle.pm_tokens.specs.Scan.{part}
 use Rattle.pm_node.specs.Trees.{node_tokens, list_tokens, WholeBody}
 use Rattle.pm_node.specs.Chunks.{nodes_of, Follows, Begun}
 use Rattle.pm_node.proofs.RunLaws.{part-one, run-room}

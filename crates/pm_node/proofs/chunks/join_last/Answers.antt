@@ -1,10 +1,10 @@
-use Rattle.std.proofs.Common.{◌≡◌, ◌+◌, ◌-◌, ◌<◌, length, length-append, get_or, arith, refl, ap, sym, ◌∙◌}
+use Rattle.std.proofs.Common.{◌≡◌, ◌+◌, ◌-◌, length, length-append, get_or, arith, refl, ap, sym, ◌∙◌}
 use Rattle.std.specs.Arc.{arc_value}
-use Rattle.pm_sized.specs.Pairs.{pairs_of, total_of}
+use Rattle.pm_sized.specs.Pairs.{pairs_of}
 use Rattle.pm_sized.specs.Parts.{values_in, all_but_last}
 use Rattle.pm_sized.proofs.PartLaws.{length-values}
 use Rattle.pm_sized.proofs.GrowLaws.{on_err_of}
-use Rattle.pm_node.specs.Trees.{node_tokens, list_tokens}
+use Rattle.pm_node.specs.Trees.{node_tokens}
 use Rattle.pm_node.specs.Chunks.{nodes_of}
 use Rattle.pm_node.proofs.TreeLaws.{joined_as, apart_as}
 use Rattle.pm_node.proofs.WalkLaws.{whole-node}

@@ -6,4 +6,4 @@ use Rattle.pm_schemajson.specs.Views.{mark_types}
 use Rattle.pm_schemajson.proofs.marks.mark_list.Given as goal
 
 abbrev pub invariant-loop-item : goal.invariant-loop-item
-invariant-loop-item l = with_front (mark_types l.marks) (mark_list (items_view (drop l.item-index l.items))) ≡ mark_list (items_view l.items)
+invariant-loop-item l = with_front (mark_types l.marks) (mark_list l.version (items_view (drop l.item-index l.items))) ≡ mark_list l.version (items_view l.items)

@@ -6,4 +6,4 @@ use Rattle.pm_schemajson.specs.Views.{node_texts}
 use Rattle.pm_schemajson.proofs.nodes.node_list.Given as goal
 
 abbrev pub invariant-loop-item : goal.invariant-loop-item
-invariant-loop-item l = with_front (node_texts l.nodes.items) (node_list (items_view (drop l.item-index l.items))) ≡ node_list (items_view l.items)
+invariant-loop-item l = with_front (node_texts l.nodes.items) (node_list l.version (items_view (drop l.item-index l.items))) ≡ node_list l.version (items_view l.items)

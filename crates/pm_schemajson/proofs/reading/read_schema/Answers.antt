@@ -3,7 +3,7 @@ use Rattle.serde_json.specs.View.{view}
 use Rattle.pm_schema.specs.Defaults.{HasShallowDefaults}
 use Rattle.pm_schemajson.proofs.Unbuilt.{handed-is}
 use Rattle.pm_schemajson.proofs.Refusing.{build-refused}
-use Rattle.pm_schemajson.proofs.ShallowTypes.{spec-shallow}
+use Rattle.pm_schemajson.proofs.ShallowTypes.{spec-shallow, spec-version}
 use Rattle.pm_schemajson.proofs.reading.read_schema.Goals as goal
 
 pub returns-in_err-spec-clause-fault : goal.returns-in_err-spec-clause-fault
@@ -15,3 +15,6 @@ returns-in_err-schema-clause-fault c =
 
 pub returns-clause-shallow : goal.returns-clause-shallow
 returns-clause-shallow c = let known = spec-shallow (view c.args.json.now) c.in_ok-spec.spec c.in_ok-spec.ensures in subst HasShallowDefaults (sym c.in_ok-schema.ensures.spec) known
+
+pub build-requires : goal.build-requires
+build-requires c = spec-version (view c.args.json.now) c.in_ok-spec.spec c.in_ok-spec.ensures

@@ -1,8 +1,8 @@
-use Rattle.std.proofs.Common.{◌≡◌, ◌+◌, ◌-◌, ◌≤◌, ap, sym, ◌∙◌, subst, length, arith}
+use Rattle.std.proofs.Common.{◌-◌, ◌≤◌, ap, subst, length, arith}
 use Rattle.pm_sized.specs.Pairs.{pairs_of, total_of}
 use Rattle.pm_node.specs.Trees.{list_tokens}
 use Rattle.pm_node.specs.Among.{Stands}
-use Rattle.pm_node.proofs.ChunkLaws.{length-items, total-sized, stands-sized}
+use Rattle.pm_node.proofs.ChunkLaws.{total-sized, stands-sized}
 use Rattle.pm_node.proofs.children.Children.find.Goals as goal
 
 pub locate-found-requires-clause-within : goal.locate-found-requires-clause-within

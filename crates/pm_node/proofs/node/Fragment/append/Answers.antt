@@ -1,11 +1,10 @@
-use Rattle.std.proofs.Common.{◌≡◌, ◌+◌, ◌<◌, ◌^◌, ◌++◌, length, length-append, arith, ap, sym, ◌∙◌}
+use Rattle.std.proofs.Common.{◌+◌, ◌<◌, ◌^◌, ◌++◌, length, arith, ap, ◌∙◌}
 use Rattle.pm_tokens.specs.Scan.{part}
 use Rattle.pm_sized.specs.Pairs.{pairs_of}
-use Rattle.pm_sized.specs.Parts.{values_of}
-use Rattle.pm_sized.proofs.PartLaws.{length-values, total-values, values-part, values-append}
+use Rattle.pm_sized.proofs.PartLaws.{length-values}
 use Rattle.pm_node.specs.Trees.{list_tokens}
 use Rattle.pm_node.specs.Chunks.{nodes_of}
-use Rattle.pm_node.proofs.ChunkLaws.{length-items, total-sized, total-run, tokens-until, kept-until}
+use Rattle.pm_node.proofs.ChunkLaws.{length-items, total-run, tokens-until, kept-until}
 use Rattle.pm_node.proofs.node.Fragment.append.Goals as goal
 
 pub append-requires-clause-within : goal.append-requires-clause-within

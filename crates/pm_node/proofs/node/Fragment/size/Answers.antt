@@ -1,4 +1,4 @@
-use Rattle.std.proofs.Common.{ap, sym, ◌∙◌, subst, length, arith}
+use Rattle.std.proofs.Common.{ap, ◌∙◌, subst, length, arith}
 use Rattle.pm_tokens.specs.Scan.{Balanced}
 use Rattle.pm_node.proofs.node.Fragment.size.Goals as goal
 

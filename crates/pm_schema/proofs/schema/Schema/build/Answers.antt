@@ -1,6 +1,9 @@
-use Rattle.std.proofs.Common.{◌∙◌, ap, subst, map, refl, List, ℕ}
+use Rattle.std.proofs.Common.{◌≡◌, true, ◌∙◌, ap, subst, map, refl, List, ℕ}
 use Rattle.std.specs.Prelude.{codes}
+use Rattle.std.specs.List.{list_all}
 use Rattle.pm_schema.specs.declared.spec.NodeSpec.{NodeSpec}
+use Rattle.pm_schema.specs.declared.spec.MarkSpec.{MarkSpec}
+use Rattle.pm_schema.specs.Defaults.{have_kinds}
 use Rattle.pm_schema.specs.Names.{place_of}
 use Rattle.pm_schema.specs.Made.{can_wrap}
 use Rattle.pm_schema.specs.Generated.{IsGeneratable, AllFinishing}
@@ -45,4 +48,7 @@ invariant_of-result c =
       makes = makes-all c.args.spec.nodes c.in_ok-autos.autos c.in_ok-generatable.generatable c.in_ok-autos.ensures.full runs made live;
       never_stuck = never-stuck c.in_ok-generatable.generatable c.in_ok-autos.autos live;
       wraps = c.in_ok-may_wrap.ensures ∙ ap (map can_wrap) c.as_slice-6.ensures;
+      versioned = c.requires;
+      node_defaults = subst (λ (ns : List NodeSpec). list_all (λ n. have_kinds n.attrs) ns ≡ true) c.as_slice-7.ensures c.node_defaults.ensures;
+      mark_defaults = subst (λ (ms : List MarkSpec). list_all (λ m. have_kinds m.attrs) ms ≡ true) c.as_slice-8.ensures c.mark_defaults.ensures;
     }

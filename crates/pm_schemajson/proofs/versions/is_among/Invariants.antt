@@ -1,0 +1,6 @@
+use Rattle.std.proofs.Common.{◌≡◌, map, drop}
+use Rattle.pm_schemajson.specs.Versions.{is_among}
+use Rattle.pm_schemajson.proofs.versions.is_among.Given as goal
+
+abbrev pub invariant-loop-other : goal.invariant-loop-other
+invariant-loop-other l = is_among (map (λ x. x.now) l.names) l.name ≡ is_among (map (λ x. x.now) (drop l.other-index l.names)) l.name
