@@ -3,7 +3,7 @@ use Rattle.std.specs.Prelude.{◌≡◌, ℕ, ◌<◌, ◌^◌, ◌⊎◌, List,
 use Rattle.pm_map.specs.declared.step_map.Span.{Span}
 use Rattle.pm_map.specs.declared.mapping.Mirrored.{Mirrored}
 use Rattle.pm_map.specs.Moves.{inverted_ranges}
-use Rattle.pm_map.specs.Fits.{FitsSizes, FitBetween, new_size_of}
+use Rattle.pm_map.specs.Fits.{FitsSizes, new_size_of}
 use Rattle.pm_map.specs.Stills.{MovesNothing}
 
 -- What the documents and the changes of a kind mean.
@@ -46,10 +46,6 @@ module _ {Rules Doc Reason C : Type 0} (m : Meaning Rules Doc Reason C) (rules :
   HasInverseMap (r ∷ rs) [] = ⊥
   HasInverseMap (r ∷ rs) (b ∷ []) = m.step_map b ≡ inverted_ranges (r ∷ rs)
   HasInverseMap (r ∷ rs) (b ∷ c ∷ cs) = ⊥
-
--- A change may be carried over a mapping that leads from a document of a size that the change is within.
-abbrev pub MayCarry : {C : Type 0} → (C → ℕ → Type 0) → C → List Mirrored → Type 0
-MayCarry within c ms = (n : ℕ) × (k : ℕ) × (FitBetween ms n k × within c n)
 
 -- The laws of changes.
 pub record Laws {Rules Doc Reason C : Type 0} (m : Meaning Rules Doc Reason C) : Type 0 where

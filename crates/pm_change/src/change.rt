@@ -1,10 +1,11 @@
 //! The trait of a change.
 ghost use Rattle.std.specs.Prelude.{◌≡◌, ◌<◌, ◌^◌, ℕ, IfOk, Ok};
-ghost use Rattle.pm_change.specs.Changes.{Meaning, Laws, MayCarry};
+ghost use Rattle.pm_map.specs.Positions.{MayLead, EachLed};
+ghost use Rattle.pm_change.specs.Changes.{Meaning, Laws};
 ghost use Rattle.pm_change.specs.Failing.{Answers};
 
 use crate::failed::Failed;
-use pm_map::{Mapping, StepMap};
+use pm_map::{Positions, StepMap};
 use std::alloc::{AllocError, Global};
 
 /// A change of a document under rules that are lent to each call, such as a schema.
@@ -49,11 +50,12 @@ pub trait Change: Sized + Drop {
         requires { ((n : ℕ) × (n < 2 ^ 32) × means.is_within self.now n) }
         ensures { result ≡ means.step_map self.now };
 
-    /// This change where a mapping leads it; None where nothing of it is left. The mapping must lead from a document of
-    /// a size that the change is within.
-    fn carry(&self, alloc: Global, mapping: &Mapping) -> Result<Option<Self>, AllocError>
-        requires { MayCarry means.is_within self.now mapping.now }
-        ensures { IfOk result (λ o. o ≡ means.carry self.now mapping.now) };
+    /// This change where a mapping leads it; None where nothing of it is left. `positions` tells where positions go over
+    /// that mapping, which must lead from a document of a size that the change is within.
+    fn carry<P: Positions>(&self, alloc: Global, positions: &P) -> Result<Option<Self>, AllocError>
+        requires { MayLead means.is_within P.leads self.now positions.now }
+        ensures { EachLed means.is_within P.leads self.now positions.now
+            (λ ms. IfOk result (λ o. o ≡ means.carry self.now ms)) };
 
     /// The document's size in tokens. The size of a good document is below 2^32.
     fn size(doc: &Self::Doc) -> usize

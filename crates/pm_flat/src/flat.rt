@@ -1,7 +1,7 @@
 //! A document of one paragraph, and its steps.
 use crate::letters::Letters;
 use pm_change::{Change, Failed};
-use pm_map::{Mapping, Side, Span, StepMap};
+use pm_map::{Positions, Side, Span, StepMap};
 use std::alloc::{AllocError, Global};
 
 /// The greatest content size of a document, in tokens.
@@ -87,10 +87,13 @@ impl Change for Replace {
         StepMap::new(Some(range), None, false)
     }
 
-    fn carry(&self, alloc: Global, mapping: &Mapping) -> Result<Option<Replace>, AllocError> {
-        mapping.paired();
-        let from = mapping.map(u64::from(self.from), Side::After);
-        let to = mapping.map(u64::from(self.to), Side::Before);
+    fn carry<P: Positions>(
+        &self,
+        alloc: Global,
+        positions: &P,
+    ) -> Result<Option<Replace>, AllocError> {
+        let from = positions.place(u64::from(self.from), Side::After);
+        let to = positions.place(u64::from(self.to), Side::Before);
         if from.across && to.across {
             return Ok(None);
         }

@@ -1,4 +1,5 @@
-//! The maps of a timeline's items, with their mirrors, as items come.
+//! The maps of a timeline's items, with their mirrors, as items come. They stay a mapping: a step and the one that undoes it may
+//! stand across another such pair, so these pairs are no frames around one another, as those of a rebasing are.
 ghost use Rattle.std.specs.Prelude.{◌≡◌, ◌≤◌, ◌<◌, ◌+◌, ◌++◌, ◌∷◌, [], ◌&&◌, length, IfOk};
 ghost use Rattle.pm_map.specs.Mirrors.{may_mirror};
 ghost use Rattle.pm_map.specs.Through.{ArePaired};

@@ -5,3 +5,4 @@ pub mod Fits
 pub mod Stills
 pub mod Firsts
 pub mod Laws
+pub mod Positions

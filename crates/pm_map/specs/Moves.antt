@@ -1,5 +1,5 @@
 -- Step maps: how a position moves over the ranges of one step.
-use Rattle.std.specs.Prelude.{◌≡◌, ℕ, ◌+◌, ◌-◌, ◌≤◌, ◌<◌, ◌^◌, Bool, true, false, ◌&&◌, ◌||◌, not, ◌==◌, if◌then◌else◌, List, [], ◌∷◌, Option, Some, None, nat_lt}
+use Rattle.std.specs.Prelude.{ℕ, ◌+◌, ◌-◌, ◌≤◌, ◌<◌, ◌^◌, Bool, true, false, ◌&&◌, ◌||◌, not, ◌==◌, if◌then◌else◌, List, [], ◌∷◌, Option, Some, None, nat_lt}
 use Rattle.pm_map.specs.declared.side.Side.{Side}
 use Rattle.pm_map.specs.declared.side.Side.TheVariants.{Before, After}
 use Rattle.pm_map.specs.declared.step_map.Span.{Span}

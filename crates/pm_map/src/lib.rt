@@ -4,10 +4,12 @@
 pub mod laws;
 pub mod mapping;
 mod passing;
+pub mod positions;
 mod ranges;
 pub mod side;
 pub mod step_map;
 
 pub use mapping::{Mapping, Mirrored};
+pub use positions::Positions;
 pub use side::Side;
 pub use step_map::{Moved, Recover, Span, StepMap};

@@ -5,6 +5,7 @@ ghost use Rattle.pm_map.specs.Mirrors.{pushed, fronted, enclosed, later_of, pair
 ghost use Rattle.pm_map.specs.Through.{SameShape, ArePaired, HasRoom, partner, through};
 
 use crate::passing::over;
+use crate::positions::Positions;
 use crate::side::Side;
 use crate::step_map::{Moved, StepMap};
 use std::alloc::{AllocError, Global};
@@ -194,6 +195,19 @@ impl Mapping {
             maps: copy_maps(alloc, self.maps.as_slice())?,
         })
     }
+}
+
+/// A mapping tells its own positions.
+impl Positions for Mapping {
+    ghost use Rattle.pm_map.specs.Positions.{IsItself};
+
+    ghost leads = { IsItself };
+
+    fn place(&self, pos: u64, side: Side) -> Moved {
+        self.map(pos, side)
+    }
+
+    ghost fits = { λ p ms n k h. (h.paired, h.fits) };
 }
 
 fn copy_maps(alloc: Global, maps: &[Mirrored]) -> Result<Vec<Mirrored>, AllocError>

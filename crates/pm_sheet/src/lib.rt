@@ -11,7 +11,7 @@ mod tests;
 
 use pm_change::{Change, Failed};
 use pm_list::Listed;
-use pm_map::{Mapping, Side, Span, StepMap};
+use pm_map::{Positions, Side, Span, StepMap};
 use std::alloc::{AllocError, Global};
 
 /// How many numbers a sheet may have.
@@ -110,19 +110,21 @@ impl Change for Edit {
         }
     }
 
-    fn carry(&self, _alloc: Global, mapping: &Mapping) -> Result<Option<Edit>, AllocError> {
+    fn carry<P: Positions>(
+        &self,
+        _alloc: Global,
+        positions: &P,
+    ) -> Result<Option<Edit>, AllocError> {
         match *self {
             Edit::Insert { at, value } => {
-                mapping.paired();
-                let moved = mapping.map(at, Side::After);
+                let moved = positions.place(at, Side::After);
                 Ok(Some(Edit::Insert {
                     at: moved.pos,
                     value,
                 }))
             }
             Edit::Delete { at } => {
-                mapping.paired();
-                let moved = mapping.map(at, Side::After);
+                let moved = positions.place(at, Side::After);
                 if moved.deleted {
                     Ok(None)
                 } else {

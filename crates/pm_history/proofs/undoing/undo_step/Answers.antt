@@ -1,9 +1,9 @@
-use Rattle.std.proofs.Common.{◌≡◌, ◌++◌, ◌∷◌, [], ◌∙◌, ap, IfOk, subst}
+use Rattle.std.proofs.Common.{◌≡◌, ◌++◌, ◌∷◌, [], IfOk, subst}
 use Rattle.pm_history.specs.Lanes.{behind}
 use Rattle.pm_history.specs.Tries.{put_one}
 use Rattle.pm_history.specs.Undos.{tried}
 use Rattle.pm_history.proofs.Lanes.{behind-paired}
-use Rattle.pm_history.proofs.Steps.{carry-over, end-good}
+use Rattle.pm_history.proofs.Steps.{carry-over, carried-over, end-good}
 use Rattle.pm_history.proofs.undoing.undo_step.Goals as goal
 
 pub carry-requires : goal.carry-requires
@@ -24,5 +24,8 @@ returns-clause-made g c =
     let rules = c.args.rules.now in
     let lane = c.args.going.lane in
     let w = c.args.going.undone in
-    let e = c.in_ok-carried.ensures ∙ ap (m.carry c.args.step.now) (behind-paired lane c.args.items.now w.items c.requires.place c.requires.lane) in
-    subst (λ o. IfOk c.put_one.result (λ v. v.undone ≡ put_one m rules c.args.client (tried m rules c.args.client o w.doc) c.args.name w)) e c.put_one.ensures.made
+    let is = behind lane c.args.items.now ++ w.items in
+    let carried =
+    carried-over m rules g.met.C.Change.laws c.args.step.now is w.doc lane.mapping c.in_ok-carried.carried c.requires.may
+    (behind-paired lane c.args.items.now w.items c.requires.place c.requires.lane) c.in_ok-carried.ensures in
+    subst (λ o. IfOk c.put_one.result (λ x. x.undone ≡ put_one m rules c.args.client (tried m rules c.args.client o w.doc) c.args.name w)) carried c.put_one.ensures.made
