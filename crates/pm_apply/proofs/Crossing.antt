@@ -93,10 +93,10 @@ pub slice_sync : IsSync slice.the_row
 slice_sync = search (sendable, fragment_sync) depth 20
 
 pub step_send : IsSend step.the_row
-step_send = search (sendable, slice_send, attrs_send, Values.crosses, crosses) depth 20
+step_send = search (sendable, slice_send, attrs_send, Values.crosses, crosses, Text.the_send) depth 40 fits 20000
 
 pub step_sync : IsSync step.the_row
-step_sync = search (sendable, slice_sync, attrs_sync, Values.crosses, crosses) depth 20
+step_sync = search (sendable, slice_sync, attrs_sync, Values.crosses, crosses, Text.the_sync) depth 40 fits 20000
 
 pub change_send : IsSend change.the_row
 change_send = search (sendable, crosses, step_send, step_sync) depth 20

@@ -1,14 +1,15 @@
 -- In a valid document each node is of a type that the schema has.
-use Rattle.std.specs.Prelude.{◌≡◌, ℕ, ◌+◌, ◌<◌, true, nat_lt, List, [], ◌∷◌, ◌++◌, length, drop, get_or}
+use Rattle.std.specs.Prelude.{◌≡◌, ℕ, ◌+◌, ◌<◌, Bool, true, false, nat_lt, if◌then◌else◌, map, Some, None, List, [], ◌∷◌, ◌++◌, length, drop, get_or}
 use Rattle.std.specs.declared.sync.Arc.{Arc}
 use Rattle.std.specs.Arc.{arc_value}
 use Rattle.std.proofs.Common.{refl, sym, ◌∙◌, subst, append_assoc}
 use Rattle.std.proofs.lemmas.Bool.{ltb-true, and_parts}
 use Rattle.pm_tokens.specs.Tokens.{Attrs, Token, Open, Close, Leaf, CodeUnit, Doc}
+use Rattle.pm_tokens.specs.Schemas.{node_attrs, fit_type}
 use Rattle.pm_tokens.specs.Faults.{Valid}
 use Rattle.pm_tokens.specs.Marks.{have_attrs}
 use Rattle.pm_schema.specs.declared.spec.SchemaSpec.{SchemaSpec}
-use Rattle.pm_schema.specs.Types.{node_at, fit_attrs}
+use Rattle.pm_schema.specs.Types.{node_at, declared}
 use Rattle.pm_schema.specs.Documents.{documents_of}
 use Rattle.pm_node.specs.declared.node.Node.{Node}
 use Rattle.pm_node.specs.declared.node.Body.TheVariants.{Children}
@@ -18,9 +19,13 @@ use Rattle.pm_node.proofs.WalkLaws.{front, list-split}
 use Rattle.pm_apply.specs.Markings.{AreKnown}
 
 -- a type whose attributes fit is one of the schema's
-node-known : (s : SchemaSpec) (k : ℕ) (a : Attrs) → (documents_of s).node_attrs k a ≡ true → k < length s.nodes
+pub node-known : (s : SchemaSpec) (k : ℕ) (a : Attrs) → node_attrs (documents_of s) k a ≡ true → k < length s.nodes
 unfolding documents_of
-node-known s k a h = ltb-true k (length s.nodes) (and_parts (nat_lt k (length s.nodes)) (fit_attrs (node_at s k).attrs a) h).0
+node-known s k a h = by (nat_lt k (length s.nodes)) refl h
+  where
+    by : (b : Bool) → nat_lt k (length s.nodes) ≡ b → fit_type (if b then Some (map declared (node_at s k).attrs) else None) a ≡ true → k < length s.nodes
+    by true e f = ltb-true k (length s.nodes) e
+    by false e f = absurd (cc)
 
 pub known-append : (n : ℕ) (xs ys : List Token) → AreKnown n (xs ++ ys) → AreKnown n xs × AreKnown n ys
 known-append n [] ys h = (tt, h)
@@ -51,12 +56,12 @@ module _ (s : SchemaSpec) (d : Doc) (v : Valid (documents_of s) d) where
   known-from : (before ts : List Token) → d.tokens ≡ before ++ ts → AreKnown (length s.nodes) ts
   known-from before [] e = tt
   known-from before (Open k a m ∷ ts) e = (
-    node-known s k a (and_parts ((documents_of s).node_attrs k a) (have_attrs (documents_of s) m) (v.attrs before (Open k a m) ts e)).0,
+    node-known s k a (and_parts (node_attrs (documents_of s) k a) (have_attrs (documents_of s) m) (v.attrs before (Open k a m) ts e)).0,
     known-from (before ++ (Open k a m ∷ [])) ts (e ∙ shift before (Open k a m) ts),
   )
   known-from before (Close ∷ ts) e = known-from (before ++ (Close ∷ [])) ts (e ∙ shift before Close ts)
   known-from before (Leaf k a m ∷ ts) e = (
-    node-known s k a (and_parts ((documents_of s).node_attrs k a) (have_attrs (documents_of s) m) (v.attrs before (Leaf k a m) ts e)).0,
+    node-known s k a (and_parts (node_attrs (documents_of s) k a) (have_attrs (documents_of s) m) (v.attrs before (Leaf k a m) ts e)).0,
     known-from (before ++ (Leaf k a m ∷ [])) ts (e ∙ shift before (Leaf k a m) ts),
   )
   known-from before (CodeUnit u m ∷ ts) e = known-from (before ++ (CodeUnit u m ∷ [])) ts (e ∙ shift before (CodeUnit u m) ts)

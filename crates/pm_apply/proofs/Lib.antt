@@ -12,7 +12,10 @@ pub mod InverseLaws
 pub mod BetweenLaws
 pub mod MarkedWalk
 pub mod MarkedNodes
-pub mod NodeMarkLaws
+pub mod HeadLaws
+pub mod ValuedLaws
+pub mod SettledLaws
+pub mod AttrOutcomes
 pub mod StructureLaws
 pub mod KnownLaws
 pub mod MarkOutcomes

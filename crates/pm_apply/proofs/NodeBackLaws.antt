@@ -7,7 +7,7 @@ use Rattle.pm_attrs.specs.Attrs.{same_attrs}
 use Rattle.pm_marks.specs.Sets.{same_marks, has}
 use Rattle.pm_marks.specs.declared.mark.Mark.{Mark}
 use Rattle.pm_tokens.specs.Tokens.{Attrs, Marks, Token, Open, Close, Leaf, CodeUnit, Doc, with_tokens}
-use Rattle.pm_tokens.specs.Schemas.{Schema}
+use Rattle.pm_tokens.specs.Schemas.{Schema, node_attrs, mark_attrs}
 use Rattle.pm_tokens.specs.Faults.{Valid}
 use Rattle.pm_tokens.specs.Marks.{have_attrs}
 use Rattle.pm_tokens.specs.Scan.{ends_high, starts_low, parts_pair}
@@ -84,7 +84,7 @@ module _ (s : Schema) where
   lost-known : (old new : Marks) (x : Mark Attrs) → first_lost old new ≡ Some x → have_attrs s old ≡ true → knows_mark s x ≡ true
   lost-known [] new x e h = absurd (cc)
   lost-known (y ∷ ys) new x e h =
-      let b = and_parts (s.mark_attrs y.kind y.attrs) (have_attrs s ys) h in
+      let b = and_parts (mark_attrs s y.kind y.attrs) (have_attrs s ys) h in
       at (has same_attrs new y) e b.0 (λ f. lost-known ys new x f b.1)
     where
       at : (c : Bool) → cond c (first_lost ys new) (Some y) ≡ Some x → knows_mark s y ≡ true → (first_lost ys new ≡ Some x → knows_mark s x ≡ true) → knows_mark s x ≡ true
@@ -109,10 +109,10 @@ module _ (s : Schema) where
   first-known : (d : Doc) (a r : List Token) (old : Marks) → Valid s d → d.tokens ≡ a ++ r → marks_first r ≡ Some old → have_attrs s old ≡ true
   first-known d a [] old v e h = absurd (cc)
   first-known d a (Open k x m ∷ r) old v e h =
-      let i : m ≡ old = cc in subst (λ z. have_attrs s z ≡ true) i (and_parts (s.node_attrs k x) (have_attrs s m) (v.attrs a (Open k x m) r e)).1
+      let i : m ≡ old = cc in subst (λ z. have_attrs s z ≡ true) i (and_parts (node_attrs s k x) (have_attrs s m) (v.attrs a (Open k x m) r e)).1
   first-known d a (Close ∷ r) old v e h = absurd (cc)
   first-known d a (Leaf k x m ∷ r) old v e h =
-      let i : m ≡ old = cc in subst (λ z. have_attrs s z ≡ true) i (and_parts (s.node_attrs k x) (have_attrs s m) (v.attrs a (Leaf k x m) r e)).1
+      let i : m ≡ old = cc in subst (λ z. have_attrs s z ≡ true) i (and_parts (node_attrs s k x) (have_attrs s m) (v.attrs a (Leaf k x m) r e)).1
   first-known d a (CodeUnit u m ∷ r) old v e h = absurd (cc)
 
 -- ---- the document

@@ -3,6 +3,8 @@ pub mod Markings
 pub mod Laws
 pub mod Around
 pub mod Nodes
+pub mod Settled
+pub mod PutsBack
 pub mod Between
 pub mod Backs
 pub mod Walks

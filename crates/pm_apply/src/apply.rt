@@ -9,6 +9,8 @@ ghost use Rattle.pm_meaning.specs.Known.{knows_mark, knows_step};
 ghost use Rattle.pm_step.specs.Steps.{mark_in, step_of};
 
 use crate::around::replace_around;
+use crate::attr::set_attr;
+use crate::doc_attr::set_doc_attr;
 use crate::mark::mark_range;
 use crate::node_mark::mark_node;
 use crate::replace::replace;
@@ -25,8 +27,9 @@ use std::alloc::{AllocError, Global};
 /// step with `structure` overwrites is not closes and then opens. Gap: the gap is no whole number of nodes. Depth: the open
 /// sides do not fit the depths of the ends. Pair: a position parts a surrogate pair, in the document or in the slice. Join: an
 /// open node meets a close whose owner's type is not compatible with its own. Large, Deep and Content: the result has too many
-/// tokens, nests too deep, or has a fault, of which the least place is named. NoNode: no node begins at the position.
-/// NotInSchema: the step's mark, or a node that is open at the start of its slice, has a type, attributes or marks that are none
+/// tokens, nests too deep, or has a fault, of which the least place is named. NoNode: no node begins at the position. NoAttribute:
+/// the type of that node, or of the top node, declares no attribute of the name. BadValue: the attribute names kinds of values, and
+/// the value is of none of them. For a step that changes an attribute these three come before Large, Deep and Content. NotInSchema: the step's mark, or a node that is open at the start of its slice, has a type, attributes or marks that are none
 /// of the schema. So each step that applies can be written and is read back (`applied_can_be_written` of pm_stepjson).
 pub fn apply(
     alloc: Global,
@@ -62,10 +65,13 @@ fn apply_in(
         Step::ReplaceAround(step) => replace_around(alloc, schema, top, content, step),
         Step::Mark(step) => mark_range(alloc, schema, top, content, step),
         Step::NodeMark(step) => mark_node(alloc, schema, top, content, step),
+        Step::Attr(step) => set_attr(alloc, schema, top, content, step),
+        Step::DocAttr(step) => set_doc_attr(alloc, schema, top, content, step),
     }
 }
 
-/// Whether the step's mark is of the schema, or the nodes that are open at the start of its slice are.
+/// Whether the step's mark is of the schema, or the nodes that are open at the start of its slice are. What else a step names shows
+/// in the document.
 fn knows_step(alloc: Global, schema: &Schema, step: &Step) -> Result<bool, AllocError>
     ensures { IfOk result (λ b. b ≡ knows_step (documents_of schema.now.spec) (step_of step.now)) }
 {
@@ -74,6 +80,8 @@ fn knows_step(alloc: Global, schema: &Schema, step: &Step) -> Result<bool, Alloc
         Step::ReplaceAround(step) => knows_slice(alloc, schema, &step.slice),
         Step::Mark(step) => Ok(knows_marking(schema, &step.marking)),
         Step::NodeMark(step) => Ok(knows_marking(schema, &step.marking)),
+        Step::Attr(_) => Ok(true),
+        Step::DocAttr(_) => Ok(true),
     }
 }
 

@@ -16,7 +16,7 @@ use crate::sides::{is_whole, keeps_structure, sides_fit};
 use pm_build::{Builder, OpenTypes, Refused, parts_pair};
 use pm_change::Failed;
 use pm_meaning::Reason;
-use pm_node::{Difference, Document, Fragment, MAX_SIZE, Node};
+use pm_node::{Difference, Document, Fragment, Node};
 use pm_replace::{checked_change, failed};
 use pm_schema::Schema;
 use pm_slice::Slice;
@@ -154,7 +154,7 @@ fn put_around(
     let added = slice.size();
     let kept = ends.from + (ends.gap_to - ends.gap_from) + (size - ends.to);
     let total = kept + added;
-    if total > MAX_SIZE {
+    if total > schema.max_size() {
         return match join_around(alloc, schema, content, ends, slice) {
             Ok(()) => Err(Failed::Reason(Reason::Large)),
             Err(refused) => Err(failed(refused)),

@@ -5,7 +5,7 @@ ghost use Rattle.pm_step.specs.Steps.{step_of};
 use crate::apply::apply;
 use crate::inverse::inverse;
 use pm_change::{Change, Failed};
-use pm_map::{Mapping, StepMap};
+use pm_map::{Positions, StepMap};
 use pm_meaning::Reason;
 use pm_node::Document;
 use pm_schema::Schema;
@@ -86,8 +86,12 @@ impl Change for DocChange {
         self.step.step_map()
     }
 
-    fn carry(&self, alloc: Global, mapping: &Mapping) -> Result<Option<DocChange>, AllocError> {
-        match self.step.carry(alloc, mapping)? {
+    fn carry<P: Positions>(
+        &self,
+        alloc: Global,
+        positions: &P,
+    ) -> Result<Option<DocChange>, AllocError> {
+        match self.step.carry(alloc, positions)? {
             Some(step) => Ok(Some(DocChange::new(alloc, step)?)),
             None => Ok(None),
         }

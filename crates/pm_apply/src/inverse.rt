@@ -9,7 +9,9 @@ ghost use Rattle.pm_schema.specs.Documents.{documents_of};
 ghost use Rattle.pm_step.specs.Steps.{step_of};
 
 use crate::around_back::around_back;
+use crate::attr::attr_back;
 use crate::change::DocChange;
+use crate::doc_attr::doc_attr_back;
 use crate::mark::range_back;
 use crate::node_mark::node_back;
 use crate::replace::replace_back;
@@ -49,6 +51,8 @@ fn inverse_in(
         Step::ReplaceAround(step) => one(alloc, around_back(alloc, schema, top, content, step)?),
         Step::Mark(step) => range_back(alloc, schema, top, content, step),
         Step::NodeMark(step) => node_back(alloc, schema, top, content, step),
+        Step::Attr(step) => one(alloc, attr_back(alloc, schema, top, content, step)?),
+        Step::DocAttr(step) => one(alloc, doc_attr_back(alloc, schema, top, content, step)?),
     }
 }
 

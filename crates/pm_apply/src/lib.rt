@@ -4,9 +4,12 @@
 mod apply;
 mod around;
 mod around_back;
+mod attr;
 mod between;
 mod change;
+mod doc_attr;
 mod inverse;
+pub mod laws;
 mod mark;
 mod marking;
 mod marks;
@@ -17,5 +20,6 @@ mod runs;
 mod sides;
 mod taking;
 mod target;
+mod values;
 
 pub use change::DocChange;

@@ -1,11 +1,11 @@
 //! What stands between two positions of a content, and at one.
 ghost use Rattle.std.specs.Prelude.{◌≡◌, ◌≤◌, ◌<◌, length, drop, IfOk};
-ghost use Rattle.std.specs.Option.{option_copied};
+ghost use Rattle.std.specs.Option.{option_copied, option_map};
 ghost use Rattle.pm_tokens.specs.Scan.{closes_then_opens, is_whole, part};
 ghost use Rattle.pm_tokens.specs.Slices.{depths_fit};
 ghost use Rattle.pm_meaning.specs.Outcomes.{keeps_structure};
 ghost use Rattle.pm_node.specs.Trees.{node_tokens};
-ghost use Rattle.pm_apply.specs.Nodes.{marks_first};
+ghost use Rattle.pm_apply.specs.Nodes.{node_head, head_first, marks_first};
 
 use pm_attrs::Attrs;
 use pm_build::depth_at;
@@ -76,36 +76,46 @@ pub fn is_whole(
     Ok(cut.open_start() == 0 && cut.open_end() == 0)
 }
 
-/// The marks of the node that begins at the position, if one does. It takes no memory.
-#[cycle(marks_at)]
-pub fn node_marks_at(content: &Fragment, pos: usize) -> Option<&MarkSet<Attrs>>
-    ensures { option_copied result ≡ marks_first (drop pos content.now) }
+/// The node that begins at the position, if one does. It takes no memory.
+#[cycle(node_at)]
+pub fn node_at(content: &Fragment, pos: usize) -> Option<&Node>
+    ensures { option_map node_head (option_copied result) ≡ head_first (drop pos content.now) }
 {
     let children = content.children();
     if children.size() <= pos {
         return None;
     }
     let found = children.find(pos);
-    node_marks_in(children.get(found.index), found.rest)
+    node_in(children.get(found.index), found.rest)
 }
 
-#[cycle(marks_at)]
-fn node_marks_in(node: &Node, pos: usize) -> Option<&MarkSet<Attrs>>
+#[cycle(node_at)]
+fn node_in(node: &Node, pos: usize) -> Option<&Node>
     requires { pos < length (node_tokens node.now) }
-    ensures { option_copied result ≡ marks_first (drop pos (node_tokens node.now)) }
+    ensures { option_map node_head (option_copied result) ≡ head_first (drop pos (node_tokens node.now)) }
 {
     match &node.body {
         Body::Text(_) => None,
-        Body::Leaf => Some(&node.marks),
+        Body::Leaf => Some(node),
         Body::Children(inner) => {
             let size = inner.size();
             if pos == 0 {
-                return Some(&node.marks);
+                return Some(node);
             }
             if size < pos {
                 return None;
             }
-            node_marks_at(inner, pos - 1)
+            node_at(inner, pos - 1)
         }
+    }
+}
+
+/// The marks of the node that begins at the position, if one does. It takes no memory.
+pub fn node_marks_at(content: &Fragment, pos: usize) -> Option<&MarkSet<Attrs>>
+    ensures { option_copied result ≡ marks_first (drop pos content.now) }
+{
+    match node_at(content, pos) {
+        Some(node) => Some(&node.marks),
+        None => None,
     }
 }

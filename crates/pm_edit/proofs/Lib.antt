@@ -1,3 +1,4 @@
+pub mod BeginningLaws
 pub mod MeetLaws
 pub mod BalanceLaws
 pub mod NodeLaws

@@ -1,13 +1,15 @@
 -- The step of each edit, or why there is none.
-use Rattle.std.specs.Prelude.{ℕ, ◌+◌, ◌-◌, Bool, true, false, not, ◌&&◌, ◌||◌, ◌==◌, nat_lt, Option, Some, None, List, [], ◌∷◌, length, Result, Ok, Err}
+use Rattle.std.specs.Prelude.{ℕ, ◌+◌, ◌-◌, Bool, true, false, not, ◌&&◌, ◌||◌, ◌==◌, nat_lt, Option, Some, None, List, [], ◌∷◌, length, drop, Result, Ok, Err}
 use Rattle.pm_change.specs.declared.no_step.NoStep.{NoStep}
 use Rattle.pm_change.specs.declared.no_step.NoStep.TheVariants.{Range, NotThere, NoFit}
+use Rattle.pm_value.specs.Plain.{Plain}
 use Rattle.pm_marks.specs.declared.mark.Mark.{Mark}
 use Rattle.pm_tokens.specs.Tokens.{Attrs, Token, Doc}
 use Rattle.pm_tokens.specs.Scan.{is_whole, part, depth_at}
 use Rattle.pm_tokens.specs.Slices.{Slice, slice_size}
 use Rattle.pm_slice.specs.Sides.{no_slice}
-use Rattle.pm_meaning.specs.Steps.{Step, Replace, ReplaceAround, AddMark, RemoveMark}
+use Rattle.pm_meaning.specs.Steps.{Step, Replace, ReplaceAround, AddMark, RemoveMark, Attr, DocAttr}
+use Rattle.pm_meaning.specs.Marked.{starts_node}
 use Rattle.pm_meaning.specs.Outcomes.{in_order}
 use Rattle.pm_schema.specs.declared.schema.Schema.{Schema}
 use Rattle.pm_schema.specs.Types as types
@@ -121,3 +123,17 @@ remove_mark d from to mark =
     in_range d (from ∷ to ∷ [])
     (refuse NotThere (from == to)
     (Ok (RemoveMark from to mark)))
+
+-- ---- attributes
+
+-- The attribute of the node that begins at the position gets the value. Whether the node's type has the attribute, and whether it
+-- may have the value, is asked where the step is applied.
+abbrev pub set_attr : Doc → (pos : ℕ) → List ℕ → Plain → Answer
+set_attr d pos attr value =
+    in_range d (pos ∷ [])
+    (refuse NotThere (not (starts_node (drop pos d.tokens)))
+    (Ok (Attr pos attr value)))
+
+-- the same of the document's top node
+abbrev pub set_doc_attr : List ℕ → Plain → Answer
+set_doc_attr attr value = Ok (DocAttr attr value)

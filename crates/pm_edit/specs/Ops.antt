@@ -4,6 +4,7 @@ use Rattle.std.specs.declared.alloc.Global.{Global}
 use Rattle.pm_change.specs.declared.no_step.NoStep.{NoStep}
 use Rattle.pm_change.specs.declared.no_step.MakeError.{MakeError}
 use Rattle.pm_change.specs.declared.no_step.MakeError.TheVariants.{NoStep as NoneMade, NoMemory}
+use Rattle.pm_value.specs.Views.{plain}
 use Rattle.pm_tokens.specs.Tokens.{Doc}
 use Rattle.pm_text.specs.Units.{utf16}
 use Rattle.pm_node.specs.Trees.{node_tokens}
@@ -13,7 +14,7 @@ use Rattle.pm_step.specs.Steps.{step_of}
 use Rattle.pm_schema.specs.declared.schema.Schema.{Schema}
 use Rattle.pm_ops.specs.declared.op.Op.{Op}
 use Rattle.pm_ops.specs.declared.op.Op.TheVariants as op
-use Rattle.pm_edit.specs.Edits.{Answer, insert_text, delete, paste, insert_node, split, join, wrap, lift, set_type, add_mark, remove_mark}
+use Rattle.pm_edit.specs.Edits.{Answer, insert_text, delete, paste, insert_node, split, join, wrap, lift, set_type, add_mark, remove_mark, set_attr, set_doc_attr}
 
 -- the step of an op on a document, or why there is none
 abbrev pub answer_of : Schema → Doc → Op → Answer
@@ -28,6 +29,8 @@ answer_of s d (op.Lift pos) = lift d pos
 answer_of s d (op.SetType pos kind attrs) = set_type s d pos kind attrs
 answer_of s d (op.AddMark from to mark) = add_mark d from to mark
 answer_of s d (op.RemoveMark from to mark) = remove_mark d from to mark
+answer_of s d (op.SetAttr pos attr value) = set_attr d pos attr (plain value)
+answer_of s d (op.SetDocAttr attr value) = set_doc_attr attr (plain value)
 answer_of s d (op.Step step) = Ok (step_of step)
 
 -- a list of this one step

@@ -1,6 +1,8 @@
 //! The edits of an editor: each gives one step, or tells why there is none.
 #![tactic(auto)]
 
+mod attributes;
+mod beginning;
 mod empty;
 mod fitted;
 mod joining;
@@ -15,6 +17,7 @@ mod steps;
 mod typing;
 mod wrapping;
 
+pub use attributes::{set_attr, set_doc_attr};
 pub use fitted::{delete, insert_node, insert_text, paste};
 pub use joining::join;
 pub use lifting::lift;

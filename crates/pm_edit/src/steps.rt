@@ -5,6 +5,7 @@ ghost use Rattle.pm_schema.specs.Documents.{documents_of};
 ghost use Rattle.pm_step.specs.Steps.{step_of};
 ghost use Rattle.pm_edit.specs.Ops.{Answers, AnswersList, answer_of, steps_of};
 
+use crate::attributes::{set_attr, set_doc_attr};
 use crate::fitted::{delete, insert_node, insert_text, paste};
 use crate::joining::join;
 use crate::lifting::lift;
@@ -68,6 +69,8 @@ fn step_for(alloc: Global, schema: &Schema, doc: &Document, op: &Op) -> Result<S
         Op::SetType { pos, kind, attrs } => set_type(alloc, schema, doc, *pos, *kind, attrs),
         Op::AddMark { from, to, mark } => add_mark(alloc, schema, doc, *from, *to, mark),
         Op::RemoveMark { from, to, mark } => remove_mark(alloc, schema, doc, *from, *to, mark),
+        Op::SetAttr { pos, attr, value } => set_attr(alloc, schema, doc, *pos, attr, value),
+        Op::SetDocAttr { attr, value } => set_doc_attr(alloc, schema, doc, attr, value),
         Op::Step(step) => Ok(step.copy(alloc)?),
     }
 }

@@ -48,7 +48,7 @@ module _ (s : documents.Schema) (d : Doc) (v : Valid s d) (from to : ℕ) (ts : 
       by false = refl
       by true = sym (ap (λ (x : Slice). step_with s d from to (Some x)) some-own ∙ none-fits (outcome s (Replace from to whole false) d) refl)
 
-pub large-none : (s : documents.Schema) (d : Doc) → Valid s d → (from to : ℕ) (ts : List Token) → 500000 < length ts → None ≡ step_with s d from to (sided ts 0 0)
+pub large-none : (s : documents.Schema) (d : Doc) → Valid s d → (from to : ℕ) (ts : List Token) → documents.max_size s < length ts → None ≡ step_with s d from to (sided ts 0 0)
 large-none s d v from to ts large = fits-none s d v from to ts (λ e. omega (arith, large, e)) unfit
   where
     unfit : (next : Doc) → Valid s next → next.tokens ≡ take from d.tokens ++ (ts ++ drop to d.tokens) → ⊥

@@ -16,7 +16,7 @@ use crate::target::Target;
 use crate::types::{first_type, types_before};
 use crate::wrapping::wrapping;
 use pm_auto::TypeId;
-use pm_node::{Fragment, MAX_DEPTH, MAX_SIZE};
+use pm_node::{Fragment, MAX_DEPTH};
 use pm_resolve::Place;
 use pm_step::Step;
 use std::alloc::{AllocError, Global};
@@ -122,7 +122,7 @@ impl Target<'_> {
         if count > MAX_DEPTH {
             return Ok(None);
         }
-        if size + 2 * count > MAX_SIZE {
+        if size + 2 * count > self.schema.max_size() {
             return Ok(None);
         }
         let content = content.copy(alloc)?;

@@ -1,4 +1,4 @@
--- What steps make of the tokens, where they apply; and that the steps of the runs give the old marks back.
+-- What mark steps make of the tokens, where they apply; and that the steps of the runs give the old marks back.
 use Rattle.std.specs.Prelude.{◌≡◌, ℕ, ◌+◌, Bool, true, false, ◌&&◌, not, List, [], ◌∷◌, ◌++◌, map, length, take, drop, Option, Some, None}
 use Rattle.std.proofs.lemmas.List.{append-nil, length-map}
 use Rattle.std.proofs.Common.{refl, ap, sym, ◌∙◌, subst, arith, append_assoc, length-append}
@@ -6,28 +6,30 @@ use Rattle.pm_attrs.specs.Attrs.{same_attrs}
 use Rattle.pm_marks.specs.Sets.{same_marks}
 use Rattle.pm_marks.specs.declared.mark.Mark.{Mark}
 use Rattle.pm_tokens.specs.Marks.{is_set}
-use Rattle.pm_tokens.specs.Scan.{head_of, tail_of, unclosed, part, plain}
-use Rattle.pm_tokens.specs.Schemas.{Schema}
-use Rattle.pm_tokens.specs.Slices.{spliced, spliced_around}
+use Rattle.pm_tokens.specs.Scan.{head_of, tail_of, unclosed, part}
+use Rattle.pm_tokens.specs.Schemas.{Schema, mark_attrs}
 use Rattle.pm_tokens.specs.Tokens.{Token, Open, Close, Leaf, CodeUnit, marks_of, Attrs, Marks}
 use Rattle.pm_tokens.proofs.MarkLaws.{marks-equal}
 use Rattle.pm_tokens.proofs.PartLaws.{Split, split-front, split-part, split-back, split-rest}
 use Rattle.pm_tokens.proofs.ScanLaws.{unclosed-append}
 use Rattle.pm_meaning.specs.Marked.{add, remove, with_marks, takes_marks, mark_added, mark_removed, with_node_marks}
 use Rattle.pm_meaning.specs.Runs.{Run, range_steps, node_steps, close_run, continues, next_run, due, run_steps}
-use Rattle.pm_meaning.specs.Steps.{Step, Replace, ReplaceAround, AddMark, RemoveMark, AddNodeMark, RemoveNodeMark}
+use Rattle.pm_meaning.specs.Steps.{Step, Replace, ReplaceAround, AddMark, RemoveMark, AddNodeMark, RemoveNodeMark, Attr, DocAttr}
 use Rattle.pm_meaning.proofs.MarkSuits.{are_suited, marks_suit}
 use Rattle.pm_meaning.proofs.RunLaws.{add_all, remove_each, removed-all}
 use Rattle.pm_meaning.proofs.TokenMarks.{set_marks, set-own}
 use Rattle.std.proofs.lemmas.Bool.{and_parts, and_from}
 
+-- the tokens with their marks changed, and as they are under a step that is no mark step
 abbrev pub effect : Schema → ℕ → Step → List Token → List Token
-effect s k (Replace from to sl structure) ts = plain (spliced ts from to sl)
-effect s k (ReplaceAround from to gf gt sl insert structure) ts = plain (spliced_around ts from to gf gt sl insert)
+effect s k (Replace from to sl structure) ts = ts
+effect s k (ReplaceAround from to gf gt sl insert structure) ts = ts
 effect s k (AddMark from to m) ts = take from ts ++ (with_marks (mark_added s m) (unclosed (k ∷ []) (take from ts)) (part from to ts) ++ drop to ts)
 effect s k (RemoveMark from to m) ts = take from ts ++ (with_marks (mark_removed s m) (unclosed (k ∷ []) (take from ts)) (part from to ts) ++ drop to ts)
 effect s k (AddNodeMark p m) ts = take p ts ++ with_node_marks (add s m) (drop p ts)
 effect s k (RemoveNodeMark p m) ts = take p ts ++ with_node_marks (remove m) (drop p ts)
+effect s k (Attr p name value) ts = ts
+effect s k (DocAttr name value) ts = ts
 
 abbrev pub effects : Schema → ℕ → List Step → List Token → List Token
 effects s k [] ts = ts
@@ -211,8 +213,8 @@ module _ (s : Schema) where
     pub allowed-one : (ps : List ℕ) (t : Token) (ms : Marks) → are_suited s (head_of ps) ms ≡ true → all_allowed s ps ms (t ∷ []) ≡ true
     allowed-one ps t [] h = refl
     allowed-one ps t (m ∷ ms) h =
-        let b = and_parts (s.allows (head_of ps) m.kind && s.mark_attrs m.kind m.attrs) (are_suited s (head_of ps) ms) h in
-        let c = and_parts (s.allows (head_of ps) m.kind) (s.mark_attrs m.kind m.attrs) b.0 in
+        let b = and_parts (s.allows (head_of ps) m.kind && mark_attrs s m.kind m.attrs) (are_suited s (head_of ps) ms) h in
+        let c = and_parts (s.allows (head_of ps) m.kind) (mark_attrs s m.kind m.attrs) b.0 in
         and_from (allowed s ps m (t ∷ [])) (all_allowed s ps ms (t ∷ [])) (and_from (s.allows (head_of ps) m.kind) true c.0 refl) (allowed-one ps t ms b.1)
 
     allowed-push : (ps : List ℕ) (m : Mark Attrs) (r : List Token) (t : Token) → allowed s ps m r ≡ true → s.allows (head_of (unclosed ps r)) m.kind ≡ true → allowed s ps m (r ++ (t ∷ [])) ≡ true
@@ -226,8 +228,8 @@ module _ (s : Schema) where
     all-allowed-push ps [] r t h i = refl
     all-allowed-push ps (m ∷ ms) r t h i =
         let a = and_parts (allowed s ps m r) (all_allowed s ps ms r) h in
-        let b = and_parts (s.allows (head_of (unclosed ps r)) m.kind && s.mark_attrs m.kind m.attrs) (are_suited s (head_of (unclosed ps r)) ms) i in
-        let c = and_parts (s.allows (head_of (unclosed ps r)) m.kind) (s.mark_attrs m.kind m.attrs) b.0 in
+        let b = and_parts (s.allows (head_of (unclosed ps r)) m.kind && mark_attrs s m.kind m.attrs) (are_suited s (head_of (unclosed ps r)) ms) i in
+        let c = and_parts (s.allows (head_of (unclosed ps r)) m.kind) (mark_attrs s m.kind m.attrs) b.0 in
         and_from (allowed s ps m (r ++ (t ∷ []))) (all_allowed s ps ms (r ++ (t ∷ []))) (allowed-push ps m r t a.0 c.0) (all-allowed-push ps ms r t a.1 b.1)
 
     pub run-push : (r : List Token) (t : Token) → are_run s r ≡ true → takes_marks s t ≡ true → are_run s (r ++ (t ∷ [])) ≡ true

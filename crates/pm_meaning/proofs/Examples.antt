@@ -1,17 +1,18 @@
 -- Small documents, computed.
-use Rattle.std.specs.Prelude.{◌≡◌, ℕ, Bool, true, false, ◌&&◌, ◌||◌, ◌==◌, cond, List, [], ◌∷◌, Ok, Err, Some, None}
+use Rattle.std.specs.Prelude.{◌≡◌, ℕ, pos, Bool, true, false, ◌&&◌, ◌||◌, ◌==◌, cond, List, [], ◌∷◌, Ok, Err, Some, None}
 use Rattle.std.proofs.Common.{refl}
+use Rattle.pm_value.specs.Plain.{int, null, truth}
 use Rattle.pm_value.specs.Equal.{same_values}
 use Rattle.pm_marks.specs.declared.mark.Mark.{Mark}
 use Rattle.pm_marks.specs.Sets.{added}
 use Rattle.pm_tokens.specs.Tokens.{Attrs, Token, Open, Close, CodeUnit, Doc}
-use Rattle.pm_tokens.specs.Schemas.{Schema}
+use Rattle.pm_tokens.specs.Schemas.{Schema, Declared}
 use Rattle.pm_tokens.specs.Slices.{Slice, cut}
 use Rattle.pm_tokens.specs.Scan.{shared_depth}
 use Rattle.pm_tokens.specs.Kids.{kids, children}
 use Rattle.pm_tokens.specs.Faults.{fault, Pair, BadMarks, BadContent}
 use Rattle.pm_meaning.specs.declared.reason.Reason.TheVariants as why
-use Rattle.pm_meaning.specs.Steps.{Replace, ReplaceAround, AddMark, RemoveMark, AddNodeMark}
+use Rattle.pm_meaning.specs.Steps.{Replace, ReplaceAround, AddMark, RemoveMark, AddNodeMark, Attr, DocAttr}
 use Rattle.pm_meaning.specs.Outcomes.{outcome}
 use Rattle.pm_meaning.specs.Inverses.{inverse}
 
@@ -30,6 +31,10 @@ accepts k xs = (((k == 0) || (k == 4)) && each_block xs) || (((k == 1) || (k == 
 abbrev starts : ℕ → List ℕ
 starts k = cond (k == 2) [] (cond ((k == 1) || (k == 3)) (2 ∷ []) (1 ∷ 3 ∷ 4 ∷ []))
 
+-- of a heading: a number
+abbrev level : Declared
+level = record { name = 108 ∷ []; kinds = Some (record { string = false; number = true; boolean = false; null = false }) }
+
 abbrev schema : Schema
 schema = record {
   text = 2;
@@ -40,8 +45,9 @@ schema = record {
   is_atom = λ k. false;
   allows = λ parent m. parent == 1;
   excludes = (true ∷ []) ∷ [];
-  node_attrs = λ k a. true;
-  mark_attrs = λ k a. true;
+  node_declares = λ k. cond (k == 3) (Some (level ∷ [])) (Some []);
+  mark_declares = λ k. Some [];
+  version = 1;
 }
 
 abbrev a : Token
@@ -51,7 +57,7 @@ abbrev p : Token
 p = Open 1 [] []
 
 abbrev h : Token
-h = Open 3 [] []
+h = Open 3 (int (pos 1) ∷ []) []
 
 abbrev quote : Token
 quote = Open 4 [] []
@@ -174,3 +180,23 @@ retyped = refl
 retyped-back : inverse schema (ReplaceAround 4 7 5 6 (record { content = p ∷ Close ∷ []; open_start = 0; open_end = 0 }) 1 true) two
     ≡ ReplaceAround 4 7 5 6 (record { content = h ∷ Close ∷ []; open_start = 0; open_end = 0 }) 1 true ∷ []
 retyped-back = refl
+
+-- a heading of level 2, and its way back
+leveled : outcome schema (Attr 4 (108 ∷ []) (int (pos 2))) two ≡ Ok (doc (p ∷ a ∷ a ∷ Close ∷ Open 3 (int (pos 2) ∷ []) [] ∷ a ∷ Close ∷ []))
+leveled = refl
+
+leveled-back : inverse schema (Attr 4 (108 ∷ []) (int (pos 2))) two ≡ Attr 4 (108 ∷ []) (int (pos 1)) ∷ []
+leveled-back = refl
+
+no-node-there : outcome schema (Attr 5 (108 ∷ []) null) two ≡ Err why.NoNode
+no-node-there = refl
+
+-- a paragraph has no level, nor has the top
+no-attribute : outcome schema (Attr 0 (108 ∷ []) null) two ≡ Err why.NoAttribute
+no-attribute = refl
+
+no-top-attribute : outcome schema (DocAttr (108 ∷ []) null) two ≡ Err why.NoAttribute
+no-top-attribute = refl
+
+bad-value : outcome schema (Attr 4 (108 ∷ []) (truth true)) two ≡ Err why.BadValue
+bad-value = refl

@@ -1,16 +1,16 @@
 -- What the schema knows: the opens around a position of a valid document, and so what is cut out of it.
-use Rattle.std.specs.Prelude.{◌≡◌, ℕ, zero, suc, ◌≤◌, Bool, true, ◌&&◌, not, ◌==◌, List, [], ◌∷◌, ◌++◌, length, take, drop, reverse, replicate, Option, None}
+use Rattle.std.specs.Prelude.{◌≡◌, ℕ, zero, suc, ◌≤◌, true, ◌&&◌, not, ◌==◌, List, [], ◌∷◌, ◌++◌, length, take, reverse, replicate, Option, None}
 use Rattle.std.specs.List.{list_all}
 use Rattle.std.proofs.lemmas.Bool.{and_parts, and_from}
 use Rattle.std.proofs.lemmas.List.{take_at, reverse-append, length-reverse}
 use Rattle.std.proofs.lemmas.List.Folds.{list_all-append}
-use Rattle.std.proofs.Common.{refl, ap, sym, ◌∙◌, subst, arith, length-take}
+use Rattle.std.proofs.Common.{refl, ap, ◌∙◌, subst, arith, length-take}
 use Rattle.pm_tokens.specs.Tokens.{Attrs, Marks, Token, Open, Close, Leaf, CodeUnit, Doc}
 use Rattle.pm_tokens.specs.Scan.{head_of, unclosed, unmet, rest_of, around}
 use Rattle.pm_tokens.specs.Kids.{kids}
 use Rattle.pm_tokens.specs.Marks.{is_set, are_allowed, have_attrs}
 use Rattle.pm_tokens.specs.Faults.{attrs_fit, marks_fit, content_fits, high_of, under, token_fits, place_from, Valid}
-use Rattle.pm_tokens.specs.Schemas.{Schema}
+use Rattle.pm_tokens.specs.Schemas.{Schema, node_attrs}
 use Rattle.pm_tokens.specs.Slices.{closed_over}
 use Rattle.pm_tokens.proofs.CutLaws.{around-length}
 use Rattle.pm_tokens.proofs.PairLaws.{first-none}
@@ -21,11 +21,11 @@ module _ (s : Schema) where
   -- an open without a fault
   open-known : (parent k : ℕ) (a : Attrs) (m : Marks) (next : List Token) → attrs_fit s (Open k a m) ≡ true → marks_fit s parent (Open k a m) ≡ true → content_fits s (Open k a m) next ≡ true → knows_open s (Open k a m) ≡ true
   open-known parent k a m next h i j =
-      let x = and_parts (s.node_attrs k a) (have_attrs s m) h in
+      let x = and_parts (node_attrs s k a) (have_attrs s m) h in
       let y = and_parts (is_set s m) (are_allowed s parent m) i in
       let z = and_parts (not (k == s.text) && not (s.is_leaf k)) (s.accepts k (kids s.text 0 None next)) j in
-      and_from (s.node_attrs k a && (not (k == s.text) && not (s.is_leaf k))) (have_attrs s m && is_set s m)
-      (and_from (s.node_attrs k a) (not (k == s.text) && not (s.is_leaf k)) x.0 z.0)
+      and_from (node_attrs s k a && (not (k == s.text) && not (s.is_leaf k))) (have_attrs s m && is_set s m)
+      (and_from (node_attrs s k a) (not (k == s.text) && not (s.is_leaf k)) x.0 z.0)
       (and_from (have_attrs s m) (is_set s m) x.1 y.0)
 
   abbrev AllKnown : List Token → Type 0

@@ -6,8 +6,11 @@ pub mod MapLaws
 pub mod RunLaws
 pub mod TokenMarks
 pub mod MarkSuits
+pub mod MarkingSteps
 pub mod EffectLaws
 pub mod MarkStepLaws
+pub mod AttributeLaws
+pub mod AttributeChecks
 pub mod StepLaws
 pub mod LooseLaws
 pub mod PairedLaws

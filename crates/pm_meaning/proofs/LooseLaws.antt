@@ -3,7 +3,7 @@ use Rattle.std.specs.Prelude.{◌≡◌, ℕ, max, Bool, true, false, ◌&&◌, 
 use Rattle.std.proofs.lemmas.Bool.{eq-eqb, and_parts, and_from}
 use Rattle.std.proofs.Common.{zero, suc, refl, ap, sym, ◌∙◌, subst}
 use Rattle.pm_tokens.specs.Tokens.{Marks, Token, Open, Close, Leaf, CodeUnit, Doc, with_tokens, marks_of}
-use Rattle.pm_tokens.specs.Schemas.{Schema, max_size, max_depth}
+use Rattle.pm_tokens.specs.Schemas.{Schema, max_size, max_depth, node_attrs}
 use Rattle.pm_tokens.specs.Scan.{head_of, deepest}
 use Rattle.pm_tokens.specs.Kids.{goes_on, kids}
 use Rattle.pm_tokens.specs.Faults.{attrs_fit, content_fits, high_of, pair_fits, under, token_fits, place_from, no_marks, top_fits, fault_place, Valid}
@@ -146,11 +146,11 @@ module _ (s : Schema) (l : IsLoose s) where
   pub remarked-checks : (d : Doc) (ns : List Token) → Valid s d → Shaped d.tokens ns → Fits s (d.kind ∷ []) ns → Paired None ns → checked s (with_tokens d ns) ≡ Ok (with_tokens d ns)
   remarked-checks d ns v x w p =
       let n : Doc = with_tokens d ns in
-      let top = and_parts (s.node_attrs d.kind d.attrs && no_marks d.marks) (s.accepts d.kind (kids s.text 0 None d.tokens)) (valid-top s d v) in
+      let top = and_parts (node_attrs s d.kind d.attrs && no_marks d.marks) (s.accepts d.kind (kids s.text 0 None d.tokens)) (valid-top s d v) in
       let f : fault_place s n ≡ None =
       none-first (top_fits s n) (place_from s (d.kind ∷ []) None ns)
-      (and_from (s.node_attrs d.kind d.attrs && no_marks d.marks) (s.accepts d.kind (kids s.text 0 None ns)) top.0 (sym (loose-accepts s l d.kind d.tokens ns x) ∙ top.1))
+      (and_from (node_attrs s d.kind d.attrs && no_marks d.marks) (s.accepts d.kind (kids s.text 0 None ns)) top.0 (sym (loose-accepts s l d.kind d.tokens ns x) ∙ top.1))
       (remarked (d.kind ∷ []) None None d.tokens ns x (valid-tokens s d v) w p) in
-      let size : nat_le (length ns) max_size ≡ true = ap (λ z. nat_le z max_size) (shaped-length d.tokens ns x) ∙ valid-size s d v in
+      let size : nat_le (length ns) (max_size s) ≡ true = ap (λ z. nat_le z (max_size s)) (shaped-length d.tokens ns x) ∙ valid-size s d v in
       let depth : nat_le (deepest 0 ns) max_depth ≡ true = ap (λ z. nat_le z max_depth) (shaped-deepest 0 d.tokens ns x) ∙ valid-depth s d v in
       rw (size, depth, f) refl

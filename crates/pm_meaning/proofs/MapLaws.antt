@@ -20,7 +20,7 @@ use Rattle.pm_meaning.specs.Maps.{span, step_map, ahead, back, carry, carry_repl
 use Rattle.pm_meaning.specs.Marked.{with_marks, marked, mark_added, mark_removed}
 use Rattle.pm_meaning.specs.Outcomes.{checked, outcome, in_order, parts_no_pair, range_outcome}
 use Rattle.pm_meaning.specs.declared.reason.Reason.TheVariants.{Range, Pair}
-use Rattle.pm_meaning.specs.Steps.{Step, Replace, ReplaceAround, AddMark, RemoveMark, AddNodeMark, RemoveNodeMark}
+use Rattle.pm_meaning.specs.Steps.{Step, Replace, ReplaceAround, AddMark, RemoveMark, AddNodeMark, RemoveNodeMark, Attr, DocAttr}
 use Rattle.pm_meaning.proofs.OutcomeLaws.{unless-ok, made-ok, checked-ok}
 
 span-same : (a b c d e f : ℕ) → a ≡ d → b ≡ e → c ≡ f → span a b c ≡ span d e f
@@ -143,6 +143,8 @@ still (RemoveMark from to mark) n ms w h =
     at (inr p) = inr (p.0, refl, λ s d next v k. marked-nothing s (mark_removed s mark) from to d next p.1 (made-ok s (RemoveMark from to mark) d next k).1)
 still (AddNodeMark p mark) n ms w h = inl (rw (h.ahead p) refl)
 still (RemoveNodeMark p mark) n ms w h = inl (rw (h.ahead p) refl)
+still (Attr p name value) n ms w h = inl (rw (h.ahead p) refl)
+still (DocAttr name value) n ms w h = inl refl
 
 from-if : (b : Bool) (x d : Step) (P : Step → Type 0) → (if b then None else Some x) ≡ Some d → P x → P d
 from-if true x d P h p = absurd (cc)
@@ -161,3 +163,5 @@ carried (AddMark from to mark) d ms h = from-if _ (AddMark (ahead ms from).pos (
 carried (RemoveMark from to mark) d ms h = from-if _ (RemoveMark (ahead ms from).pos (back ms to).pos mark) d (λ z. map new_size_of (step_map z) ≡ []) h refl
 carried (AddNodeMark p mark) d ms h = from-if _ (AddNodeMark (ahead ms p).pos mark) d (λ z. map new_size_of (step_map z) ≡ []) h refl
 carried (RemoveNodeMark p mark) d ms h = from-if _ (RemoveNodeMark (ahead ms p).pos mark) d (λ z. map new_size_of (step_map z) ≡ []) h refl
+carried (Attr p name value) d ms h = from-if _ (Attr (ahead ms p).pos name value) d (λ z. map new_size_of (step_map z) ≡ []) h refl
+carried (DocAttr name value) d ms h = from-if false (DocAttr name value) d (λ z. map new_size_of (step_map z) ≡ []) h refl

@@ -24,12 +24,11 @@ use Rattle.pm_meaning.specs.Outcomes.{checked, in_order, parts_no_pair, and_unle
 use Rattle.pm_meaning.specs.Runs.{run_steps, node_steps}
 use Rattle.pm_meaning.specs.declared.reason.Reason.{Reason}
 use Rattle.pm_meaning.specs.declared.reason.Reason.TheVariants.{Range, Pair, NoNode}
-use Rattle.pm_meaning.specs.Steps.{Step, Replace, ReplaceAround, AddMark, RemoveMark, AddNodeMark, RemoveNodeMark}
-use Rattle.pm_meaning.proofs.AroundLaws.{moved}
+use Rattle.pm_meaning.specs.Steps.{Step, Replace, ReplaceAround, AddMark, RemoveMark, AddNodeMark, RemoveNodeMark, Attr, DocAttr}
 use Rattle.pm_meaning.proofs.EffectLaws.{effect, effects, after, with-one, Alike, runs-back, noded}
 use Rattle.pm_meaning.proofs.MarkSuits.{are_suited, marks_suit, fit-suit}
 use Rattle.pm_meaning.proofs.OutcomeLaws.{unless-ok, and-unless-ok, made-ok, checked-ok}
-use Rattle.pm_meaning.proofs.ReplaceLaws.{replaced}
+use Rattle.pm_meaning.proofs.MarkingSteps.{is_marking, are_marking, nodes-marking, runs-marking}
 use Rattle.pm_meaning.proofs.TokenMarks.{set_marks, set-own}
 
 -- the marks of every token fit
@@ -128,24 +127,27 @@ node-checks s f p d next h =
 pub node-order : (s : Schema) (f : Marks → Marks) (p : ℕ) (d next : Doc) → node_outcome s f p d ≡ Ok next → p ≤ length d.tokens
 node-order s f p d next h = leb-true p (length d.tokens) (unless-ok (in_order (p ∷ []) (length d.tokens)) Range _ next h).0
 
--- what a step that applies gives
-pub outcome-effect : (s : Schema) (c : Step) (d next : Doc) → outcome s c d ≡ Ok next → next ≡ with_tokens d (effect s d.kind c d.tokens)
-outcome-effect s (Replace from to sl structure) d next h = (replaced s from to sl structure d next h).is
-outcome-effect s (ReplaceAround from to gf gt sl insert structure) d next h = (moved s from to gf gt sl insert structure d next h).is
-outcome-effect s (AddMark from to m) d next h = range-effect s (mark_added s m) from to d next (made-ok s (AddMark from to m) d next h).1
-outcome-effect s (RemoveMark from to m) d next h = range-effect s (mark_removed s m) from to d next (made-ok s (RemoveMark from to m) d next h).1
-outcome-effect s (AddNodeMark p m) d next h = node-effect s (add s m) p d next (made-ok s (AddNodeMark p m) d next h).1
-outcome-effect s (RemoveNodeMark p m) d next h = node-effect s (remove m) p d next (made-ok s (RemoveNodeMark p m) d next h).1
+-- what a mark step that applies gives
+pub outcome-effect : (s : Schema) (c : Step) (d next : Doc) → is_marking c ≡ true → outcome s c d ≡ Ok next → next ≡ with_tokens d (effect s d.kind c d.tokens)
+outcome-effect s (Replace from to sl structure) d next m h = absurd (cc)
+outcome-effect s (ReplaceAround from to gf gt sl insert structure) d next m h = absurd (cc)
+outcome-effect s (AddMark from to m) d next k h = range-effect s (mark_added s m) from to d next (made-ok s (AddMark from to m) d next h).1
+outcome-effect s (RemoveMark from to m) d next k h = range-effect s (mark_removed s m) from to d next (made-ok s (RemoveMark from to m) d next h).1
+outcome-effect s (AddNodeMark p m) d next k h = node-effect s (add s m) p d next (made-ok s (AddNodeMark p m) d next h).1
+outcome-effect s (RemoveNodeMark p m) d next k h = node-effect s (remove m) p d next (made-ok s (RemoveNodeMark p m) d next h).1
+outcome-effect s (Attr p name value) d next m h = absurd (cc)
+outcome-effect s (DocAttr name value) d next m h = absurd (cc)
 
 some-inj : (x y : Doc) → Some x ≡ Some y → x ≡ y
 some-inj x y h = cc
 
-pub fold-effects : (s : Schema) (cs : List Step) (d back : Doc) → fold meaning s d cs ≡ Some back → back ≡ with_tokens d (effects s d.kind cs d.tokens)
-fold-effects s [] d back h = sym (some-inj d back h)
-fold-effects s (c ∷ cs) d back h =
+pub fold-effects : (s : Schema) (cs : List Step) (d back : Doc) → are_marking cs ≡ true → fold meaning s d cs ≡ Some back → back ≡ with_tokens d (effects s d.kind cs d.tokens)
+fold-effects s [] d back m h = sym (some-inj d back h)
+fold-effects s (c ∷ cs) d back m h =
+    let k = and_parts (is_marking c) (are_marking cs) m in
     let f = fold-cons meaning s d back c cs h in
-    let e = outcome-effect s c d f.0 f.1 in
-    fold-effects s cs f.0 back f.2 ∙ ap (λ z. with_tokens z (effects s z.kind cs z.tokens)) e
+    let e = outcome-effect s c d f.0 k.0 f.1 in
+    fold-effects s cs f.0 back k.1 f.2 ∙ ap (λ z. with_tokens z (effects s z.kind cs z.tokens)) e
 
 pub same-token : (a b : Token) → same_token a b ≡ true → a ≡ b
 same-token (Open k a m) (Open l b n) h =
@@ -182,9 +184,9 @@ given (Ok e) ts d h g = let x : d ≡ e = cc in ap (λ z. z.tokens) x ∙ same-t
 given (Err r) ts d h g = absurd (cc)
 
 -- the one step, or the others: where they apply they give the document back
-pub one-or-restores : (s : Schema) (one : Step) (others : List Step) (d next back : Doc) → next ≡ with_tokens d next.tokens → effects s d.kind others next.tokens ≡ d.tokens
+pub one-or-restores : (s : Schema) (one : Step) (others : List Step) (d next back : Doc) → is_marking one ≡ true → are_marking others ≡ true → next ≡ with_tokens d next.tokens → effects s d.kind others next.tokens ≡ d.tokens
     → fold meaning s next (one_or s one others d next) ≡ Some back → back ≡ d
-one-or-restores s one others d next back e a h = at (gives (outcome s one next) d.tokens) refl h
+one-or-restores s one others d next back m ms e a h = at (gives (outcome s one next) d.tokens) refl h
   where
     top : (ts : List Token) → back ≡ with_tokens next ts → ts ≡ d.tokens → back ≡ d
     top ts x y = x ∙ (ap (λ z. with_tokens z ts) e ∙ ap (with_tokens d) y)
@@ -193,10 +195,10 @@ one-or-restores s one others d next back e a h = at (gives (outcome s one next) 
     at true g f =
         let c = fold-cons meaning s next back one [] f in
         let z : c.0 ≡ back = some-inj c.0 back c.2 in
-        top (effect s next.kind one next.tokens) (sym z ∙ outcome-effect s one next c.0 c.1)
-        (ap (λ w. w.tokens) (sym (outcome-effect s one next c.0 c.1)) ∙ given (outcome s one next) d.tokens c.0 c.1 g)
+        top (effect s next.kind one next.tokens) (sym z ∙ outcome-effect s one next c.0 m c.1)
+        (ap (λ w. w.tokens) (sym (outcome-effect s one next c.0 m c.1)) ∙ given (outcome s one next) d.tokens c.0 c.1 g)
     at false g f =
-        let x = fold-effects s others next back f in
+        let x = fold-effects s others next back ms f in
         let k : next.kind ≡ d.kind = ap (λ w. w.kind) e in
         top (effects s next.kind others next.tokens) x (ap (λ w. effects s w others next.tokens) k ∙ a)
 
@@ -240,21 +242,21 @@ module _ (s : Schema) (d : Doc) (v : Valid s d) where
       (alike-append s d.kind ps t t r (with_node_marks f r) (alike-self s d.kind ps t (fits-front s ps t r w)) (alike-node s d.kind f (unclosed ps t) r (fits-rest s ps t r w)))
 
   -- where the steps of the inverse of a mark step apply to the result, they give the document back
-  pub range-restores : (f : ℕ → Token → Marks → Marks) (from to : ℕ) (one : Step) (next back : Doc) → range_outcome s f from to d ≡ Ok next
+  pub range-restores : (f : ℕ → Token → Marks → Marks) (from to : ℕ) (one : Step) (next back : Doc) → is_marking one ≡ true → range_outcome s f from to d ≡ Ok next
       → fold meaning s next (one_or_runs s one d (marked f from to d)) ≡ Some back → back ≡ d
-  range-restores f from to one next back h g =
-      one-or-restores s one (run_steps s 0 None d.tokens (marked f from to d).tokens) d (marked f from to d) back refl (runs-back s d.kind d.tokens (marked f from to d).tokens (range-alike f from to next h))
+  range-restores f from to one next back m h g =
+      one-or-restores s one (run_steps s 0 None d.tokens (marked f from to d).tokens) d (marked f from to d) back m (runs-marking s 0 None d.tokens (marked f from to d).tokens) refl (runs-back s d.kind d.tokens (marked f from to d).tokens (range-alike f from to next h))
       (subst (λ z. fold meaning s z (one_or_runs s one d (marked f from to d)) ≡ Some back) (range-effect s f from to d next h) g)
 
-  pub node-restores : (f : Marks → Marks) (p : ℕ) (one : Step) (next back : Doc) → node_outcome s f p d ≡ Ok next
+  pub node-restores : (f : Marks → Marks) (p : ℕ) (one : Step) (next back : Doc) → is_marking one ≡ true → node_outcome s f p d ≡ Ok next
       → fold meaning s next (one_or s one (node_steps p (node_marks (drop p d.tokens)) (f (node_marks (drop p d.tokens)))) d (node_marked f p d)) ≡ Some back → back ≡ d
-  node-restores f p one next back h g =
+  node-restores f p one next back m h g =
       let ps = d.kind ∷ [] in
       let a = take p d.tokens in
       let r = drop p d.tokens in
       let others = node_steps p (node_marks r) (f (node_marks r)) in
       let l : length a ≡ p = omega (arith, node-order s f p d next h, length-take p d.tokens) in
       let w : Fits s ps (a ++ r) = subst (Fits s ps) (sym (take-append-drop p d.tokens)) doc-fits in
-      one-or-restores s one others d (node_marked f p d) back refl
+      one-or-restores s one others d (node_marked f p d) back m (nodes-marking p (node_marks r) (f (node_marks r))) refl
       (node-back s d.kind f a r p (head_of (unclosed ps a)) l (node-stands s f p d next h) (node-fits s (unclosed ps a) r (fits-rest s ps a r w)) ∙ take-append-drop p d.tokens)
       (subst (λ z. fold meaning s z (one_or s one others d (node_marked f p d)) ≡ Some back) (node-effect s f p d next h) g)

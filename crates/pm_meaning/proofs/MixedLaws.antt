@@ -12,7 +12,7 @@ use Rattle.pm_tokens.specs.Kids.{goes_on}
 use Rattle.pm_tokens.specs.Loose.{IsLoose}
 use Rattle.pm_tokens.specs.Marks.{is_set, have_attrs}
 use Rattle.pm_tokens.specs.Scan.{head_of, unclosed, is_high, ends_high, parts_pair}
-use Rattle.pm_tokens.specs.Schemas.{Schema}
+use Rattle.pm_tokens.specs.Schemas.{Schema, mark_attrs}
 use Rattle.pm_tokens.specs.Tokens.{Token, Open, Close, Leaf, CodeUnit, Doc, with_tokens, marks_of, Attrs, Marks}
 use Rattle.std.specs.Char.Utf16.{is_high_surrogate, is_low_surrogate}
 use Rattle.pm_tokens.proofs.MarkLaws.{marks-itself}
@@ -189,14 +189,14 @@ module _ (s : Schema) (l : IsLoose s) (d : Doc) (v : Valid s d) (p : List Token)
   go cs x = fold meaning s x cs
 
   module _ (run : are_run s (t ∷ r) ≡ true) where
-    remove-applies : (m : Mark Attrs) (cur : Marks) → s.mark_attrs m.kind m.attrs ≡ true → FitAt s (unclosed ps p) cur (t ∷ r) → outcome s (RemoveMark from to m) (mix cur) ≡ Ok (mix (remove m cur))
+    remove-applies : (m : Mark Attrs) (cur : Marks) → mark_attrs s m.kind m.attrs ≡ true → FitAt s (unclosed ps p) cur (t ∷ r) → outcome s (RemoveMark from to m) (mix cur) ≡ Ok (mix (remove m cur))
     remove-applies m cur kn f =
         let e : effect s d.kind (RemoveMark from to m) (mix cur).tokens ≡ (mix (remove m cur)).tokens =
         remove-at s d.kind (here cur) m ∙ ap (λ z. p ++ (z ++ news)) (dress-removed s m (unclosed ps p) cur (t ∷ r) run) in
         known-made s (RemoveMark from to m) (mix cur) kn ∙ ok-unless _ Range _ (mix (remove m cur)) (ordered cur) (ok-unless _ Pair _ (mix (remove m cur)) (unparted cur)
         (subst (λ z. checked s (with_tokens d z) ≡ Ok (mix (remove m cur))) (sym e) (mixed (remove m cur) (fit-each s (unclosed ps p) cur (remove m cur) (t ∷ r) (λ q h. fit-removed s q m cur h) f))))
 
-    add-applies : (m : Mark Attrs) (cur : Marks) → s.mark_attrs m.kind m.attrs ≡ true → FitAt s (unclosed ps p) (add s m cur) (t ∷ r) → allowed s (unclosed ps p) m (t ∷ r) ≡ true → outcome s (AddMark from to m) (mix cur) ≡ Ok (mix (add s m cur))
+    add-applies : (m : Mark Attrs) (cur : Marks) → mark_attrs s m.kind m.attrs ≡ true → FitAt s (unclosed ps p) (add s m cur) (t ∷ r) → allowed s (unclosed ps p) m (t ∷ r) ≡ true → outcome s (AddMark from to m) (mix cur) ≡ Ok (mix (add s m cur))
     add-applies m cur kn f a =
         let e : effect s d.kind (AddMark from to m) (mix cur).tokens ≡ (mix (add s m cur)).tokens =
         add-at s d.kind (here cur) m ∙ ap (λ z. p ++ (z ++ news)) (dress-added s m (unclosed ps p) cur (t ∷ r) run a) in
@@ -206,7 +206,7 @@ module _ (s : Schema) (l : IsLoose s) (d : Doc) (v : Valid s d) (p : List Token)
     removes-apply : (ms cur : Marks) (rest : List Step) → have_attrs s ms ≡ true → FitAt s (unclosed ps p) cur (t ∷ r) → go (map (λ m. RemoveMark from to m) ms ++ rest) (mix cur) ≡ go rest (mix (remove_each ms cur))
     removes-apply [] cur rest kn f = refl
     removes-apply (m ∷ ms) cur rest kn f =
-        let k = and_parts (s.mark_attrs m.kind m.attrs) (have_attrs s ms) kn in
+        let k = and_parts (mark_attrs s m.kind m.attrs) (have_attrs s ms) kn in
         ap (λ z. then_some meaning s z (λ x. go (map (λ m. RemoveMark from to m) ms ++ rest) x)) (remove-applies m cur k.0 f)
         ∙ removes-apply ms (remove m cur) rest k.1 (fit-each s (unclosed ps p) cur (remove m cur) (t ∷ r) (λ q h. fit-removed s q m cur h) f)
 
@@ -223,7 +223,7 @@ module _ (s : Schema) (l : IsLoose s) (d : Doc) (v : Valid s d) (p : List Token)
         let k : cur ++ (m ∷ ms) ≡ (cur ++ (m ∷ [])) ++ ms = sym (append_assoc cur (m ∷ []) ms) in
         let g : FitAt s (unclosed ps p) ((cur ++ (m ∷ [])) ++ ms) (t ∷ r) = subst (λ z. FitAt s (unclosed ps p) z (t ∷ r)) k f in
         let h : FitAt s (unclosed ps p) (add s m cur) (t ∷ r) = subst (λ z. FitAt s (unclosed ps p) z (t ∷ r)) (sym e) (fit-each s (unclosed ps p) ((cur ++ (m ∷ [])) ++ ms) (cur ++ (m ∷ [])) (t ∷ r) (λ q h. fit-front s q (cur ++ (m ∷ [])) ms h) g) in
-        let n = and_parts (s.mark_attrs m.kind m.attrs) (have_attrs s ms) (known-behind s cur (m ∷ ms) (suit-known s (head_of (unclosed ps p)) (cur ++ (m ∷ ms)) f.0)) in
+        let n = and_parts (mark_attrs s m.kind m.attrs) (have_attrs s ms) (known-behind s cur (m ∷ ms) (suit-known s (head_of (unclosed ps p)) (cur ++ (m ∷ ms)) f.0)) in
         ap (λ z. then_some meaning s z (λ x. go (map (λ m. AddMark from to m) ms ++ rest) x)) (add-applies m cur n.0 h b.0)
         ∙ (ap (λ z. go (map (λ m. AddMark from to m) ms ++ rest) (mix z)) e
         ∙ (adds-apply ms (cur ++ (m ∷ [])) rest (subst (λ z. is_set s z ≡ true) k w) g b.1 ∙ ap (λ z. go rest (mix z)) (sym k)))

@@ -4,7 +4,7 @@ use Rattle.std.proofs.lemmas.Bool.{le-leb, and_parts, and_from}
 use Rattle.std.proofs.Common.{refl, ap, sym, ◌∙◌, subst, arith, append_assoc}
 use Rattle.pm_change.specs.Changes.{fold, then_some}
 use Rattle.pm_tokens.specs.Tokens.{Marks, Token, Open, Close, Leaf, CodeUnit, Doc, with_tokens}
-use Rattle.pm_tokens.specs.Schemas.{Schema}
+use Rattle.pm_tokens.specs.Schemas.{Schema, mark_attrs}
 use Rattle.pm_tokens.specs.Scan.{head_of, unclosed, ends_high, parts_pair}
 use Rattle.pm_tokens.specs.Marks.{is_set, have_attrs}
 use Rattle.pm_tokens.specs.Faults.{Valid}
@@ -75,7 +75,7 @@ module _ (s : Schema) (l : IsLoose s) (d : Doc) (v : Valid s d) (p : List Token)
   removes-apply [] cur rest kn w = refl
   removes-apply (m ∷ ms) cur rest kn w =
       let next : Suits (remove m cur) = fit-removed s (head_of ps) m cur w in
-      let k = and_parts (s.mark_attrs m.kind m.attrs) (have_attrs s ms) kn in
+      let k = and_parts (mark_attrs s m.kind m.attrs) (have_attrs s ms) kn in
       ap (λ z. then_some meaning s z (λ x. go (map (λ m. RemoveNodeMark pos m) ms ++ rest) x)) (known-made s (RemoveNodeMark pos m) (mix cur) k.0 ∙ outcome-is (remove m) cur next)
       ∙ removes-apply ms (remove m cur) rest k.1 next
 
@@ -90,7 +90,7 @@ module _ (s : Schema) (l : IsLoose s) (d : Doc) (v : Valid s d) (p : List Token)
       let k : cur ++ (m ∷ ms) ≡ (cur ++ (m ∷ [])) ++ ms = sym (append_assoc cur (m ∷ []) ms) in
       let g : Suits ((cur ++ (m ∷ [])) ++ ms) = subst Suits k w in
       let next : Suits (add s m cur) = subst Suits (sym e) (fit-front s (head_of ps) (cur ++ (m ∷ [])) ms g) in
-      let kn = and_parts (s.mark_attrs m.kind m.attrs) (have_attrs s ms) (known-behind s cur (m ∷ ms) (suit-known s (head_of ps) (cur ++ (m ∷ ms)) w)) in
+      let kn = and_parts (mark_attrs s m.kind m.attrs) (have_attrs s ms) (known-behind s cur (m ∷ ms) (suit-known s (head_of ps) (cur ++ (m ∷ ms)) w)) in
       ap (λ z. then_some meaning s z (λ x. go (map (λ m. AddNodeMark pos m) ms ++ rest) x)) (known-made s (AddNodeMark pos m) (mix cur) kn.0 ∙ outcome-is (add s m) cur next)
       ∙ (ap (λ z. go (map (λ m. AddNodeMark pos m) ms ++ rest) (mix z)) e
       ∙ (adds-apply ms (cur ++ (m ∷ [])) rest (subst (λ z. is_set s z ≡ true) k h) g ∙ ap (λ z. go rest (mix z)) (sym k)))

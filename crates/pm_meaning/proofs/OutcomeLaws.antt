@@ -44,7 +44,7 @@ fault-none (Some at) d n h = absurd (cc)
 -- a document that was checked is the result, and has no fault
 pub checked-ok : (s : Schema) (d n : Doc) → checked s d ≡ Ok n → (n ≡ d) × (fault_place s d ≡ None)
 checked-ok s d n h =
-    let a = unless-ok (nat_le (length d.tokens) max_size) Large _ n h in
+    let a = unless-ok (nat_le (length d.tokens) (max_size s)) Large _ n h in
     let b = unless-ok _ Deep (unless_fault (fault_place s d) d) n a.1 in
     let c = fault-none (fault_place s d) d n b.1 in
     (c.1, c.0)
@@ -56,7 +56,7 @@ valid-checks s d v = rw (valid-size s d v, valid-depth s d v, valid-place s d v)
 -- and a whole number of nodes that passes them is valid
 pub checks-valid : (s : Schema) (d : Doc) → is_whole d.tokens ≡ true → checked s d ≡ Ok d → Valid s d
 checks-valid s d w h =
-    let a = unless-ok (nat_le (length d.tokens) max_size) Large _ d h in
+    let a = unless-ok (nat_le (length d.tokens) (max_size s)) Large _ d h in
     let b = unless-ok (nat_le (deepest 0 d.tokens) max_depth) Deep (unless_fault (fault_place s d) d) d a.1 in
     let c = fault-none (fault_place s d) d d b.1 in
     place-valid s d w a.0 b.0 c.0

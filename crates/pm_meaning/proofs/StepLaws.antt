@@ -12,20 +12,23 @@ use Rattle.pm_marks.specs.Sets.{same_marks, has}
 use Rattle.pm_marks.specs.declared.mark.Mark.{Mark}
 use Rattle.pm_tokens.specs.Faults.{Valid}
 use Rattle.pm_tokens.specs.Scan.{unclosed, unmet, is_whole}
-use Rattle.pm_tokens.specs.Schemas.{Schema}
+use Rattle.pm_tokens.specs.Schemas.{Schema, max_size}
+use Rattle.pm_tokens.proofs.SchemaLaws.{max-size-small}
 use Rattle.pm_tokens.specs.Tokens.{Token, Open, Close, Leaf, CodeUnit, Doc, marks_of, Attrs, Marks}
 use Rattle.pm_tokens.proofs.ScanLaws.{unclosed-append, unmet-append, whole-of, of-whole}
-use Rattle.pm_meaning.specs.Inverses.{gives, one_or, one_or_runs, node_marks, add_node_back, added_back, first_lost, inverse, replace_back, around_back}
+use Rattle.pm_meaning.specs.Inverses.{gives, one_or, one_or_runs, node_marks, add_node_back, added_back, first_lost, inverse, replace_back, around_back, attr_back, doc_attr_back}
 use Rattle.pm_meaning.specs.Maps.{step_map, is_within}
 use Rattle.pm_meaning.specs.Marked.{add, remove, takes_marks, mark_added, mark_removed, marked, node_marked}
 use Rattle.pm_meaning.specs.Meanings.{meaning}
 use Rattle.pm_meaning.specs.Outcomes.{range_outcome, node_outcome, outcome}
 use Rattle.pm_meaning.specs.Runs.{Run, node_steps, close_run, continues, next_run, due, run_steps}
 use Rattle.pm_meaning.specs.declared.reason.Reason.{Reason}
-use Rattle.pm_meaning.specs.Steps.{Step, Replace, ReplaceAround, AddMark, RemoveMark, AddNodeMark, RemoveNodeMark}
+use Rattle.pm_meaning.specs.Steps.{Step, Replace, ReplaceAround, AddMark, RemoveMark, AddNodeMark, RemoveNodeMark, Attr, DocAttr}
 use Rattle.pm_meaning.proofs.AroundLaws.{moved, around-valid, around-restored}
 use Rattle.pm_meaning.proofs.EffectLaws.{after, Alike}
 use Rattle.pm_meaning.proofs.MarkStepLaws.{range-alike, node-alike, range-effect, range-order, range-checks, node-effect, node-order, node-checks, range-restores, node-restores}
+use Rattle.pm_meaning.proofs.MarkingSteps.{add-back-marking, remove-back-marking}
+use Rattle.pm_meaning.proofs.AttributeLaws.{attr-made, attr-valid, attr-same-size, attr-restored, doc-valid, doc-same-tokens, doc-restored}
 use Rattle.pm_meaning.proofs.OutcomeLaws.{made-ok, checks-valid}
 use Rattle.pm_meaning.proofs.ReplaceLaws.{replaced, replace-valid, replace-restored}
 use Rattle.pm_meaning.proofs.TokenMarks.{set_marks}
@@ -222,9 +225,11 @@ good s (AddMark from to m) d next v h = (add-marking s d next v from to m h).val
 good s (RemoveMark from to m) d next v h = (remove-marking s d next v from to m h).valid
 good s (AddNodeMark p m) d next v h = (add-node-marking s d next v p m h).valid
 good s (RemoveNodeMark p m) d next v h = (remove-node-marking s d next v p m h).valid
+good s (Attr p name value) d next v h = attr-valid s p name value d next v h
+good s (DocAttr name value) d next v h = doc-valid s name value d next v h
 
 pub small : (s : Schema) (d : Doc) → Valid s d → length d.tokens < 2 ^ 32
-small s d v = let l : length d.tokens ≤ 500000 = v.size in omega (arith, l)
+small s d v = let l : length d.tokens ≤ max_size s = v.size in omega (arith, l, max-size-small s)
 
 one-back : (s : Schema) (b : Step) (d next back : Doc) → outcome s b next ≡ Ok d → fold meaning s next (b ∷ []) ≡ Some back → back ≡ d
 one-back s b d next back h f =
@@ -238,12 +243,14 @@ pub restores : (s : Schema) (c : Step) (d next back : Doc) → Valid s d → out
 restores s (Replace from to sl st) d next back v h f = one-back s (replace_back d from to sl) d next back (replace-restored s from to sl d next v (replaced s from to sl st d next h)) f
 restores s (ReplaceAround from to gf gt sl ins st) d next back v h f =
     one-back s (around_back d from to gf gt sl ins st) d next back (around-restored s from to gf gt sl ins st d next v (moved s from to gf gt sl ins st d next h)) f
-restores s (AddMark from to m) d next back v h f = range-restores s d v (mark_added s m) from to (RemoveMark from to m) next back (made-ok s (AddMark from to m) d next h).1 f
-restores s (RemoveMark from to m) d next back v h f = range-restores s d v (mark_removed s m) from to (AddMark from to m) next back (made-ok s (RemoveMark from to m) d next h).1 f
+restores s (AddMark from to m) d next back v h f = range-restores s d v (mark_added s m) from to (RemoveMark from to m) next back refl (made-ok s (AddMark from to m) d next h).1 f
+restores s (RemoveMark from to m) d next back v h f = range-restores s d v (mark_removed s m) from to (AddMark from to m) next back refl (made-ok s (RemoveMark from to m) d next h).1 f
 restores s (AddNodeMark p m) d next back v h f =
-    let old = node_marks (drop p d.tokens) in node-restores s d v (add s m) p (add_node_back p m old (add s m old)) next back (made-ok s (AddNodeMark p m) d next h).1 f
+    let old = node_marks (drop p d.tokens) in node-restores s d v (add s m) p (add_node_back p m old (add s m old)) next back (add-back-marking p m old (add s m old)) (made-ok s (AddNodeMark p m) d next h).1 f
 restores s (RemoveNodeMark p m) d next back v h f =
-    node-restores s d v (remove m) p (cond (has same_attrs (node_marks (drop p d.tokens)) m) (AddNodeMark p m) (RemoveNodeMark p m)) next back (made-ok s (RemoveNodeMark p m) d next h).1 f
+    node-restores s d v (remove m) p (cond (has same_attrs (node_marks (drop p d.tokens)) m) (AddNodeMark p m) (RemoveNodeMark p m)) next back (remove-back-marking p m (node_marks (drop p d.tokens))) (made-ok s (RemoveNodeMark p m) d next h).1 f
+restores s (Attr p name value) d next back v h f = one-back s (attr_back s p name d) d next back (attr-restored s p name value d next v h) f
+restores s (DocAttr name value) d next back v h f = one-back s (doc_attr_back s name d) d next back (doc-restored s name value d next v h) f
 
 no-range : (n k : ℕ) → k ≡ n → FitsSizes [] n k
 no-range n k e = (omega arith, sym e)
@@ -255,6 +262,8 @@ fits s (AddMark from to m) d next v h = no-range (length d.tokens) (length next.
 fits s (RemoveMark from to m) d next v h = no-range (length d.tokens) (length next.tokens) (remove-marking s d next v from to m h).same_size
 fits s (AddNodeMark p m) d next v h = no-range (length d.tokens) (length next.tokens) (add-node-marking s d next v p m h).same_size
 fits s (RemoveNodeMark p m) d next v h = no-range (length d.tokens) (length next.tokens) (remove-node-marking s d next v p m h).same_size
+fits s (Attr p name value) d next v h = no-range (length d.tokens) (length next.tokens) (attr-same-size s p name value d next v h)
+fits s (DocAttr name value) d next v h = no-range (length d.tokens) (length next.tokens) (ap length (doc-same-tokens s name value d next v h))
 
 pub within : (s : Schema) (c : Step) (d next : Doc) → Valid s d → outcome s c d ≡ Ok next → is_within c (length d.tokens)
 within s (Replace from to sl st) d next v h = maps.replace-within s from to sl st d next v h
@@ -263,6 +272,8 @@ within s (AddMark from to m) d next v h = (add-marking s d next v from to m h).w
 within s (RemoveMark from to m) d next v h = (remove-marking s d next v from to m h).within
 within s (AddNodeMark p m) d next v h = (add-node-marking s d next v p m h).within
 within s (RemoveNodeMark p m) d next v h = (remove-node-marking s d next v p m h).within
+within s (Attr p name value) d next v h = (attr-made s p name value d next v h).ordered
+within s (DocAttr name value) d next v h = tt
 
 pub inverse_within : (s : Schema) (c : Step) (d next : Doc) → Valid s d → outcome s c d ≡ Ok next → All (λ b. is_within b (length next.tokens)) (inverse s c d)
 inverse_within s (Replace from to sl st) d next v h =
@@ -273,6 +284,9 @@ inverse_within s (AddMark from to m) d next v h = within-of (length next.tokens)
 inverse_within s (RemoveMark from to m) d next v h = within-of (length next.tokens) (inverse s (RemoveMark from to m) d) (remove-marking s d next v from to m h).back
 inverse_within s (AddNodeMark p m) d next v h = within-of (length next.tokens) (inverse s (AddNodeMark p m) d) (add-node-marking s d next v p m h).back
 inverse_within s (RemoveNodeMark p m) d next v h = within-of (length next.tokens) (inverse s (RemoveNodeMark p m) d) (remove-node-marking s d next v p m h).back
+inverse_within s (Attr p name value) d next v h =
+    All-from_recursion (λ b. is_within b (length next.tokens)) (attr_back s p name d ∷ []) (subst (λ n. p ≤ n) (sym (attr-same-size s p name value d next v h)) (attr-made s p name value d next v h).ordered, tt)
+inverse_within s (DocAttr name value) d next v h = All-from_recursion (λ b. is_within b (length next.tokens)) (doc_attr_back s name d ∷ []) (tt, tt)
 
 pub inverse_map : (s : Schema) (c : Step) (d next : Doc) → Valid s d → outcome s c d ≡ Ok next → HasInverseMap meaning s (step_map c) (inverse s c d)
 inverse_map s (Replace from to sl st) d next v h = maps.replace-inverse-map s from to sl st d next v h
@@ -281,3 +295,5 @@ inverse_map s (AddMark from to m) d next v h = map-of (length next.tokens) (inve
 inverse_map s (RemoveMark from to m) d next v h = map-of (length next.tokens) (inverse s (RemoveMark from to m) d) (remove-marking s d next v from to m h).back
 inverse_map s (AddNodeMark p m) d next v h = map-of (length next.tokens) (inverse s (AddNodeMark p m) d) (add-node-marking s d next v p m h).back
 inverse_map s (RemoveNodeMark p m) d next v h = map-of (length next.tokens) (inverse s (RemoveNodeMark p m) d) (remove-node-marking s d next v p m h).back
+inverse_map s (Attr p name value) d next v h = All-from_recursion (λ b. step_map b ≡ []) (attr_back s p name d ∷ []) (refl, tt)
+inverse_map s (DocAttr name value) d next v h = All-from_recursion (λ b. step_map b ≡ []) (doc_attr_back s name d ∷ []) (refl, tt)

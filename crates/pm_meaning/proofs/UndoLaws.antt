@@ -1,4 +1,4 @@
--- In a loose schema the inverse of a step that applied applies right after it.
+-- In a loose schema the inverse of a step that applied applies right after it; that of an attribute step in any.
 use Rattle.std.specs.Prelude.{◌≡◌, ℕ, Bool, true, false, ◌&&◌, not, cond, List, [], ◌∷◌, ◌++◌, length, take, drop, Some, None, Result, Ok, Err}
 use Rattle.std.proofs.lemmas.List.{take-append-drop}
 use Rattle.std.proofs.Common.{refl, ap, sym, ◌∙◌, subst, arith, length-take}
@@ -15,11 +15,11 @@ use Rattle.pm_tokens.specs.Loose.{IsLoose}
 use Rattle.pm_tokens.proofs.ValidLaws.{valid-tokens, pair-free}
 use Rattle.pm_meaning.specs.declared.reason.Reason.{Reason}
 use Rattle.pm_meaning.specs.declared.reason.Reason.TheVariants.{Range, Pair, NoNode}
-use Rattle.pm_meaning.specs.Steps.{Step, Replace, ReplaceAround, AddMark, RemoveMark, AddNodeMark, RemoveNodeMark}
+use Rattle.pm_meaning.specs.Steps.{Step, Replace, ReplaceAround, AddMark, RemoveMark, AddNodeMark, RemoveNodeMark, Attr, DocAttr}
 use Rattle.pm_meaning.specs.Marked.{add, remove, mark_added, mark_removed, marked, starts_node, with_node_marks, node_marked}
 use Rattle.pm_meaning.specs.Outcomes.{checked, and_unless, in_order, parts_no_pair, range_outcome, node_outcome, outcome}
 use Rattle.pm_meaning.specs.Runs.{node_steps, run_steps}
-use Rattle.pm_meaning.specs.Inverses.{gives, one_or, one_or_runs, node_marks, add_node_back, inverse, replace_back, around_back}
+use Rattle.pm_meaning.specs.Inverses.{gives, one_or, one_or_runs, node_marks, add_node_back, inverse, replace_back, around_back, attr_back, doc_attr_back}
 use Rattle.pm_meaning.specs.Meanings.{meaning}
 use Rattle.pm_meaning.proofs.OutcomeLaws.{unless-ok, made-ok}
 use Rattle.pm_meaning.proofs.MarkSuits.{are_suited}
@@ -31,6 +31,7 @@ use Rattle.pm_meaning.proofs.PairedLaws.{paired-of}
 use Rattle.pm_meaning.proofs.MixedLaws.{shaped-self, paired-rest}
 use Rattle.pm_meaning.proofs.MixedNodes.{node-applies}
 use Rattle.pm_meaning.proofs.LooseRuns.{runs-apply}
+use Rattle.pm_meaning.proofs.AttributeLaws.{attr-restored, doc-restored}
 use Rattle.pm_meaning.proofs.StepLaws.{good}
 use Rattle.std.proofs.lemmas.Bool.{and_parts}
 
@@ -127,3 +128,5 @@ undoes s (AddNodeMark p m) d next l v h =
 undoes s (RemoveNodeMark p m) d next l v h =
     let old = node_marks (drop p d.tokens) in
     node-undoes s l d v (remove m) p (cond (has same_attrs old m) (AddNodeMark p m) (RemoveNodeMark p m)) next (good s (RemoveNodeMark p m) d next v h) (made-ok s (RemoveNodeMark p m) d next h).1
+undoes s (Attr p name value) d next l v h = one-applies s (attr_back s p name d) next d (attr-restored s p name value d next v h)
+undoes s (DocAttr name value) d next l v h = one-applies s (doc_attr_back s name d) next d (doc-restored s name value d next v h)

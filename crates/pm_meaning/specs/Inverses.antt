@@ -1,5 +1,6 @@
 -- The steps that take a step back.
 use Rattle.std.specs.Prelude.{ℕ, ◌+◌, ◌-◌, Bool, true, false, ◌&&◌, cond, ◌==◌, List, [], ◌∷◌, length, take, drop, Option, Some, None, Result, Ok, Err}
+use Rattle.pm_value.specs.Plain.{Plain}
 use Rattle.pm_attrs.specs.Attrs.{same_attrs}
 use Rattle.pm_marks.specs.declared.mark.Mark.{Mark}
 use Rattle.pm_marks.specs.Sets.{same_marks, has}
@@ -8,8 +9,9 @@ use Rattle.pm_tokens.specs.Schemas.{Schema}
 use Rattle.pm_tokens.specs.Scan.{closes_then_opens}
 use Rattle.pm_tokens.specs.Slices.{Slice, slice_size, slice_tokens, cut, cut_around}
 use Rattle.pm_meaning.specs.declared.reason.Reason.{Reason}
-use Rattle.pm_meaning.specs.Steps.{Step, Replace, ReplaceAround, AddMark, RemoveMark, AddNodeMark, RemoveNodeMark}
+use Rattle.pm_meaning.specs.Steps.{Step, Replace, ReplaceAround, AddMark, RemoveMark, AddNodeMark, RemoveNodeMark, Attr, DocAttr}
 use Rattle.pm_meaning.specs.Marked.{add, remove, mark_added, mark_removed, marked, node_marked}
+use Rattle.pm_meaning.specs.Attributes.{place_among, value_at, node_kind, node_values}
 use Rattle.pm_meaning.specs.Outcomes.{outcome}
 use Rattle.pm_meaning.specs.Runs.{node_steps, run_steps}
 
@@ -76,6 +78,21 @@ added_back pos mark (Some m) = AddNodeMark pos m
 abbrev pub add_node_back : ℕ → Mark Attrs → Marks → Marks → Step
 add_node_back pos mark old new = cond (length new == length old) (added_back pos mark (first_lost old new)) (RemoveNodeMark pos mark)
 
+-- ---- attributes
+
+-- the value that the named attribute of a type has among these
+abbrev pub old_value : Schema → ℕ → List ℕ → Attrs → Plain
+old_value s kind name values = value_at values (place_among (s.node_declares kind) name)
+
+-- the attribute of the node at a position gets its old value back, and likewise that of the top node
+abbrev pub attr_back : Schema → ℕ → List ℕ → Doc → Step
+attr_back s pos name d = let here = drop pos d.tokens in Attr pos name (old_value s (node_kind here) name (node_values here))
+
+abbrev pub doc_attr_back : Schema → List ℕ → Doc → Step
+doc_attr_back s name d = DocAttr name (old_value s d.kind name d.attrs)
+
+-- ---- all kinds
+
 -- the steps that take a step back, which was made on this document
 abbrev pub inverse : Schema → Step → Doc → List Step
 inverse s (Replace from to sl structure) d = replace_back d from to sl ∷ []
@@ -88,3 +105,5 @@ inverse s (AddNodeMark pos mark) d =
 inverse s (RemoveNodeMark pos mark) d =
     let old = node_marks (drop pos d.tokens) in
     one_or s (cond (has same_attrs old mark) (AddNodeMark pos mark) (RemoveNodeMark pos mark)) (node_steps pos old (remove mark old)) d (node_marked (remove mark) pos d)
+inverse s (Attr pos name value) d = attr_back s pos name d ∷ []
+inverse s (DocAttr name value) d = doc_attr_back s name d ∷ []

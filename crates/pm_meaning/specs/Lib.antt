@@ -1,5 +1,6 @@
 pub mod Steps
 pub mod Marked
+pub mod Attributes
 pub mod Known
 pub mod Outcomes
 pub mod Runs

@@ -6,13 +6,13 @@ use Rattle.pm_map.specs.declared.step_map.Moved.{Moved}
 use Rattle.pm_map.specs.declared.mapping.Mirrored.{Mirrored}
 use Rattle.pm_map.specs.Through.{through}
 use Rattle.pm_tokens.specs.Slices.{Slice, slice_size}
-use Rattle.pm_meaning.specs.Steps.{Step, Replace, ReplaceAround, AddMark, RemoveMark, AddNodeMark, RemoveNodeMark}
+use Rattle.pm_meaning.specs.Steps.{Step, Replace, ReplaceAround, AddMark, RemoveMark, AddNodeMark, RemoveNodeMark, Attr, DocAttr}
 
 -- a range from a position, with its old and its new size
 abbrev pub span : ℕ → ℕ → ℕ → Span
 span start old_size new_size = record { start = start; old_size = old_size; new_size = new_size }
 
--- the ranges that a step replaces: one, or one before the gap and one behind it; a step that changes marks has none
+-- the ranges that a step replaces: one, or one before the gap and one behind it; a step that changes marks or attributes has none
 abbrev pub step_map : Step → List Span
 step_map (Replace from to sl structure) = span from (to - from) (slice_size sl) ∷ []
 step_map (ReplaceAround from to gap_from gap_to sl insert structure) =
@@ -21,6 +21,8 @@ step_map (AddMark from to mark) = []
 step_map (RemoveMark from to mark) = []
 step_map (AddNodeMark p mark) = []
 step_map (RemoveNodeMark p mark) = []
+step_map (Attr p name value) = []
+step_map (DocAttr name value) = []
 
 -- a position over a mapping by `After`, and by `Before`
 abbrev pub ahead : List Mirrored → ℕ → Moved
@@ -50,7 +52,7 @@ abbrev pub carry_node : (ℕ → Step) → Moved → Option Step
 carry_node make p = if p.after then None else Some (make p.pos)
 
 -- The step over a mapping, None where it is lost. Ends of a gap go with the ends of the step where they are the same
--- positions, and else outwards.
+-- positions, and else outwards. The top node is always there.
 abbrev pub carry : Step → List Mirrored → Option Step
 carry (Replace from to sl structure) ms = carry_replace (ahead ms from) (back ms to) sl structure
 carry (ReplaceAround from to gap_from gap_to sl insert structure) ms =
@@ -62,6 +64,8 @@ carry (AddMark from to mark) ms = carry_range (λ f t. AddMark f t mark) (ahead 
 carry (RemoveMark from to mark) ms = carry_range (λ f t. RemoveMark f t mark) (ahead ms from) (back ms to)
 carry (AddNodeMark p mark) ms = carry_node (λ q. AddNodeMark q mark) (ahead ms p)
 carry (RemoveNodeMark p mark) ms = carry_node (λ q. RemoveNodeMark q mark) (ahead ms p)
+carry (Attr p name value) ms = carry_node (λ q. Attr q name value) (ahead ms p)
+carry (DocAttr name value) ms = Some (DocAttr name value)
 
 -- the positions are in order and do not pass the size, and what is inserted before the gap does not pass the slice
 abbrev pub is_within : Step → ℕ → Type 0
@@ -72,3 +76,5 @@ is_within (AddMark from to mark) n = (from ≤ to) × (to ≤ n)
 is_within (RemoveMark from to mark) n = (from ≤ to) × (to ≤ n)
 is_within (AddNodeMark p mark) n = p ≤ n
 is_within (RemoveNodeMark p mark) n = p ≤ n
+is_within (Attr p name value) n = p ≤ n
+is_within (DocAttr name value) n = Unit {0}

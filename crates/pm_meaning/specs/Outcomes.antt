@@ -1,14 +1,16 @@
 -- What a step makes of a document: the next document, or the first reason why it does not apply.
 use Rattle.std.specs.Prelude.{ℕ, Bool, true, false, ◌&&◌, ◌||◌, not, nat_le, List, [], ◌∷◌, length, drop, Option, Some, None, Result, Ok, Err}
+use Rattle.pm_value.specs.Plain.{Plain}
 use Rattle.pm_tokens.specs.Tokens.{Marks, Token, Doc, with_tokens}
 use Rattle.pm_tokens.specs.Scan.{is_whole, plain, joins, part, closes_then_opens, parts_pair, deepest}
 use Rattle.pm_tokens.specs.Schemas.{Schema, compatible, max_size, max_depth}
 use Rattle.pm_tokens.specs.Faults.{fault_place}
 use Rattle.pm_tokens.specs.Slices.{is_slice, slice_size, slice_tokens, spliced, spliced_around, depths_fit}
 use Rattle.pm_meaning.specs.declared.reason.Reason.{Reason}
-use Rattle.pm_meaning.specs.declared.reason.Reason.TheVariants.{Range, Structure, Gap, Depth, Pair, Join, Large, Deep, Content, NoNode, NotInSchema}
-use Rattle.pm_meaning.specs.Steps.{Step, Replace, ReplaceAround, AddMark, RemoveMark, AddNodeMark, RemoveNodeMark}
+use Rattle.pm_meaning.specs.declared.reason.Reason.TheVariants.{Range, Structure, Gap, Depth, Pair, Join, Large, Deep, Content, NoNode, NoAttribute, BadValue, NotInSchema}
+use Rattle.pm_meaning.specs.Steps.{Step, Replace, ReplaceAround, AddMark, RemoveMark, AddNodeMark, RemoveNodeMark, Attr, DocAttr}
 use Rattle.pm_meaning.specs.Known.{knows_step}
+use Rattle.pm_meaning.specs.Attributes.{place_among, allows_among, node_kind, node_valued, top_valued}
 use Rattle.pm_meaning.specs.Marked.{add, remove, mark_added, mark_removed, marked, starts_node, node_marked}
 
 -- ---- tests
@@ -41,7 +43,7 @@ unless_fault (Some at) d = Err (Content at)
 -- the document, or the first of Large, Deep and Content
 abbrev pub checked : Schema → Doc → Result Doc Reason
 checked s d =
-    unless (nat_le (length d.tokens) max_size) Large
+    unless (nat_le (length d.tokens) (max_size s)) Large
     (unless (nat_le (deepest 0 d.tokens) max_depth) Deep
     (unless_fault (fault_place s d) d))
 
@@ -67,6 +69,19 @@ node_outcome s f pos d =
     (and_unless (starts_node (drop pos d.tokens)) NoNode
     (checked s (node_marked f pos d))))
 
+-- what the place gives, unless there is none
+abbrev pub at_place : {A : Type 0} → Option ℕ → (ℕ → Result A Reason) → Result A Reason
+at_place None next = Err NoAttribute
+at_place (Some i) next = next i
+
+-- Of a step that gives an attribute of a node of this type a value: what it makes of the document, by the attribute's place,
+-- unless the type has no such attribute, or names kinds for it of which the value is none.
+abbrev pub attr_outcome : Schema → ℕ → List ℕ → Plain → (ℕ → Doc) → Result Doc Reason
+attr_outcome s kind name value changed =
+    at_place (place_among (s.node_declares kind) name) (λ i.
+    unless (allows_among (s.node_declares kind) i value) BadValue
+    (checked s (changed i)))
+
 -- The document, or the first reason in the order of the tests that look at the document. Every slice that there is passes the
 -- first test, which is there for values that are none.
 abbrev pub made : Schema → Step → Doc → Result Doc Reason
@@ -91,6 +106,12 @@ made s (AddMark from to mark) d = range_outcome s (mark_added s mark) from to d
 made s (RemoveMark from to mark) d = range_outcome s (mark_removed s mark) from to d
 made s (AddNodeMark pos mark) d = node_outcome s (add s mark) pos d
 made s (RemoveNodeMark pos mark) d = node_outcome s (remove mark) pos d
+made s (Attr pos name value) d =
+    unless (in_order (pos ∷ []) (length d.tokens)) Range
+    (unless (parts_no_pair d.tokens (pos ∷ [])) Pair
+    (unless (starts_node (drop pos d.tokens)) NoNode
+    (attr_outcome s (node_kind (drop pos d.tokens)) name value (λ i. node_valued i value pos d))))
+made s (DocAttr name value) d = attr_outcome s d.kind name value (λ i. top_valued i value d)
 
 -- the document, or the first reason, where the last is that the schema does not know the step
 abbrev pub outcome : Schema → Step → Doc → Result Doc Reason

@@ -1,7 +1,8 @@
 //! Why a step does not apply.
 use thiserror::Error;
 
-/// Why a step does not apply to a document, in the order in which it is decided: the first that holds is the answer.
+/// Why a step does not apply to a document, in the order in which it is decided: the first that holds is the answer. For a step
+/// that changes an attribute NoNode, NoAttribute and BadValue come before Large, Deep and Content.
 #[derive(Clone, Copy, Debug, PartialEq, Eq, Error)]
 pub enum Reason {
     /// The positions are not in order or pass the size of the content, or `insert` passes the size of the slice.
@@ -35,9 +36,12 @@ pub enum Reason {
     /// No node begins at the position.
     #[error("no node is there")]
     NoNode,
-    /// The node's type has no such attribute. No step of the six kinds answers it.
+    /// The type of the node that begins at the position, or of the top node, declares no attribute of the step's name.
     #[error("no such attribute")]
     NoAttribute,
+    /// The attribute names kinds of values, and the step's value is of none of them.
+    #[error("the attribute takes no value of this kind")]
+    BadValue,
     /// The document would do, but the schema does not know the step: its mark, or a node that is open at the start of its slice,
     /// has a type, attributes or marks that are none of the schema, so that the step could not be written and read back.
     #[error("the step's mark or an open node of its slice is not of the schema")]

@@ -5,7 +5,7 @@ use pm_marks::Mark;
 use pm_node::Node;
 use pm_slice::Slice;
 use pm_step::Step;
-use pm_value::Text;
+use pm_value::{Text, Value};
 
 /// An edit of a document. Positions are in tokens, and depths in nodes around a position.
 #[derive(Drop)]
@@ -70,6 +70,17 @@ pub enum Op {
         from: u64,
         to: u64,
         mark: Mark<Attrs>,
+    },
+    /// Gives an attribute of the node that begins at `pos` another value.
+    SetAttr {
+        pos: u64,
+        attr: Text,
+        value: Value,
+    },
+    /// Gives an attribute of the document's top node another value.
+    SetDocAttr {
+        attr: Text,
+        value: Value,
     },
     /// Makes this step.
     Step(Step),

@@ -38,25 +38,25 @@ fails false r x h = refl
 
 -- ---- the check
 
-pub too-large : (s : Schema) (d : Doc) → max_size < length d.tokens → checked s d ≡ Err Large
-too-large s d h = let e : nat_le (length d.tokens) max_size ≡ false = lt-leb (length d.tokens) max_size h in fails (nat_le (length d.tokens) max_size) Large _ e
+pub too-large : (s : Schema) (d : Doc) → max_size s < length d.tokens → checked s d ≡ Err Large
+too-large s d h = let e : nat_le (length d.tokens) (max_size s) ≡ false = lt-leb (length d.tokens) (max_size s) h in fails (nat_le (length d.tokens) (max_size s)) Large _ e
 
-module _ (s : Schema) (d : Doc) (size : length d.tokens ≤ max_size) where
-  fits : nat_le (length d.tokens) max_size ≡ true
-  fits = le-leb (length d.tokens) max_size size
+module _ (s : Schema) (d : Doc) (size : length d.tokens ≤ max_size s) where
+  fits : nat_le (length d.tokens) (max_size s) ≡ true
+  fits = le-leb (length d.tokens) (max_size s) size
 
   pub too-deep : (deepest 0 d.tokens ≤ max_depth → ⊥) → checked s d ≡ Err Deep
   too-deep h =
       let gt : max_depth < deepest 0 d.tokens = omega (arith, h) in
       let e : nat_le (deepest 0 d.tokens) max_depth ≡ false = lt-leb (deepest 0 d.tokens) max_depth gt in
-      passes (nat_le (length d.tokens) max_size) Large _ fits ∙ fails (nat_le (deepest 0 d.tokens) max_depth) Deep _ e
+      passes (nat_le (length d.tokens) (max_size s)) Large _ fits ∙ fails (nat_le (deepest 0 d.tokens) max_depth) Deep _ e
 
   pub by-place : deepest 0 d.tokens ≤ max_depth → checked s d ≡ unless_fault (fault_place s d) d
-  by-place h = passes (nat_le (length d.tokens) max_size) Large _ fits ∙ passes (nat_le (deepest 0 d.tokens) max_depth) Deep _ (le-leb (deepest 0 d.tokens) max_depth h)
+  by-place h = passes (nat_le (length d.tokens) (max_size s)) Large _ fits ∙ passes (nat_le (deepest 0 d.tokens) max_depth) Deep _ (le-leb (deepest 0 d.tokens) max_depth h)
 
 -- where what is around a change stays without a fault, so does the document
 pub stays-checked : (s : Schema) (n : Node) (before after : List Token) (from to new_to : ℕ) → Valid s (doc_with n before) → Changed before after from to new_to → Keeps s n.kind max_depth before after from to new_to
-    → length after ≤ max_size → checked s (doc_with n after) ≡ Ok (doc_with n after)
+    → length after ≤ max_size s → checked s (doc_with n after) ≡ Ok (doc_with n after)
 stays-checked s n before after from to new_to v c keep l =
     let d = doc_with n before in
     let h = keep c (valid-holds s d v) in
@@ -140,7 +140,7 @@ module _ (s : Schema) (d : Doc) (piece : List Owned) where
       by refused.NoMemory h = tt
 
   -- a list that joins and is too large
-  pub large-answers : joins (compatible s) [] piece ≡ true → max_size < length (plain piece) → spliced_outcome s d piece ≡ Err Large
+  pub large-answers : joins (compatible s) [] piece ≡ true → max_size s < length (plain piece) → spliced_outcome s d piece ≡ Err Large
   large-answers g h = passes (joins (compatible s) [] piece) Join _ g ∙ too-large s (with_tokens d (plain piece)) h
 
   -- a list that joins is what the check of it answers

@@ -33,4 +33,4 @@ spliced_outcome s d piece = unless (joins (compatible s) [] piece) reason.Join (
 pub record Made (s : Schema) (piece : List Owned) (ts : List Token) : Type 0 where
   pub joined : joins (compatible s) [] piece ≡ true
   pub is : ts ≡ plain piece
-  pub size : length ts ≤ max_size
+  pub size : length ts ≤ max_size s

@@ -6,20 +6,21 @@ ghost use Rattle.pm_node.specs.Documents.{doc_with};
 ghost use Rattle.pm_node.specs.Changes.{Changed};
 ghost use Rattle.pm_schema.specs.Documents.{documents_of};
 ghost use Rattle.pm_tokens.specs.Faults.{Valid};
+ghost use Rattle.pm_tokens.specs.Schemas.{max_size};
 
 use pm_change::Failed;
 use pm_meaning::Reason;
-use pm_node::{Difference, Document, Fragment, MAX_DEPTH, MAX_SIZE, Node, stays_valid_around};
+use pm_node::{Difference, Document, Fragment, MAX_DEPTH, Node, stays_valid_around};
 use pm_schema::Schema;
 use std::alloc::Global;
 
-/// The document, unless it has more than 500,000 tokens (Large), a position is in more than 48 nodes (Deep), or a node or
+/// The document, unless it has more tokens than the schema allows (Large), a position is in more than 48 nodes (Deep), or a node or
 /// unit has a fault of attributes, marks or children or is a broken unit (Content, with the least such place).
 pub fn checked(alloc: Global, schema: &Schema, doc: Document) -> Result<Document, Failed<Reason>>
     ensures { Answers (checked (documents_of schema.now.spec) doc) result }
 {
     let size = doc.size();
-    if size > MAX_SIZE {
+    if size > schema.max_size() {
         return Err(Failed::Reason(Reason::Large));
     }
     let nests = doc.nests_within(MAX_DEPTH);
@@ -60,7 +61,7 @@ pub fn checked_change(
     requires changed { Changed before.now content change.from change.to change.new_to }
     requires order { change.from ≤ change.to }
     requires new_order { change.from ≤ change.new_to }
-    requires size { length content ≤ MAX_SIZE }
+    requires size { length content ≤ max_size (documents_of schema.now.spec) }
     ensures { Answers (checked (documents_of schema.now.spec) (doc_with top.now content)) result }
 {
     let stays = stays_valid_around(alloc, schema, top.kind, before, &content, change, MAX_DEPTH);

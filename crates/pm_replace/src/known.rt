@@ -1,19 +1,22 @@
 //! Whether a schema knows what a step names, so that the step can be written and read back.
 #![tactic(auto, unfolding(pm_schema::specs::Documents::documents_of))]
 
-ghost use Rattle.std.specs.Prelude.{◌≡◌, ◌&&◌, ◌==◌, [], true, not, length, nat_le, take, IfOk, IsTrue, ◌<◌};
+ghost use Rattle.std.specs.Prelude.{◌≡◌, ◌&&◌, ◌==◌, ◌↔◌, [], true, not, length, nat_le, take, IfOk, IsTrue, ◌<◌};
 ghost use Rattle.std.specs.List.{list_all};
 ghost use Rattle.pm_value.specs.Plain.{depth};
-ghost use Rattle.pm_value.specs.Views.{plains};
+ghost use Rattle.pm_value.specs.Views.{plain, plains};
 ghost use Rattle.pm_attrs.specs.Attrs.{same_attrs};
 ghost use Rattle.pm_marks.specs.Sets.{same_marks, all_added};
 ghost use Rattle.pm_tokens.specs.Tokens.{Open};
 ghost use Rattle.pm_tokens.specs.Marks.{have_attrs, is_set};
+ghost use Rattle.pm_tokens.specs.Schemas.{node_attrs};
 ghost use Rattle.pm_meaning.specs.Known.{knows_mark, knows_open, knows_slice};
+ghost use Rattle.pm_schema.specs.Attrs.{IsType, attrs_of, AreOfKinds};
+ghost use Rattle.pm_schema.specs.Types.{fit_attrs};
 ghost use Rattle.pm_schema.specs.Documents.{documents_of};
 ghost use Rattle.pm_slice.specs.Sides.{opens_first};
 
-use crate::values::values_are_within;
+use crate::values::{value_is_within, values_are_within};
 use pm_attrs::Attrs;
 use pm_auto::TypeId;
 use pm_marks::{Mark, MarkRules, MarkSet};
@@ -31,10 +34,7 @@ pub fn knows_mark(schema: &Schema, mark: &Mark<Attrs>) -> bool
     ensures { result ≡ knows_mark (documents_of schema.now.spec) mark.now }
 {
     mark.kind < schema.mark_count()
-        && values_fit(
-            mark.attrs.values(),
-            schema.attr_count(AnyType::Mark(mark.kind)),
-        )
+        && values_fit(schema, AnyType::Mark(mark.kind), mark.attrs.values())
 }
 
 /// Whether each node that is open at the slice's start is of a type of the schema that is no leaf and not text, with the
@@ -87,22 +87,49 @@ fn knows_open(alloc: Global, schema: &Schema, node: &Node) -> Result<bool, Alloc
 
 /// Whether a node that is no leaf may be of the type, with these attributes.
 fn opens_fit(schema: &Schema, kind: TypeId, attrs: &Attrs) -> bool
-    ensures { result ≡ ((documents_of schema.now.spec).node_attrs kind attrs.now
+    ensures { result ≡ (node_attrs (documents_of schema.now.spec) kind attrs.now
         && (not (kind == (documents_of schema.now.spec).text) && not ((documents_of schema.now.spec).is_leaf kind))) }
 {
     if kind >= schema.node_count() {
         return false;
     }
-    values_fit(attrs.values(), schema.attr_count(AnyType::Node(kind)))
+    values_fit(schema, AnyType::Node(kind), attrs.values())
         && kind != schema.text_type()
         && !schema.is_leaf(kind)
 }
 
-/// Whether there are so many values, none of which nests too deep.
-fn values_fit(values: &[Value], count: usize) -> bool
-    ensures { result ≡ ((length (plains values.now) == count) && list_all (λ v. nat_le (depth v) 4) (plains values.now)) }
+/// Whether the value nests no deeper than that of an attribute may: at most four lists and objects within one another. It takes
+/// no memory.
+pub fn value_is_shallow(value: &Value) -> bool
+    ensures { result ≡ nat_le (depth (plain value.now)) 4 }
 {
-    values.len() == count && values_are_within(values, MAX_VALUE_DEPTH)
+    value_is_within(value, MAX_VALUE_DEPTH)
+}
+
+/// Whether there is one value for each attribute of the type, none nests too deep, and each is of a kind that its attribute
+/// names.
+fn values_fit(schema: &Schema, kind: AnyType, values: &[Value]) -> bool
+    requires { IsType schema.now.spec kind }
+    ensures { result ≡ fit_attrs (attrs_of schema.now.spec kind) (plains values.now) }
+{
+    if values.len() != schema.attr_count(kind) {
+        return false;
+    }
+    values_are_within(values, MAX_VALUE_DEPTH) && kinds_fit(schema, kind, values)
+}
+
+/// Whether each value is of a kind that its attribute names.
+fn kinds_fit(schema: &Schema, kind: AnyType, values: &[Value]) -> bool
+    requires known { IsType schema.now.spec kind }
+    requires full { length values.now ≡ length (attrs_of schema.now.spec kind) }
+    ensures { IsTrue result ↔ AreOfKinds (attrs_of schema.now.spec kind) (plains values.now) }
+{
+    for i in 0..values.len() {
+        if !schema.attr_allows(kind, i, &values[i]) {
+            return false;
+        }
+    }
+    true
 }
 
 /// Whether the schema knows each of the marks.

@@ -10,7 +10,7 @@ mod splicing;
 mod values;
 
 pub use checking::{checked, checked_change, checked_content};
-pub use known::{knows_mark, knows_slice};
+pub use known::{knows_mark, knows_slice, value_is_shallow};
 pub use pm_meaning::Reason;
 pub use refusing::failed;
 pub use replacing::{replace, splice_valid};

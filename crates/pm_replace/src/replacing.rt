@@ -17,7 +17,7 @@ use crate::splicing::{join, splice};
 use pm_build::{depth_at, parts_pair};
 use pm_change::Failed;
 use pm_meaning::Reason;
-use pm_node::{Difference, Document, Fragment, MAX_SIZE, Node};
+use pm_node::{Difference, Document, Fragment, Node};
 use pm_schema::Schema;
 use pm_slice::Slice;
 use std::alloc::Global;
@@ -144,7 +144,7 @@ fn splice_within(
     let size = content.size();
     let added = slice.size();
     let total = from + added + (size - to);
-    if total > MAX_SIZE {
+    if total > schema.max_size() {
         return match join(alloc, schema, content, from, to, slice) {
             Ok(()) => Err(Failed::Reason(Reason::Large)),
             Err(refused) => Err(failed(refused)),

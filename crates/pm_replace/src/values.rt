@@ -7,7 +7,7 @@ use pm_value::{Field, Value};
 
 /// Whether the value nests at most `levels` lists and objects.
 #[cycle(values)]
-fn value_is_within(value: &Value, levels: usize) -> bool
+pub(crate) fn value_is_within(value: &Value, levels: usize) -> bool
     ensures { IsTrue result ↔ (depth (plain value.now) ≤ levels) }
 {
     match value {

@@ -1,5 +1,6 @@
 -- Steps, as documents see them.
 use Rattle.std.specs.Prelude.{ℕ, ◌<◌, ◌^◌}
+use Rattle.pm_value.specs.Views.{plain}
 use Rattle.pm_marks.specs.declared.mark.Mark.{Mark}
 use Rattle.pm_tokens.specs.Tokens.{Attrs}
 use Rattle.pm_meaning.specs.Steps as steps
@@ -7,7 +8,8 @@ use Rattle.pm_meaning.specs.Maps.{is_within}
 use Rattle.pm_step.specs.declared.marking.Marking.{Marking}
 use Rattle.pm_step.specs.declared.marking.Marking.TheVariants.{Add, Remove}
 use Rattle.pm_step.specs.declared.step.Step.{Step}
-use Rattle.pm_step.specs.declared.step.Step.TheVariants.{Replace, ReplaceAround, Mark as OfMark, NodeMark}
+use Rattle.pm_step.specs.declared.step.Step.TheVariants.{Replace, ReplaceAround, Mark as OfMark, NodeMark, Attr, DocAttr}
+use Rattle.pm_step.specs.Values.{as_value}
 
 -- the mark that is added, or taken away
 abbrev pub mark_in : Marking → Mark Attrs
@@ -34,6 +36,8 @@ step_of (Replace s) = steps.Replace s.from s.to s.slice s.structure
 step_of (ReplaceAround s) = steps.ReplaceAround s.from s.to s.gap_from s.gap_to s.slice s.insert s.structure
 step_of (OfMark s) = range_step s.marking s.from s.to
 step_of (NodeMark s) = node_step s.marking s.pos
+step_of (Attr s) = steps.Attr s.pos s.attr (plain s.value)
+step_of (DocAttr s) = steps.DocAttr s.attr (plain s.value)
 
 -- and the step that is given this meaning
 abbrev pub as_step : steps.Step → Step
@@ -44,6 +48,8 @@ as_step (steps.AddMark from to mark) = OfMark (record { from = from; to = to; ma
 as_step (steps.RemoveMark from to mark) = OfMark (record { from = from; to = to; marking = Remove mark })
 as_step (steps.AddNodeMark pos mark) = NodeMark (record { pos = pos; marking = Add mark })
 as_step (steps.RemoveNodeMark pos mark) = NodeMark (record { pos = pos; marking = Remove mark })
+as_step (steps.Attr pos name value) = Attr (record { pos = pos; attr = name; value = as_value value })
+as_step (steps.DocAttr name value) = DocAttr (record { attr = name; value = as_value value })
 
 -- the step is within some size below 2^32
 abbrev pub HasSize : steps.Step → Type 0

@@ -1,13 +1,13 @@
 //! Steps that replace what is around a gap.
 ghost use Rattle.std.specs.Prelude.{◌≡◌, ◌==◌, IfOk, if◌then◌else◌};
 ghost use Rattle.std.specs.Option.{option_map};
-ghost use Rattle.pm_change.specs.Changes.{MayCarry};
+ghost use Rattle.pm_map.specs.Positions.{MayLead, EachLed};
 ghost use Rattle.pm_meaning.specs.Maps.{carry, is_within, step_map};
 ghost use Rattle.pm_step.specs.Steps.{step_of, HasSize};
 
 use crate::ends::{ahead, back};
 use crate::step::Step;
-use pm_map::{Mapping, Span, StepMap};
+use pm_map::{Positions, Span, StepMap};
 use pm_slice::Slice;
 use std::alloc::{AllocError, Global};
 
@@ -61,19 +61,19 @@ impl ReplaceAroundStep {
     /// The step over a mapping: `from` by `After` and `to` by `Before`, and the ends of the gap outwards, or
     /// with an end of the step where they are the same position. It is lost where both ends lie strictly inside of deleted
     /// ranges, and where the gap sticks out at an end.
-    pub fn carry(
+    pub fn carry<P: Positions>(
         &self,
         alloc: Global,
-        mapping: &Mapping,
+        positions: &P,
     ) -> Result<Option<ReplaceAroundStep>, AllocError>
-        requires { MayCarry is_within (step_of (Step.ReplaceAround self.now)) mapping.now }
-        ensures { IfOk result (λ o. option_map (λ s. step_of (Step.ReplaceAround s)) o
-            ≡ carry (step_of (Step.ReplaceAround self.now)) mapping.now) }
+        requires { MayLead is_within P.leads (step_of (Step.ReplaceAround self.now)) positions.now }
+        ensures { EachLed is_within P.leads (step_of (Step.ReplaceAround self.now)) positions.now
+            (λ ms. IfOk result (λ o. option_map (λ s. step_of (Step.ReplaceAround s)) o ≡ carry (step_of (Step.ReplaceAround self.now)) ms)) }
     {
-        let start = ahead(mapping, self.from);
-        let end = back(mapping, self.to);
-        let gap_left = back(mapping, self.gap_from);
-        let gap_right = ahead(mapping, self.gap_to);
+        let start = ahead(positions, self.from);
+        let end = back(positions, self.to);
+        let gap_left = back(positions, self.gap_from);
+        let gap_right = ahead(positions, self.gap_to);
         let gap_start = gap_end(self.gap_from, self.from, start.pos, gap_left.pos);
         let gap_end = gap_end(self.gap_to, self.to, end.pos, gap_right.pos);
         if start.across && end.across {

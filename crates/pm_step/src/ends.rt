@@ -1,24 +1,22 @@
 //! Ends of steps over mappings.
 ghost use Rattle.std.specs.Prelude.{◌≡◌, ◌≤◌};
-ghost use Rattle.pm_change.specs.Changes.{MayCarry};
+ghost use Rattle.pm_map.specs.Positions.{MayLead, EachLed};
 ghost use Rattle.pm_meaning.specs.Maps.{ahead, back};
 
-use pm_map::{Mapping, Moved, Side};
+use pm_map::{Moved, Positions, Side};
 
 /// A position over a mapping by `After`.
-pub(crate) fn ahead(mapping: &Mapping, pos: u64) -> Moved
-    requires { MayCarry ◌≤◌ pos mapping.now }
-    ensures { result ≡ ahead mapping.now pos }
+pub(crate) fn ahead<P: Positions>(positions: &P, pos: u64) -> Moved
+    requires { MayLead ◌≤◌ P.leads pos positions.now }
+    ensures { EachLed ◌≤◌ P.leads pos positions.now (λ ms. result ≡ ahead ms pos) }
 {
-    mapping.paired();
-    mapping.map(pos, Side::After)
+    positions.place(pos, Side::After)
 }
 
 /// A position over a mapping by `Before`.
-pub(crate) fn back(mapping: &Mapping, pos: u64) -> Moved
-    requires { MayCarry ◌≤◌ pos mapping.now }
-    ensures { result ≡ back mapping.now pos }
+pub(crate) fn back<P: Positions>(positions: &P, pos: u64) -> Moved
+    requires { MayLead ◌≤◌ P.leads pos positions.now }
+    ensures { EachLed ◌≤◌ P.leads pos positions.now (λ ms. result ≡ back ms pos) }
 {
-    mapping.paired();
-    mapping.map(pos, Side::Before)
+    positions.place(pos, Side::Before)
 }

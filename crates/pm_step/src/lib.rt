@@ -3,6 +3,8 @@
 #![tactic(auto)]
 
 mod around;
+mod attr;
+mod doc_attr;
 mod ends;
 mod mark;
 mod marking;
@@ -11,6 +13,8 @@ mod replace;
 mod step;
 
 pub use around::ReplaceAroundStep;
+pub use attr::AttrStep;
+pub use doc_attr::DocAttrStep;
 pub use mark::MarkStep;
 pub use marking::Marking;
 pub use node_mark::NodeMarkStep;

@@ -1,14 +1,14 @@
 //! Steps that mark a range.
 ghost use Rattle.std.specs.Prelude.{◌≡◌, IfOk};
 ghost use Rattle.std.specs.Option.{option_map};
-ghost use Rattle.pm_change.specs.Changes.{MayCarry};
+ghost use Rattle.pm_map.specs.Positions.{MayLead, EachLed};
 ghost use Rattle.pm_meaning.specs.Maps.{carry, is_within, step_map};
 ghost use Rattle.pm_step.specs.Steps.{step_of};
 
 use crate::ends::{ahead, back};
 use crate::marking::Marking;
 use crate::step::Step;
-use pm_map::{Mapping, StepMap};
+use pm_map::{Positions, StepMap};
 use std::alloc::{AllocError, Global};
 
 /// Adds a mark to the units and the inline leaves and atoms from `from` to `to`, where their parents allow it, or takes it from
@@ -41,12 +41,17 @@ impl MarkStep {
 
     /// The step over a mapping: `from` by `After` and `to` by `Before`. It is lost where both ends are deleted,
     /// or nothing is left between them.
-    pub fn carry(&self, alloc: Global, mapping: &Mapping) -> Result<Option<MarkStep>, AllocError>
-        requires { MayCarry is_within (step_of (Step.Mark self.now)) mapping.now }
-        ensures { IfOk result (λ o. option_map (λ s. step_of (Step.Mark s)) o ≡ carry (step_of (Step.Mark self.now)) mapping.now) }
+    pub fn carry<P: Positions>(
+        &self,
+        alloc: Global,
+        positions: &P,
+    ) -> Result<Option<MarkStep>, AllocError>
+        requires { MayLead is_within P.leads (step_of (Step.Mark self.now)) positions.now }
+        ensures { EachLed is_within P.leads (step_of (Step.Mark self.now)) positions.now
+            (λ ms. IfOk result (λ o. option_map (λ s. step_of (Step.Mark s)) o ≡ carry (step_of (Step.Mark self.now)) ms)) }
     {
-        let start = ahead(mapping, self.from);
-        let end = back(mapping, self.to);
+        let start = ahead(positions, self.from);
+        let end = back(positions, self.to);
         if start.deleted && end.deleted {
             return Ok(None);
         }

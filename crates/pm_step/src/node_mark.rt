@@ -1,14 +1,14 @@
 //! Steps that mark one node.
 ghost use Rattle.std.specs.Prelude.{◌≡◌, IfOk};
 ghost use Rattle.std.specs.Option.{option_map};
-ghost use Rattle.pm_change.specs.Changes.{MayCarry};
+ghost use Rattle.pm_map.specs.Positions.{MayLead, EachLed};
 ghost use Rattle.pm_meaning.specs.Maps.{carry, is_within, step_map};
 ghost use Rattle.pm_step.specs.Steps.{step_of};
 
 use crate::ends::ahead;
 use crate::marking::Marking;
 use crate::step::Step;
-use pm_map::{Mapping, StepMap};
+use pm_map::{Positions, StepMap};
 use std::alloc::{AllocError, Global};
 
 /// Adds a mark to the node that begins at `pos`, or takes it away.
@@ -37,16 +37,16 @@ impl NodeMarkStep {
     }
 
     /// The step over a mapping: `pos` by `After`. It is lost where the token behind it is deleted.
-    pub fn carry(
+    pub fn carry<P: Positions>(
         &self,
         alloc: Global,
-        mapping: &Mapping,
+        positions: &P,
     ) -> Result<Option<NodeMarkStep>, AllocError>
-        requires { MayCarry is_within (step_of (Step.NodeMark self.now)) mapping.now }
-        ensures { IfOk result (λ o. option_map (λ s. step_of (Step.NodeMark s)) o
-            ≡ carry (step_of (Step.NodeMark self.now)) mapping.now) }
+        requires { MayLead is_within P.leads (step_of (Step.NodeMark self.now)) positions.now }
+        ensures { EachLed is_within P.leads (step_of (Step.NodeMark self.now)) positions.now
+            (λ ms. IfOk result (λ o. option_map (λ s. step_of (Step.NodeMark s)) o ≡ carry (step_of (Step.NodeMark self.now)) ms)) }
     {
-        let at = ahead(mapping, self.pos);
+        let at = ahead(positions, self.pos);
         if at.after {
             return Ok(None);
         }

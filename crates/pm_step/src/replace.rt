@@ -1,13 +1,13 @@
 //! Steps that replace a range by a slice.
 ghost use Rattle.std.specs.Prelude.{◌≡◌, IfOk};
 ghost use Rattle.std.specs.Option.{option_map};
-ghost use Rattle.pm_change.specs.Changes.{MayCarry};
+ghost use Rattle.pm_map.specs.Positions.{MayLead, EachLed};
 ghost use Rattle.pm_meaning.specs.Maps.{carry, is_within, step_map};
 ghost use Rattle.pm_step.specs.Steps.{step_of, HasSize};
 
 use crate::ends::{ahead, back};
 use crate::step::Step;
-use pm_map::{Mapping, Span, StepMap};
+use pm_map::{Positions, Span, StepMap};
 use pm_slice::Slice;
 use std::alloc::{AllocError, Global};
 
@@ -48,12 +48,17 @@ impl ReplaceStep {
 
     /// The step over a mapping: `from` by `After` and `to` by `Before`, raised to `from`. It is lost where
     /// both ends lie strictly inside of deleted ranges.
-    pub fn carry(&self, alloc: Global, mapping: &Mapping) -> Result<Option<ReplaceStep>, AllocError>
-        requires { MayCarry is_within (step_of (Step.Replace self.now)) mapping.now }
-        ensures { IfOk result (λ o. option_map (λ s. step_of (Step.Replace s)) o ≡ carry (step_of (Step.Replace self.now)) mapping.now) }
+    pub fn carry<P: Positions>(
+        &self,
+        alloc: Global,
+        positions: &P,
+    ) -> Result<Option<ReplaceStep>, AllocError>
+        requires { MayLead is_within P.leads (step_of (Step.Replace self.now)) positions.now }
+        ensures { EachLed is_within P.leads (step_of (Step.Replace self.now)) positions.now
+            (λ ms. IfOk result (λ o. option_map (λ s. step_of (Step.Replace s)) o ≡ carry (step_of (Step.Replace self.now)) ms)) }
     {
-        let start = ahead(mapping, self.from);
-        let end = back(mapping, self.to);
+        let start = ahead(positions, self.from);
+        let end = back(positions, self.to);
         if start.across && end.across {
             return Ok(None);
         }

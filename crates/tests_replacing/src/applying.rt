@@ -1,4 +1,4 @@
-//! Steps of the six kinds that are applied: what each makes of a document, and the first reason why not.
+//! Steps of the eight kinds that are applied: what each makes of a document, and the first reason why not.
 ghost use Rattle.pm_tokens.specs.Faults.{Valid};
 ghost use Rattle.pm_schema.specs.Documents.{documents_of};
 
@@ -143,4 +143,21 @@ apply Pab/ remove_node 4 _ => !NoNode"#;
 #[test]
 fn marks_of_nodes_are_changed(rt: HostRuntime) -> Result<(), Fail> {
     answers(&rt, rt.alloc(), NODES)
+}
+
+const ATTRS: &str = r#"apply Ha/Pb/ attr 0 level 2 => Ga/Pb/
+apply QPa/Hb//Pc/ attr 4 level 2 => QPa/Gb//Pc/
+apply Ga/ attr 0 level 1 => Ha/
+apply Ha/ attr 4 level 2 => !Range
+apply H@/ attr 2 level 2 => !Pair
+apply Ha/ attr 1 level 2 => !NoNode
+apply Ha/ attr 2 level 2 => !NoNode
+apply Ha/ attr 3 level 2 => !NoNode
+apply Pa/ attr 0 level 2 => !NoAttribute
+apply Ha/ attr 0 title 2 => !NoAttribute
+apply Ha/ doc_attr title 2 => !NoAttribute"#;
+
+#[test]
+fn attributes_are_changed(rt: HostRuntime) -> Result<(), Fail> {
+    answers(&rt, rt.alloc(), ATTRS)
 }

@@ -78,7 +78,7 @@ fn a_gap_is_carried_outwards(rt: HostRuntime) -> Result<(), Fail> {
     answers(&rt, rt.alloc(), GAPS)
 }
 
-/// A mark is lost with both ends of its range, or with its node.
+/// A mark is lost with both ends of its range, or with its node, and an attribute with its node. The top node is always there.
 const MARKS: &str = r#"carry Pabc*efghij/ add 3 7 _ over replace 3 3 zz 0 0 => add 5 9 _
 carry Pabc*efghij/ add 3 7 _ over replace 7 7 zz 0 0 => add 3 7 _
 carry Pabc*efghij/ add 3 7 _ over replace 2 5 . 0 0 => add 2 4 _
@@ -90,7 +90,11 @@ carry Pabc*efghij/ add_node 4 1 over replace 4 5 z 0 0 => !lost
 carry Pabc*efghij/ remove_node 4 _ over replace 4 4 zz 0 0 => remove_node 6 _
 carry Pabc*efghij/ remove_node 4 _ over replace 2 4 . 0 0 => remove_node 2 _
 carry Pabc*efghij/ remove_node 4 _ over replace 4 5 z 0 0 => !lost
-carry Pabc*efghij/ remove_node 4 _ over replace 3 6 . 0 0 => !lost"#;
+carry Pabc*efghij/ remove_node 4 _ over replace 3 6 . 0 0 => !lost
+carry Pabc/Hd/ attr 5 level 2 over replace 1 1 zz 0 0 => attr 7 level 2
+carry Pabc/Hd/ attr 5 level 2 over replace 0 5 . 0 0 => attr 0 level 2
+carry Pabc/Hd/ attr 5 level 2 over replace 5 8 . 0 0 => !lost
+carry Pabc/Hd/ doc_attr level 2 over replace 5 8 . 0 0 => doc_attr level 2"#;
 
 #[test]
 fn a_mark_is_lost_with_what_bears_it(rt: HostRuntime) -> Result<(), Fail> {

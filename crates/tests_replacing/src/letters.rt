@@ -3,8 +3,10 @@
 //! `@` a text of one surrogate pair, and each other character a text of one unit. In front of each stand its marks: `_` is em,
 //! `1` and `2` are links to two places, `3` and `4` two colors, and `5` is code. `.` is nothing. `{` opens 46 blockquotes, `}` closes them,
 //! and `~` is a text that fills a document of one paragraph.
-use pm_node::MAX_SIZE;
 use std::alloc::{AllocError, Global};
+
+/// How many tokens a document of version 1 may have.
+const MAX_SIZE: usize = 500_000;
 
 const QUOTES: &str = "QQQQQQQQQQQQQQQQQQQQQQQQQQQQQQQQQQQQQQQQQQQQQQ";
 

@@ -17,7 +17,7 @@ use std::test::Fail;
 /// A note is an inline atom, and a span is inline and no atom. Links to several places may stand side by side, and a color
 /// pushes out another. Code excludes all marks.
 const SCHEMA: &str = r#"{"nodes":[
-    {"name":"doc","content":"block+"},
+    {"name":"doc","content":"block+","attrs":{"level":{"default":1}}},
     {"name":"paragraph","content":"inline*","group":"block"},
     {"name":"blockquote","content":"block+","group":"block"},
     {"name":"heading","content":"inline*","group":"block","attrs":{"level":{"default":1}}},
@@ -71,7 +71,7 @@ pub(crate) fn step_json(alloc: Global, schema: &Schema, text: &str) -> Result<St
 }
 
 const SHOWN: &str =
-    r#"{"content":[{"content":[{"text":"a","type":"text"},{"marks":[{"type":"em"},{"attrs":{"place":1},"type":"link"}],"text":"b😀","type":"text"}],"type":"paragraph"},{"attrs":{"level":2},"content":[{"marks":[{"attrs":{"hue":3},"type":"color"}],"type":"image"}],"type":"heading"}],"type":"doc"}"#;
+    r#"{"attrs":{"level":1},"content":[{"content":[{"text":"a","type":"text"},{"marks":[{"type":"em"},{"attrs":{"place":1},"type":"link"}],"text":"b😀","type":"text"}],"type":"paragraph"},{"attrs":{"level":2},"content":[{"marks":[{"attrs":{"hue":3},"type":"color"}],"type":"image"}],"type":"heading"}],"type":"doc"}"#;
 
 const STEP: &str =
     r#"{"from":4,"gapFrom":5,"gapTo":6,"insert":1,"slice":{"content":[{"content":[{"type":"paragraph"}],"type":"blockquote"}],"openEnd":1,"openStart":2},"stepType":"replaceAround","structure":true,"to":7}"#;

@@ -1,10 +1,10 @@
 //! Documents and steps as short texts. A document is its content in letters. A step is its kind and then its parts, parted by
-//! blanks: positions, the letters of its slice with the open sides, or the letter of its mark.
+//! blanks: positions, the letters of its slice with the open sides, the letter of its mark, or an attribute's name and its value.
 use crate::letters::{mark, push_nodes};
 use std::alloc::Global;
 use std::test::Fail;
 
-/// The JSON of a kind of step. Each `#` stands for a number, `$` for letters and `%` for a mark.
+/// The JSON of a kind of step. Each `#` stands for a number or a name, `$` for letters and `%` for a mark.
 fn template(kind: &str) -> Option<&'static str> {
     match kind {
         "doc" => Some(r#"{"type":"doc","content":[$]}"#),
@@ -24,6 +24,8 @@ fn template(kind: &str) -> Option<&'static str> {
         "remove" => Some(r#"{"stepType":"removeMark","from":#,"to":#,"mark":%}"#),
         "add_node" => Some(r#"{"stepType":"addNodeMark","pos":#,"mark":%}"#),
         "remove_node" => Some(r#"{"stepType":"removeNodeMark","pos":#,"mark":%}"#),
+        "attr" => Some(r##"{"stepType":"attr","pos":#,"attr":"#","value":#}"##),
+        "doc_attr" => Some(r##"{"stepType":"docAttr","attr":"#","value":#}"##),
         _ => None,
     }
 }

@@ -86,7 +86,10 @@ undo Pa_*/ add_node 2 _ => add_node 2 _
 undo P_3*/ add_node 1 4 => add_node 1 3
 undo P_3*/ add_node 1 5 => remove_node 1 5 & add_node 1 _ & add_node 1 3
 undo Pa_*/ remove_node 2 _ => add_node 2 _
-undo Pa*/ remove_node 2 _ => remove_node 2 _"#;
+undo Pa*/ remove_node 2 _ => remove_node 2 _
+undo Ga/Pb/ attr 0 level 3 => attr 0 level 2
+undo Ga/ attr 0 level 2 => attr 0 level 2
+undo Pa/ doc_attr level 2 => doc_attr level 1"#;
 
 #[test]
 fn steps_are_taken_back(rt: HostRuntime) -> Result<(), Fail> {

@@ -1,6 +1,7 @@
 use Rattle.std.specs.Prelude.{Some, option_map}
 use Rattle.std.proofs.Common.{◌≡◌, ◌<◌, length, ap, sym, ◌∙◌, arith}
 use Rattle.std.proofs.lemmas.Result.{IfOk-weaker}
+use Rattle.pm_tokens.specs.Schemas.{max_size}
 use Rattle.pm_schema.specs.Documents.{documents_of}
 use Rattle.pm_step.specs.Steps.{step_of}
 use Rattle.pm_fit.specs.Wrappings.{in_nodes}
@@ -18,12 +19,12 @@ returns-then-count-gt-MAX_DEPTH c =
     deep-none s (documents_of s) r.doc.now c.requires r.from r.to c.args.kinds.now c.args.content.now deep
     ∙ ap (step_with (documents_of s) r.doc.now r.from r.to) (sym (wrapped-some s c.args.kinds.now c.args.content.now c.if-count-eq0.false))
 
-pub returns-then-size-count-gt-MAX_SIZE : goal.returns-then-size-count-gt-MAX_SIZE
-returns-then-size-count-gt-MAX_SIZE c =
+pub returns-then-size-count : goal.returns-then-size-count
+returns-then-size-count c =
     let r = c.args.self.now in
     let s = r.schema.now.spec in
     let ts = in_nodes s c.args.kinds.now c.args.content.now in
-    let large : 500000 < length ts = omega (arith, length-in_nodes s c.args.kinds.now c.args.content.now, c.size-size.ensures.size, c.if-size-count-gt-MAX_SIZE.true) in
+    let large : max_size (documents_of s) < length ts = omega (arith, length-in_nodes s c.args.kinds.now c.args.content.now, c.size-size.ensures.size, c.if-size-count.true, c.max_size.ensures.size) in
     large-none (documents_of s) r.doc.now c.requires r.from r.to ts large ∙ ap (step_with (documents_of s) r.doc.now r.from r.to) (sym (wrapped-some s c.args.kinds.now c.args.content.now c.if-count-eq0.false))
 
 pub returns : goal.returns

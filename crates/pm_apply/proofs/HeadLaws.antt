@@ -1,0 +1,112 @@
+-- The node that begins at a position: behind whole nodes, in one node, and in its content.
+use Rattle.std.specs.Prelude.{◌≡◌, ℕ, ◌+◌, ◌-◌, ◌≤◌, ◌<◌, Option, Some, None, List, [], ◌∷◌, ◌++◌, length, take, drop, get_or}
+use Rattle.std.specs.Option.{option_map}
+use Rattle.std.specs.declared.sync.Arc.{Arc}
+use Rattle.std.specs.Arc.{arc_value}
+use Rattle.std.proofs.Common.{zero, suc, inl, inr, refl, ap, ◌∙◌, arith, length-append}
+use Rattle.std.proofs.lemmas.Bool.{cases_lt}
+use Rattle.std.proofs.lemmas.List.{take_all, drop_all}
+use Rattle.pm_tokens.specs.Tokens.{Marks, Token, Open, Close, Leaf, CodeUnit}
+use Rattle.pm_tokens.specs.Kids.{text_tokens}
+use Rattle.pm_tokens.proofs.ListLaws.{drop-nil}
+use Rattle.pm_node.specs.declared.node.Node.{Node}
+use Rattle.pm_node.specs.declared.node.Body.TheVariants.{Text, Leaf as Childless, Children}
+use Rattle.pm_node.specs.Trees.{node_tokens, list_tokens}
+use Rattle.pm_node.specs.Among.{Stands}
+use Rattle.pm_node.proofs.TreeLaws.{node_tokens_at}
+use Rattle.pm_node.proofs.WalkLaws.{list-split}
+use Rattle.pm_apply.specs.Nodes.{Head, node_head, head_first, marks_first}
+
+abbrev pub head_at : List Token → ℕ → Option Head
+head_at ts p = head_first (drop p ts)
+
+pub head-behind : (xs ys : List Token) (r : ℕ) → length xs ≤ r → head_at (xs ++ ys) r ≡ head_at ys (r - length xs)
+head-behind [] ys r h = ap (head_at ys) (let e : r ≡ r - 0 = omega arith in e)
+head-behind (x ∷ xs) ys zero h = absurd (omega (arith, h))
+head-behind (x ∷ xs) ys (suc r) h = head-behind xs ys r (omega (arith, h)) ∙ ap (head_at ys) (let e : r - length xs ≡ suc r - suc (length xs) = omega arith in e)
+
+pub head-at-first : (xs ys : List Token) (r : ℕ) → r < length xs → head_at (xs ++ ys) r ≡ head_at xs r
+head-at-first [] ys r h = absurd (omega (arith, h))
+head-at-first (Open k a m ∷ xs) ys zero h = refl
+head-at-first (Close ∷ xs) ys zero h = refl
+head-at-first (Leaf k a m ∷ xs) ys zero h = refl
+head-at-first (CodeUnit u m ∷ xs) ys zero h = refl
+head-at-first (x ∷ xs) ys (suc r) h = head-at-first xs ys r (omega (arith, h))
+
+-- ---- in a node with content
+
+pub head-inside : (n : Node) (inner : List Token) (pos : ℕ) → n.body ≡ Children inner → 0 < pos → pos ≤ length inner + 1 → head_at (node_tokens n) pos ≡ head_at inner (pos - 1)
+head-inside n inner zero is h le = absurd (omega (arith, h))
+head-inside n inner (suc p) is h le =
+    ap (λ z. head_at z (suc p)) (node_tokens_at n (Children inner) is) ∙ (close inner p (omega (arith, le)) ∙ ap (head_at inner) (let e : p ≡ suc p - 1 = omega arith in e))
+  where
+    close : (xs : List Token) (q : ℕ) → q ≤ length xs → head_at (xs ++ (Close ∷ [])) q ≡ head_at xs q
+    close [] zero k = refl
+    close [] (suc q) k = absurd (omega (arith, k))
+    close (Open k a m ∷ xs) zero h = refl
+    close (Close ∷ xs) zero h = refl
+    close (Leaf k a m ∷ xs) zero h = refl
+    close (CodeUnit u m ∷ xs) zero h = refl
+    close (x ∷ xs) (suc q) k = close xs q (omega (arith, k))
+
+pub head-outside : (n : Node) (inner : List Token) (pos : ℕ) → n.body ≡ Children inner → pos < length (node_tokens n) → length inner < pos → head_at (node_tokens n) pos ≡ None
+head-outside n inner pos is lt gt =
+    let ts : node_tokens n ≡ (Open n.kind n.attrs n.marks ∷ inner) ++ (Close ∷ []) = node_tokens_at n (Children inner) is in
+    let at : pos ≡ length (Open n.kind n.attrs n.marks ∷ inner) = omega (arith, gt, lt, ap length ts, length-append (Open n.kind n.attrs n.marks ∷ inner) (Close ∷ [])) in
+    ap (λ z. head_at z pos) ts ∙ (head-behind (Open n.kind n.attrs n.marks ∷ inner) (Close ∷ []) pos (omega (arith, at)) ∙ ap (head_at (Close ∷ [])) (let e : pos - length (Open n.kind n.attrs n.marks ∷ inner) ≡ 0 = omega (arith, at) in e))
+
+pub head-open : (n : Node) (inner : List Token) (pos : ℕ) → n.body ≡ Children inner → pos ≡ 0 → head_at (node_tokens n) pos ≡ Some (node_head n)
+head-open n inner pos is z = ap (λ p. head_at (node_tokens n) p) z ∙ ap (λ ts. head_at ts 0) (node_tokens_at n (Children inner) is)
+
+-- ---- in a text or a leaf
+
+units-none : (m : Marks) (us : List ℕ) (pos : ℕ) → head_at (text_tokens m us) pos ≡ None
+units-none m [] pos = ap head_first (drop-nil pos)
+units-none m (u ∷ us) zero = refl
+units-none m (u ∷ us) (suc p) = units-none m us p
+
+pub head-text : (n : Node) (us : List ℕ) (pos : ℕ) → n.body ≡ Text us → head_at (node_tokens n) pos ≡ None
+head-text n us pos is = ap (λ ts. head_at ts pos) (node_tokens_at n (Text us) is) ∙ units-none n.marks us pos
+
+pub head-leaf : (n : Node) (pos : ℕ) → n.body ≡ Childless → pos < length (node_tokens n) → head_at (node_tokens n) pos ≡ Some (node_head n)
+head-leaf n pos is lt =
+    let z : pos ≡ 0 = omega (arith, lt, ap length (node_tokens_at n Childless is)) in
+    ap (λ p. head_at (node_tokens n) p) z ∙ ap (λ ts. head_at ts 0) (node_tokens_at n Childless is)
+
+-- ---- among children
+
+-- a position before the end is in a child
+pub stands-in : {Z : Type 0} {xs : List (Arc Node Z)} {pos i r : ℕ} → Stands xs pos i r → pos < length (list_tokens xs) → i < length xs
+stands-in {xs = xs} {pos = pos} {i = i} {r = r} w h = elim (cases_lt i (length xs)) [
+  | inl p ↦ p
+  | inr p ↦ (let e : i ≡ length xs = omega (arith, p, w.within) in absurd (omega (arith, h, w.offset, w.at_end e, ap (λ z. length (list_tokens z)) (take_all i xs (omega (arith, p))))))
+]
+
+pub head-among : {Z : Type 0} (xs : List (Arc Node Z)) (pos i r : ℕ) (x : Arc Node Z) → Stands xs pos i r → i < length xs → x ≡ get_or xs i x → head_at (list_tokens xs) pos ≡ head_at (node_tokens (arc_value x)) r
+head-among xs pos i r x w h g =
+    let a = list_tokens (take i xs) in
+    let ts = node_tokens (arc_value x) in
+    let rest = list_tokens (drop (i + 1) xs) in
+    let e : pos - length a ≡ r = omega (arith, w.offset) in
+    ap (λ z. head_at z pos) (list-split xs i x h g) ∙ (head-behind a (ts ++ rest) pos (omega (arith, w.offset)) ∙ (ap (head_at (ts ++ rest)) e ∙ head-at-first ts rest r (w.inside x h g)))
+
+-- ---- past the end
+
+pub head-end : (ts : List Token) (pos : ℕ) → length ts ≤ pos → head_at ts pos ≡ None
+head-end ts pos h = ap head_first (drop_all pos ts h)
+
+-- ---- its marks
+
+pub marks-some : (ts : List Token) (h : Head) → head_first ts ≡ Some h → marks_first ts ≡ Some h.marks
+marks-some [] h e = absurd (cc)
+marks-some (Open k a m ∷ ts) h e = ap (option_map (λ (x : Head). x.marks)) e
+marks-some (Close ∷ ts) h e = absurd (cc)
+marks-some (Leaf k a m ∷ ts) h e = ap (option_map (λ (x : Head). x.marks)) e
+marks-some (CodeUnit u m ∷ ts) h e = absurd (cc)
+
+pub marks-none : (ts : List Token) → head_first ts ≡ None → marks_first ts ≡ None
+marks-none [] e = refl
+marks-none (Open k a m ∷ ts) e = absurd (cc)
+marks-none (Close ∷ ts) e = refl
+marks-none (Leaf k a m ∷ ts) e = absurd (cc)
+marks-none (CodeUnit u m ∷ ts) e = refl
