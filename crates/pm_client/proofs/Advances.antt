@@ -17,13 +17,14 @@ use Rattle.pm_client.specs.declared.client.Client.{Client}
 use Rattle.pm_client.proofs.Takings.{rest-of}
 use Rattle.pm_client.specs.Plans.{Meets, MayConfirm, Fits}
 use Rattle.pm_client.proofs.Prefixes.{front-applies}
-use Rattle.pm_client.specs.Clients.{own_run, carried}
+use Rattle.pm_client.specs.Clients.{own_run}
 use Rattle.pm_client.proofs.Keeps.{base-good}
 use Rattle.pm_client.specs.declared.cursors.Cursor.{Cursor}
-use Rattle.pm_client.specs.Cursors.{AreWithin, HasRoomIn}
+use Rattle.pm_map.specs.Positions.{MayLead, IsItself}
+use Rattle.pm_client.specs.Cursors.{AreWithin, AreIn}
 use Rattle.pm_client.specs.Rebases.{maps_of}
 use Rattle.pm_client.specs.Rebasables.{NamedHasMap, CanRebaseOver}
-use Rattle.pm_client.proofs.RebaseLaws.{Fork, fork, can-over, over-can, maps-fit, plain-paired, cursors-room}
+use Rattle.pm_client.proofs.RebaseLaws.{Fork, fork, can-over, maps-fit, plain-paired, cursors-led}
 
 module _ {Rules Doc Reason C : Type 0} (m : Meaning Rules Doc Reason C) (rules : Rules) where
   no-refusal : (doc : Doc) (ns : List (Named C)) (r : Refusal Reason) → (end : Doc) × AllApply m rules doc ns end → run m rules doc 0 ns ≡ Err r → ⊥
@@ -63,9 +64,9 @@ module _ {Rules Doc Reason C : Type 0} (m : Meaning Rules Doc Reason C) (rules :
 
   -- over which the document's cursors may go
   pub run-room : Laws m → (doc end : Doc) (ns : List (Named C)) (cs : List Cursor) → m.is_good rules doc → AreWithin (m.size doc) cs → run m rules doc 0 ns ≡ Ok end
-      → All (HasRoomIn (maps_of m ns)) cs
+      → MayLead AreIn IsItself cs (maps_of m ns)
   run-room laws doc end ns cs good within ran =
-      cursors-room (maps_of m ns) (m.size doc) (m.size end) (plain-paired m rules ns) (maps-fit m rules laws doc end ns good (run-fold m rules doc end 0 ns ran)).0 cs within
+      cursors-led (maps_of m ns) (m.size doc) (m.size end) (plain-paired m rules ns) (maps-fit m rules laws doc end ns good (run-fold m rules doc end 0 ns ran)).0 cs within
 
   -- where the entries past the version and the pending steps part ways
   module _ (laws : Laws m) (c : Client C Rules Doc Reason) (rest standing front later : List (Named C)) (own : ℕ) (good : m.is_good rules c.base)
@@ -82,15 +83,8 @@ module _ {Rules Doc Reason C : Type 0} (m : Meaning Rules Doc Reason C) (rules :
     later_is : drop own c.pending ≡ later
     later_is = rw (at, pending_is) (drop-append_seam standing later)
 
-    over-of : CanRebaseOver m rules base (drop own rest) (drop own c.pending)
+    over-of : CanRebaseOver m rules base (drop own rest) (drop own c.pending) c.doc
     over-of = rw (front_is, later_is) (can-over m rules laws parting.at base c.doc front later parting.at_good parting.left_applies parting.right_applies)
-
-    room-of : AreWithin (m.size c.doc) c.cursors → All (HasRoomIn (carried m rules c own (drop own rest) base).maps) c.cursors
-    room-of h =
-        let can = over-can m rules laws parting.at base c.doc front later parting.at_good parting.left_applies parting.right_applies in
-        let so = carried m rules c own (drop own rest) base in
-        let reach = rw (← front_is, ← later_is) at can in
-        cursors-room so.maps (m.size c.doc) (m.size so.doc) reach.paired reach.fits c.cursors h
 
   -- the entries past the version fit
   pub entries-fit : Laws m → (c : Client C Rules Doc Reason) (since : ℕ) (entries : List (Named C)) → Meets m rules c (Entries since entries)
@@ -122,8 +116,7 @@ module _ {Rules Doc Reason C : Type 0} (m : Meaning Rules Doc Reason C) (rules :
         applies = reaches;
         over = λ base h2.
             over-of laws c rest s.standing r.front s.later (own_run c.name rest) (base-good m rules first h.log c kin laws) (r.own_is ∙ sym s.counted) r.rest_is s.pending_is kin.doc_is base h2;
-        room = λ base h2.
-            room-of laws c rest s.standing r.front s.later (own_run c.name rest) (base-good m rules first h.log c kin laws) (r.own_is ∙ sym s.counted) r.rest_is s.pending_is kin.doc_is base h2 kin.cursors;
+        cursors = kin.cursors;
         have_maps = (over-of laws c rest s.standing r.front s.later (own_run c.name rest) (base-good m rules first h.log c kin laws) (r.own_is ∙ sym s.counted) r.rest_is s.pending_is kin.doc_is reaches.0 reaches.1).have_maps;
         short = long;
       }

@@ -13,8 +13,7 @@ use Rattle.pm_history.proofs.Edited.{items-more}
 use Rattle.pm_history.proofs.Rebased.{KeptOf, none, dropped, kept}
 use Rattle.pm_history.specs.Tied.{undoes_of, tied_as, all_tied}
 use Rattle.pm_history.proofs.TiedLaws.{TiedBy}
-use Rattle.pm_client.specs.declared.rebasing.Rebasing.{Rebasing}
-use Rattle.pm_client.specs.Rebases.{ended, led, rebased_one, rebased}
+use Rattle.pm_client.specs.Rebases.{Rebasing, ended, led, rebased_one, rebased}
 use Rattle.pm_client.specs.Timelines.{named_of}
 use Rattle.pm_client.proofs.Lists.{Each-append}
 

@@ -5,8 +5,7 @@ use Rattle.std.proofs.Common.{sym, ap, ◌∙◌, subst, arith, append_assoc, ap
 use Rattle.std.proofs.lemmas.Bool.{ltb-true, ltb-false, eq-eqb}
 use Rattle.pm_change.specs.Changes.{Meaning}
 use Rattle.pm_authority.specs.declared.named.Named.{Named}
-use Rattle.pm_client.specs.declared.rebasing.Rebasing.{Rebasing}
-use Rattle.pm_client.specs.Rebases.{held, ended, led, rebased_one, rebased}
+use Rattle.pm_client.specs.Rebases.{Rebasing, held, ended, led, rebased_one, rebased}
 use Rattle.pm_client.specs.Kins.{IsOwn}
 use Rattle.pm_client.specs.Serials.{times, serials_of, own_serials, Rises, put, merged, Parted}
 use Rattle.pm_client.proofs.SerialLists.{times-append, serials-append, numbers-once}

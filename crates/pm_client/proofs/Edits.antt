@@ -31,7 +31,7 @@ module _ {Rules Doc Reason C : Type 0} (m : Meaning Rules Doc Reason C) (rules :
       let applies : AllApply m rules c.doc new doc = run-fold m rules c.doc doc 0 new ran in
       let fits = maps-fit m rules laws c.doc doc new good applies in
       let is : gone_on m c cs doc (trimmed (noted_all c.history (items_from m rules c.doc (edit_steps new)) (Edit event true))) ≡ next = cc in
-      subst IsReady is (fold-good m rules laws c.doc doc (changes_of new) good applies, (cursors-move (maps_of m new) (m.size c.doc) (m.size doc) (plain-paired m rules new) fits.0 c.cursors cursors).1)
+      subst IsReady is (fold-good m rules laws c.doc doc (changes_of new) good applies, (cursors-move (maps_of m new) (m.size c.doc) (m.size doc) (plain-paired m rules new) fits.0 c.cursors cursors))
 
   pub edited-ready : (cs : List C) (event : Option ℕ) → m.is_good rules c.doc → AreWithin (m.size c.doc) c.cursors → edited m rules c cs event ≡ Ok next → IsReady next
   edited-ready cs event good cursors h = tried-ready cs event (run m rules c.doc 0 (named c.name (c.serials + 1) cs)) refl good cursors h

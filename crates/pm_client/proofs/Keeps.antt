@@ -33,10 +33,9 @@ use Rattle.pm_client.specs.Clients.{named, new_client, gone_on, tried, edited, m
 use Rattle.pm_client.specs.Kins.{IsOwn, IsForeign, IsPrefix, IsPart, MessageStands, AnswerStands, Past, Kin}
 use Rattle.pm_client.proofs.Lists.{All-more, All-push, Each-append, Each-front, Each-back, nothing}
 use Rattle.pm_client.specs.Serials.{Parted, Rises, own_serials, serials_of, merged}
-use Rattle.pm_client.specs.Rebases.{maps_of, start, rebased}
+use Rattle.pm_client.specs.Rebases.{Rebasing, maps_of, start, rebased}
 use Rattle.pm_client.specs.Cursors.{cursor, IsWithin}
 use Rattle.pm_client.proofs.RebaseLaws.{maps-fit, plain-paired, cursors-move, fork, over-can, rebased-applied}
-use Rattle.pm_client.specs.declared.rebasing.Rebasing.{Rebasing}
 use Rattle.pm_client.specs.Timelines.{IsTimeline, edit_steps}
 use Rattle.pm_client.proofs.TimelineLaws.{changes-are, timeline-append, edits-timeline, edits-length}
 use Rattle.pm_client.proofs.Pasts.{past-carried}
@@ -143,7 +142,7 @@ module _ {Rules Doc Reason C : Type 0} (m : Meaning Rules Doc Reason C) (rules :
         first_good = kin.first_good;
         log_applies = kin.log_applies;
         own = Each-append (IsOwn c.name) c.pending new kin.own (named-own c.name (c.serials + 1) cs);
-        cursors = (cursors-move (maps_of m new) (m.size c.doc) (m.size doc) (plain-paired m rules new) fits.0 c.cursors kin.cursors).1;
+        cursors = (cursors-move (maps_of m new) (m.size c.doc) (m.size doc) (plain-paired m rules new) fits.0 c.cursors kin.cursors);
         parted = parted-edited c.name kin.before c.pending c.dropped c.serials kin.parted cs;
         stands = past-grows new kin.stands;
         timeline = kin.timeline ++ more;
@@ -356,7 +355,7 @@ module _ {Rules Doc Reason C : Type 0} (m : Meaning Rules Doc Reason C) (rules :
         first_good = kin.first_good;
         log_applies = kin.log_applies;
         own = rw is (rebased-own m rules c.name begun s.later tt own_later);
-        cursors = (cursors-move r.maps (m.size c.doc) (m.size r.doc) reach.paired reach.fits c.cursors kin.cursors).1;
+        cursors = (cursors-move r.maps (m.size c.doc) (m.size r.doc) reach.paired reach.fits c.cursors kin.cursors);
         parted = subst (λ l. Parted c.name l r.kept (merged c.dropped r.dropped) c.serials) (append_assoc kin.before s.standing front) dropped_is;
         stands = record { foreign = back; later = r.kept; standing = []; counted = refl; past_is = refl; pending_is = refl; are_foreign = Each-back (IsForeign c.name) front back (rw split at s.are_foreign) };
         timeline = past.steps;

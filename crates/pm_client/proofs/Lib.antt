@@ -7,6 +7,7 @@ pub mod DropLaws
 pub mod TimelineLaws
 pub mod Carryings
 pub mod Pasts
+pub mod Entering
 pub mod Keeps
 pub mod Takings
 pub mod Answering
@@ -16,6 +17,9 @@ mod Advances
 mod Plannings
 mod Causings
 mod Rebasings
+mod Rebasers
+mod Pushings
+mod Movings
 mod Tokens
 mod Origins
 mod Leads

@@ -13,11 +13,10 @@ use Rattle.pm_history.specs.Standing.{IsHistoryOf}
 use Rattle.pm_history.proofs.Carried.{all_items, all-ties, history-carried}
 use Rattle.pm_history.proofs.Rebased.{none, maps_of as steps_maps}
 use Rattle.pm_client.specs.declared.client.Client.{Client}
-use Rattle.pm_client.specs.declared.rebasing.Rebasing.{Rebasing}
 use Rattle.pm_client.specs.Clients.{carried_history}
 use Rattle.pm_client.specs.Kins.{IsOwn, IsForeign, Kin}
 use Rattle.pm_client.proofs.Lists.{Each-back}
-use Rattle.pm_client.specs.Rebases.{maps_of, ranges_of, start, rebased}
+use Rattle.pm_client.specs.Rebases.{Rebasing, maps_of, ranges_of, start, rebased}
 use Rattle.pm_client.proofs.DropLaws.{rebased-own}
 use Rattle.pm_client.specs.Timelines.{named_of, IsTimeline}
 use Rattle.pm_client.proofs.TimelineLaws.{foreign_step, changes-are, timeline-append, timeline-split, all-own, foreign-timeline, own-timeline}

@@ -1,5 +1,5 @@
 -- What holds while steps are carried over others' steps.
-use Rattle.std.specs.Prelude.{◌≡◌, ℕ, List, [], ◌∷◌, ◌++◌, length, Option, Some, None, Result, Ok, Err, refl, All}
+use Rattle.std.specs.Prelude.{◌≡◌, ℕ, List, [], ◌∷◌, ◌++◌, length, Option, Some, None, Result, Ok, Err, refl}
 use Rattle.std.specs.List.{AllByRecursion as Each}
 use Rattle.std.proofs.Common.{subst, ap, sym, ◌∙◌}
 use Rattle.std.proofs.lemmas.List.Elements.{All-from_recursion}
@@ -8,40 +8,32 @@ use Rattle.pm_map.specs.Moves.{inverted_ranges}
 use Rattle.pm_map.specs.Through.{SameShape, ArePaired}
 use Rattle.pm_map.specs.Mirrors.{entry, gap_for}
 use Rattle.pm_map.specs.Fits.{FitBetween}
+use Rattle.pm_map.specs.Positions.{MayLead, IsItself}
 use Rattle.pm_map.proofs.Growths.{paired-around, paired-fronted}
 use Rattle.pm_map.proofs.Sizes.{fit-front, fit-behind, inverted-fits, position-fits, same-shape}
-use Rattle.pm_change.specs.Changes.{Meaning, Laws, Applies, MayCarry, fold}
+use Rattle.pm_change.specs.Changes.{Meaning, Laws, Applies, fold}
 use Rattle.pm_change.proofs.Folds.{fold-cons, fold-append, fold-good}
 use Rattle.pm_authority.specs.declared.named.Named.{Named}
 use Rattle.pm_authority.specs.Runs.{changes_of, AllApply}
 use Rattle.pm_authority.proofs.RunFolds.{changes-append}
-use Rattle.pm_client.specs.declared.rebasing.Rebasing.{Rebasing}
-use Rattle.pm_client.specs.Rebases.{maps_of, start, lost, held, ended, led, rebased_one, rebased}
-use Rattle.pm_client.specs.Rebasables.{HasMap, NamedHasMap, CanRebase, MayRebase, CanRebaseOver}
+use Rattle.pm_client.specs.Rebases.{Rebasing, maps_of, start, lost, held, ended, led, rebased_one, rebased}
+use Rattle.pm_client.specs.Rebasables.{HasMap, NamedHasMap, CanRebase, CanRebaseOver}
 use Rattle.pm_client.specs.declared.cursors.Cursor.{Cursor}
-use Rattle.pm_client.specs.Cursors.{AreWithin, HasRoomIn, moved_over}
+use Rattle.pm_client.specs.Cursors.{AreWithin, AreIn, moved_over}
 use Rattle.pm_client.proofs.Prefixes.{front-applies}
 
 -- cursors may go over maps that lead from their document, and stand in the one that these lead to
-pub cursors-move : (ms : List Mirrored) (n k : ℕ) → ArePaired ms → FitBetween ms n k → (cs : List Cursor) → AreWithin n cs
-    → Each (HasRoomIn ms) cs × AreWithin k (moved_over ms cs)
-cursors-move ms n k paired fits [] h = (tt, tt)
+pub cursors-move : (ms : List Mirrored) (n k : ℕ) → ArePaired ms → FitBetween ms n k → (cs : List Cursor) → AreWithin n cs → AreWithin k (moved_over ms cs)
+cursors-move ms n k paired fits [] h = tt
 cursors-move ms n k paired fits (c ∷ cs) h =
-    let go = cursors-move ms n k paired fits cs h.1 in
-    let here = position-fits ms n k c.pos c.side paired fits h.0 in
-    ((here.0, go.0), (here.1, go.1))
+    ((position-fits ms n k c.pos c.side paired fits h.0).1, cursors-move ms n k paired fits cs h.1)
 
-pub cursors-room : (ms : List Mirrored) (n k : ℕ) → ArePaired ms → FitBetween ms n k → (cs : List Cursor) → AreWithin n cs → All (HasRoomIn ms) cs
-cursors-room ms n k paired fits cs h = All-from_recursion (HasRoomIn ms) cs (cursors-move ms n k paired fits cs h).0
+pub cursors-led : (ms : List Mirrored) (n k : ℕ) → ArePaired ms → FitBetween ms n k → (cs : List Cursor) → AreWithin n cs → MayLead AreIn IsItself cs ms
+cursors-led ms n k paired fits cs h = (ms, n, k, (record { is = refl; paired = paired; fits = fits }, h))
 
 module _ {Rules Doc Reason C : Type 0} (m : Meaning Rules Doc Reason C) (rules : Rules) where
   pub has-map : Laws m → (c : C) (doc next : Doc) → m.is_good rules doc → Applies m rules c doc next → HasMap m c
   has-map laws c doc next good applies = (m.size doc, laws.small rules doc good, laws.within rules c doc next good applies)
-
-  -- a step is carried over maps that lead from a document within which it is
-  pub carry-condition : Laws m → (old : Doc) (so : Rebasing C Rules Doc Reason) (n : Named C) → MayRebase m rules old so n → MayCarry m.is_within n.change so.maps
-  carry-condition laws old so n h =
-      (m.size old, m.size so.doc, (h.fits, laws.within rules n.change old h.applies.0 h.old_good h.applies.1))
 
   -- the map of a carried step mirrors the map back of the step
   pub mirrors : Laws m → (so : Rebasing C Rules Doc Reason) (n : Named C) (c : C) → m.carry n.change so.maps ≡ Some c
@@ -93,17 +85,6 @@ module _ {Rules Doc Reason C : Type 0} (m : Meaning Rules Doc Reason C) (rules :
         from None e = gone
         from (Some c) e = tried c e (m.outcome rules c so.doc) refl
 
-  pub can-one : (old : Doc) (so : Rebasing C Rules Doc Reason) (n : Named C) (ns : List (Named C)) → CanRebase m rules old so (n ∷ ns) → MayRebase m rules old so n
-  can-one old so n ns h =
-      let f = fold-cons m rules old h.applies.0 n.change (changes_of ns) h.applies.1 in
-      record { old_good = h.old_good; new_good = h.new_good; applies = (f.0, f.1); fits = h.fits }
-
-  pub can-more : Laws m → (old : Doc) (so : Rebasing C Rules Doc Reason) (n : Named C) (ns : List (Named C)) → CanRebase m rules old so (n ∷ ns)
-      → (next : Doc) × CanRebase m rules next (rebased_one m rules so n) ns
-  can-more laws old so n ns h =
-      let f = fold-cons m rules old h.applies.0 n.change (changes_of ns) h.applies.1 in
-      (f.0, one-can laws old f.0 so n h.old_good h.new_good f.1 h.fits ns h.paired (h.applies.0, f.2))
-
   -- the whole mapping leads from the document after the steps to the one after those kept
   pub rebased-can : Laws m → (old end : Doc) (so : Rebasing C Rules Doc Reason) (ns : List (Named C)) → CanRebase m rules old so ns → AllApply m rules old ns end
       → CanRebase m rules end (rebased m rules so ns) []
@@ -131,12 +112,13 @@ module _ {Rules Doc Reason C : Type 0} (m : Meaning Rules Doc Reason C) (rules :
 
   -- steps that apply where others' steps apply too may be carried over these
   pub can-over : Laws m → (old base end : Doc) (foreign pending : List (Named C)) → m.is_good rules old → AllApply m rules old foreign base
-      → AllApply m rules old pending end → CanRebaseOver m rules base foreign pending
+      → AllApply m rules old pending end → CanRebaseOver m rules base foreign pending end
   can-over laws old base end foreign pending good f p =
       let r = maps-fit laws old base foreign good f in
       record {
         old = old;
         can = record { old_good = good; new_good = fold-good m rules laws old base (changes_of foreign) good f; applies = (end, p); fits = r.0; paired = plain-paired foreign };
+        ends = p;
         have_maps = All-from_recursion (NamedHasMap m) foreign r.1;
       }
 

@@ -10,11 +10,10 @@ use Rattle.pm_authority.specs.declared.message.Answer.{Answer}
 use Rattle.pm_authority.specs.declared.message.Answer.TheVariants.{Accepted, WrongVersion, StepRefused, Entries}
 use Rattle.pm_authority.specs.Runs.{changes_of}
 use Rattle.pm_client.specs.declared.client.Client.{Client}
-use Rattle.pm_client.specs.declared.rebasing.Rebasing.{Rebasing}
 use Rattle.pm_client.specs.declared.taken.Taken.{Taken}
 use Rattle.pm_client.specs.declared.taken.Taken.TheVariants.{Confirmed, Rebased, Stale}
 use Rattle.pm_client.specs.Clients.{own_run, given, confirmed, brought, carried, confirmed_first, others_taken, rest_taken, taken, taken_if, taken_at, answer_at}
-use Rattle.pm_client.specs.Rebases.{maps_of, start, rebased}
+use Rattle.pm_client.specs.Rebases.{Rebasing, maps_of, start, rebased}
 use Rattle.pm_client.specs.Kins.{IsOwn, IsForeign, AnswerStands, Kin}
 use Rattle.pm_client.proofs.Lists.{Each-front, take-seam, part-past, two-parts}
 use Rattle.pm_client.proofs.Keeps.{kin-confirmed, kin-brought}

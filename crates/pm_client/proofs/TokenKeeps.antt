@@ -17,10 +17,9 @@ use Rattle.pm_history.specs.Histories.{noted_all}
 use Rattle.pm_history.specs.Trims.{trimmed}
 use Rattle.pm_history.specs.Timelines.{items_from}
 use Rattle.pm_client.specs.declared.client.Client.{Client}
-use Rattle.pm_client.specs.declared.rebasing.Rebasing.{Rebasing}
 use Rattle.pm_client.proofs.Lists.{Each-front, Each-back, take-seam}
 use Rattle.pm_client.specs.Serials.{serials_of, own_serials, Rises}
-use Rattle.pm_client.specs.Rebases.{maps_of, start, rebased}
+use Rattle.pm_client.specs.Rebases.{Rebasing, maps_of, start, rebased}
 use Rattle.pm_client.proofs.RebaseLaws.{fork, maps-fit, plain-paired}
 use Rattle.pm_client.specs.Cursors.{cursor, moved_cursor}
 use Rattle.pm_client.specs.Timelines.{edit_steps}

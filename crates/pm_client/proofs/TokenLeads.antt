@@ -14,9 +14,8 @@ use Rattle.pm_change.specs.Changes.{Meaning, Laws}
 use Rattle.pm_change.proofs.Folds.{fold-cons}
 use Rattle.pm_authority.specs.declared.named.Named.{Named}
 use Rattle.pm_authority.specs.Runs.{changes_of, AllApply}
-use Rattle.pm_client.specs.declared.rebasing.Rebasing.{Rebasing}
 use Rattle.pm_client.proofs.Lists.{Each-front, Each-back}
-use Rattle.pm_client.specs.Rebases.{maps_of, ended, led, rebased_one, rebased}
+use Rattle.pm_client.specs.Rebases.{Rebasing, maps_of, ended, led, rebased_one, rebased}
 use Rattle.pm_client.specs.Rebasables.{CanRebase}
 use Rattle.pm_client.proofs.RebaseLaws.{one-can}
 use Rattle.pm_client.specs.TokenNames.{Token, Put, spliced, Unpinched, Has, names_after, Once, NotBy, NoneBy, AllDiffer, AllUnpinched}

@@ -30,12 +30,13 @@ use Rattle.pm_history.proofs.Carried.{kept-differ}
 use Rattle.pm_history.proofs.Starts.{event-from, shows-from}
 use Rattle.pm_client.specs.declared.client.Client.{Client}
 use Rattle.pm_client.specs.Clients.{named, turned, event_turned, turned_if}
-use Rattle.pm_client.specs.Cursors.{HasRoomIn}
+use Rattle.pm_map.specs.Positions.{MayLead, IsItself}
+use Rattle.pm_client.specs.Cursors.{AreIn}
 use Rattle.pm_client.specs.Kins.{Kin}
 use Rattle.pm_client.proofs.Keeps.{doc-good, timeline-applies, kin-gone_on}
 use Rattle.pm_client.specs.Rebases.{maps_of}
 use Rattle.pm_client.specs.Rebasables.{NamedHasMap}
-use Rattle.pm_client.proofs.RebaseLaws.{maps-fit, plain-paired, cursors-room}
+use Rattle.pm_client.proofs.RebaseLaws.{maps-fit, plain-paired, cursors-led}
 use Rattle.pm_client.proofs.TimelineLaws.{made-timeline, named-changes}
 use Rattle.pm_client.specs.TokenNames.{KeepsTokens}
 use Rattle.pm_client.specs.Undoings.{GivesBack, TurnsOver}
@@ -71,10 +72,10 @@ module _ {Rules Doc Reason C : Type 0} (m : Meaning Rules Doc Reason C) (rules :
       (maps-fit m rules laws c.doc w.doc (named c.name (c.serials + 1) w.made) (doc-good m rules first log c kin laws) (new-applies w made)).1
 
   -- over which the cursors may go
-  pub made-room : (w : Undone Doc C) → IsMade m rules c.name c.doc (c.serials + 1) w → All (HasRoomIn (maps_of m (named c.name (c.serials + 1) w.made))) c.cursors
+  pub made-room : (w : Undone Doc C) → IsMade m rules c.name c.doc (c.serials + 1) w → MayLead AreIn IsItself c.cursors (maps_of m (named c.name (c.serials + 1) w.made))
   made-room w made =
       let new : List (Named C) = named c.name (c.serials + 1) w.made in
-      cursors-room (maps_of m new) (m.size c.doc) (m.size w.doc) (plain-paired m rules new)
+      cursors-led (maps_of m new) (m.size c.doc) (m.size w.doc) (plain-paired m rules new)
       (maps-fit m rules laws c.doc w.doc new (doc-good m rules first log c kin laws) (new-applies w made)).0 c.cursors kin.cursors
 
   module _ (turn : Turn) (e : Event) (last : event_for turn c.history ≡ Some e) where

@@ -32,8 +32,7 @@ use Rattle.pm_client.specs.declared.taken.MessageKind.{MessageKind}
 use Rattle.pm_client.specs.declared.taken.MessageKind.TheVariants.{Submit as ToSubmit, Ask as ToAsk}
 use Rattle.pm_client.specs.declared.taken.Taken.{Taken}
 use Rattle.pm_client.specs.declared.taken.Taken.TheVariants.{Confirmed, Rebased, Stale, Refused}
-use Rattle.pm_client.specs.declared.rebasing.Rebasing.{Rebasing}
-use Rattle.pm_client.specs.Rebases.{maps_of, ranges_of, start, rebased}
+use Rattle.pm_client.specs.Rebases.{Rebasing, maps_of, ranges_of, start, rebased}
 use Rattle.pm_client.specs.Cursors.{cursor, moved_over}
 use Rattle.pm_client.specs.Timelines.{edit_steps}
 use Rattle.pm_client.specs.Serials.{merged}
@@ -69,6 +68,11 @@ module _ {Rules Doc Reason C : Type 0} where
     cursors = [];
     history = new_history;
   }
+
+  -- A client of this name that comes at this version, where the log gives this document: nothing is pending, and it has drawn no
+  -- serial, composed no message and kept nothing.
+  abbrev pub entered_client : ℕ → ℕ → Doc → Client C Rules Doc Reason
+  entered_client name version doc = record (new_client name doc) { version = version }
 
   -- the message of this kind: all pending steps at the client's version, or a request for what is past it
   abbrev pub message_of : Client C Rules Doc Reason → MessageKind → Message C

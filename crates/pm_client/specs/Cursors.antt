@@ -3,8 +3,7 @@ use Rattle.std.specs.Prelude.{ℕ, ◌≤◌, List, map}
 use Rattle.std.specs.List.{AllByRecursion as Each}
 use Rattle.pm_map.specs.declared.side.Side.{Side}
 use Rattle.pm_map.specs.declared.mapping.Mirrored.{Mirrored}
-use Rattle.pm_map.specs.Moves.{is_before, kept_at}
-use Rattle.pm_map.specs.Through.{HasRoom, through}
+use Rattle.pm_map.specs.Through.{through}
 use Rattle.pm_client.specs.declared.cursors.Cursor.{Cursor}
 
 -- the cursor at this position, with this side
@@ -25,6 +24,6 @@ IsWithin size c = c.pos ≤ size
 abbrev pub AreWithin : ℕ → List Cursor → Type 0
 AreWithin size cs = Each (IsWithin size) cs
 
--- a cursor for which the maps have room
-abbrev pub HasRoomIn : List Mirrored → Cursor → Type 0
-HasRoomIn ms c = HasRoom ms 0 (is_before c.side) (kept_at c.pos)
+-- the same with the cursors first
+abbrev pub AreIn : List Cursor → ℕ → Type 0
+AreIn cs size = AreWithin size cs

@@ -10,3 +10,4 @@ pub mod Plans
 pub mod Makes
 pub mod Undoings
 pub mod TokenNames
+pub mod Rebasers

@@ -9,8 +9,8 @@ use Rattle.pm_client.specs.declared.plan.Plan.{Plan}
 use Rattle.pm_client.specs.declared.plan.Plan.TheVariants.{Confirm, Rebase, PassOver, TellRefused}
 use Rattle.pm_client.specs.declared.taken.Taken.{Taken}
 use Rattle.pm_client.specs.declared.taken.Taken.TheVariants.{Confirmed, Rebased, Stale, Refused}
-use Rattle.pm_client.specs.Clients.{confirmed, carried, carried_history, own_run}
-use Rattle.pm_client.specs.Cursors.{HasRoomIn}
+use Rattle.pm_client.specs.Clients.{confirmed, carried_history, own_run}
+use Rattle.pm_client.specs.Cursors.{AreWithin}
 use Rattle.pm_client.specs.Rebasables.{NamedHasMap, CanRebaseOver}
 use Rattle.pm_client.specs.Kins.{AnswerStands, Kin}
 
@@ -57,14 +57,13 @@ module _ {Rules Doc Reason C : Type 0} (m : Meaning Rules Doc Reason C) (rules :
     pub short : c.version + own < 2 ^ 64
 
   -- The entries past the version apply to the base one after another, their leading own ones may be confirmed, the later
-  -- pending steps may be carried over others', the maps of which have room for the cursors, and the version stays a number
-  -- of 64 bits.
+  -- pending steps may be carried over others', the cursors are within the document, and the version stays a
+  -- number of 64 bits.
   pub record Fits (c : Client C Rules Doc Reason) (rest : List (Named C)) : Type 0 where
     pub leading : MayConfirm c (own_run c.name rest)
     pub applies : (end : Doc) × AllApply m rules c.base rest end
     pub over : (base : Doc) → AllApply m rules c.base rest base
-        → CanRebaseOver m rules base (drop (own_run c.name rest) rest) (drop (own_run c.name rest) c.pending)
-    pub room : (base : Doc) → AllApply m rules c.base rest base
-        → All (HasRoomIn (carried m rules c (own_run c.name rest) (drop (own_run c.name rest) rest) base).maps) c.cursors
+        → CanRebaseOver m rules base (drop (own_run c.name rest) rest) (drop (own_run c.name rest) c.pending) c.doc
+    pub cursors : AreWithin (m.size c.doc) c.cursors
     pub have_maps : All (NamedHasMap m) (drop (own_run c.name rest) rest)
     pub short : c.version + length rest < 2 ^ 64

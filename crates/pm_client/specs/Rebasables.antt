@@ -5,8 +5,7 @@ use Rattle.pm_map.specs.Fits.{FitBetween}
 use Rattle.pm_change.specs.Changes.{Meaning}
 use Rattle.pm_authority.specs.declared.named.Named.{Named}
 use Rattle.pm_authority.specs.Runs.{AllApply}
-use Rattle.pm_client.specs.declared.rebasing.Rebasing.{Rebasing}
-use Rattle.pm_client.specs.Rebases.{maps_of, start}
+use Rattle.pm_client.specs.Rebases.{Rebasing, maps_of, start}
 
 module _ {Rules Doc Reason C : Type 0} (m : Meaning Rules Doc Reason C) where
   -- a step whose map may be asked for
@@ -32,8 +31,10 @@ module _ {Rules Doc Reason C : Type 0} (m : Meaning Rules Doc Reason C) (rules :
     pub applies : (next : Doc) × (m.outcome rules n.change old ≡ Ok next)
     pub fits : FitBetween so.maps (m.size old) (m.size so.doc)
 
-  -- Pending steps may be carried over others' steps, which lead to this base: both apply to one old document.
-  pub record CanRebaseOver (base : Doc) (foreign pending : List (Named C)) : Type 0 where
+  -- Pending steps may be carried over others' steps, which lead to this base: both apply to one old document, and the
+  -- pending ones lead to this end.
+  pub record CanRebaseOver (base : Doc) (foreign pending : List (Named C)) (end : Doc) : Type 0 where
     pub old : Doc
     pub can : CanRebase old (start m base (maps_of m foreign)) pending
+    pub ends : AllApply m rules old pending end
     pub have_maps : All (NamedHasMap m) foreign

@@ -1,5 +1,5 @@
 -- Pending steps carried over others' steps.
-use Rattle.std.specs.Prelude.{List, [], ◌∷◌, ◌++◌, map, Option, Some, None, Result, Ok, Err}
+use Rattle.std.specs.Prelude.{ℕ, List, [], ◌∷◌, ◌++◌, map, Option, Some, None, Result, Ok, Err}
 use Rattle.pm_map.specs.declared.step_map.Span.{Span}
 use Rattle.pm_map.specs.declared.mapping.Mirrored.{Mirrored}
 use Rattle.pm_map.specs.Moves.{inverted_ranges}
@@ -7,7 +7,18 @@ use Rattle.pm_map.specs.Mirrors.{entry, fronted, enclosed}
 use Rattle.pm_change.specs.Changes.{Meaning}
 use Rattle.pm_authority.specs.declared.named.Named.{Named}
 use Rattle.pm_history.specs.Undos.{own_item}
-use Rattle.pm_client.specs.declared.rebasing.Rebasing.{Rebasing}
+use Rattle.pm_history.specs.declared.item.Item.{Item}
+
+-- How far pending steps were carried. The maps lead from the document before those that were gone through to `doc`: over the
+-- maps back of them all, from the latest to the first, over others' maps, and over the maps of the steps kept, each of which
+-- is the mirror of the map back of the step that it comes from. The items are those of the steps kept, none of which says yet
+-- what its step undoes. The serials dropped are of the steps that were lost, in the order in which these were pending.
+pub record Rebasing (C Rules Doc Reason : Type 0) : Type 0 where
+  pub doc : Doc
+  pub maps : List Mirrored
+  pub kept : List (Named C)
+  pub items : List (Item C)
+  pub dropped : List ℕ
 
 module _ {Rules Doc Reason C : Type 0} (m : Meaning Rules Doc Reason C) where
   -- a step's map, in no pair

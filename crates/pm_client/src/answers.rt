@@ -14,7 +14,7 @@ use crate::cursors::move_all;
 use crate::making::step_maps;
 use crate::naming::own_steps;
 use crate::plan::Plan;
-use crate::rebasing::{Rebasing, rebase_over};
+use crate::rebasing::{Rebaser, rebase_over};
 use crate::serials::merge;
 use crate::taken::Taken;
 use pm_authority::{Answer, Named, apply_all};
@@ -148,7 +148,7 @@ impl<C: Change> Client<C> {
             foreign: step_maps(alloc, &rest[own..])?,
             base,
             dropped: merge(alloc, self.dropped.as_slice(), rebasing.dropped.as_slice())?,
-            cursors: move_all(alloc, self.cursors.as_slice(), &rebasing.maps)?,
+            cursors: move_all(alloc, self.cursors.as_slice(), &rebasing.frames)?,
             rebasing,
         })
     }
@@ -194,9 +194,9 @@ impl<C: Change> Client<C> {
                 dropped,
                 cursors,
             } => {
-                let Rebasing {
+                let Rebaser {
                     doc,
-                    maps: _,
+                    frames: _,
                     kept,
                     items,
                     dropped: lost,

@@ -1,8 +1,10 @@
 //! A client: its base, what is pending, and its document.
+ghost use Rattle.std.specs.List.{AllByRecursion as Each};
 ghost use Rattle.std.specs.Prelude.{◌≡◌, ◌+◌, ◌-◌, ◌<◌, ◌≤◌, ◌^◌, List, [], length, Some, IfOk, IfErr, OnOk, OnErr};
+ghost use Rattle.pm_authority.specs.Runs.{AllApply};
 ghost use Rattle.pm_authority.specs.declared.named.Named.{Named};
-ghost use Rattle.pm_client.specs.Clients.{new_client, cursor_set, IsCursorRefusal, composed, kept, message_of, message_at};
-ghost use Rattle.pm_client.specs.Kins.{AnswerStands, Kin};
+ghost use Rattle.pm_client.specs.Clients.{new_client, entered_client, cursor_set, IsCursorRefusal, composed, kept, message_of, message_at};
+ghost use Rattle.pm_client.specs.Kins.{AnswerStands, IsForeign, Kin};
 
 use crate::cursors::Cursor;
 use crate::failing::CursorError;
@@ -53,6 +55,24 @@ impl<C: Change> Client<C> {
             cursors: Listed::new(alloc),
             history: Branches::new(alloc),
         })
+    }
+
+    /// A client of this name that comes late: at this version, with this document, which is that of the log's first `version`
+    /// steps. It has nothing pending, and no message, serial, cursor or event. It keeps a copy of the document as its base.
+    pub fn entered(
+        alloc: Global,
+        name: u32,
+        version: u64,
+        doc: C::Doc,
+    ) -> Result<Client<C>, AllocError>
+        ensures entered { IfOk result (λ c. c ≡ entered_client name version doc) }
+        // It stands to a log of that length that gives the document, where the log has no step of its name.
+        ensures kin { (rules : C.Rules) (first : C.Doc) (log : List (Named C)) → C.means.is_good rules first → AllApply C.means rules first log doc
+            → version ≡ length log → Each (IsForeign name) log → IfOk result (Kin C.means rules first log) }
+    {
+        let mut client = Client::new(alloc, name, doc)?;
+        client.version = version;
+        Ok(client)
     }
 
     /// The client's name.

@@ -1,6 +1,6 @@
 //! What taking an answer is to do.
 use crate::cursors::Cursor;
-use crate::rebasing::Rebasing;
+use crate::rebasing::Rebaser;
 use pm_change::Change;
 use pm_list::Listed;
 use pm_map::StepMap;
@@ -23,7 +23,7 @@ pub enum Plan<C: Change> {
         own: u64,
         foreign: Vec<StepMap>,
         base: C::Doc,
-        rebasing: Rebasing<C>,
+        rebasing: Rebaser<C>,
         dropped: Listed<u64>,
         cursors: Listed<Cursor>,
     },

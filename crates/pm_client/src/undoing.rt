@@ -7,7 +7,8 @@ ghost use Rattle.pm_history.specs.Turns.{any_numbered, event_for};
 ghost use Rattle.pm_history.specs.Undos.{undo_event};
 ghost use Rattle.pm_client.specs.declared.failing.UndoError.TheVariants.{NothingToUndo, NoMemory};
 ghost use Rattle.pm_client.specs.Clients.{named, turned, turned_if, undone_last, redone_last, undone_event};
-ghost use Rattle.pm_client.specs.Cursors.{HasRoomIn};
+ghost use Rattle.pm_map.specs.Positions.{MayLead, IsItself};
+ghost use Rattle.pm_client.specs.Cursors.{AreIn};
 ghost use Rattle.pm_client.specs.Kins.{Kin, Stands};
 ghost use Rattle.pm_client.specs.Rebases.{maps_of};
 ghost use Rattle.pm_client.specs.Rebasables.{NamedHasMap};
@@ -151,7 +152,7 @@ impl<C: Change> Client<C> {
         undone: Undone<C::Doc, C>,
     ) -> Result<u64, UndoError>
         requires maps { All (NamedHasMap C.means) (named self.old.name (self.old.serials + 1) undone.made) }
-        requires room { All (HasRoomIn (maps_of C.means (named self.old.name (self.old.serials + 1) undone.made))) self.old.cursors }
+        requires room { MayLead AreIn IsItself self.old.cursors (maps_of C.means (named self.old.name (self.old.serials + 1) undone.made)) }
         requires serials { undone.serial ≡ self.old.serials + 1 + length undone.made }
         ensures count { IfOk result (λ n. n ≡ length undone.made) }
         ensures turned { OnOk result (self.new ≡ turned C.means self.old turn number undone) }

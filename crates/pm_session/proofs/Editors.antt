@@ -13,7 +13,7 @@ use Rattle.pm_client.specs.declared.taken.MessageKind.{MessageKind}
 use Rattle.pm_client.specs.declared.taken.MessageKind.TheVariants.{Submit as Submission, Ask as Asking}
 use Rattle.pm_client.specs.Clients.{undone_last, redone_last, undone_event, message_of, message_at, composed, kept}
 use Rattle.pm_session.specs.declared.line.Act.{Act}
-use Rattle.pm_session.specs.declared.line.Act.TheVariants.{Edit, Undo, Redo, UndoEvent, Cursor, Submit, Ask, Present, Take, Push, Pull, Forge}
+use Rattle.pm_session.specs.declared.line.Act.TheVariants.{Edit, Undo, Redo, UndoEvent, Cursor, Submit, Ask, Present, Take, Push, Pull, Forge, Enter}
 use Rattle.pm_session.specs.declared.member.Member.{Member}
 use Rattle.pm_session.specs.declared.member.Member.TheVariants.{Editor}
 use Rattle.pm_session.specs.declared.outcome.Outcome.{Outcome}
@@ -63,6 +63,7 @@ module _ {Rules Doc Reason C : Type 0} (m : Meaning Rules Doc Reason C) (rules :
     editor_acts a (Push lost) c = exchanges_at a c Submission lost
     editor_acts a (Pull lost) c = exchanges_at a c Asking lost
     editor_acts a (Forge version steps) c = (NoneMade NotThere, a, c)
+    editor_acts a Enter c = (NoneMade NotThere, a, c)
 
     -- that is what a member does that is an editor
     pub acted-editor : (a : Authority C Rules Doc Reason) (act : Act Op C) (c : Client C Rules Doc Reason)
@@ -78,6 +79,7 @@ module _ {Rules Doc Reason C : Type 0} (m : Meaning Rules Doc Reason C) (rules :
     acted-editor a (Push lost) c = refl
     acted-editor a (Pull lost) c = refl
     acted-editor a (Forge version steps) c = refl
+    acted-editor a Enter c = refl
     acted-editor a (Present j) c = from (message_at c j)
       where
         from : (o : Option (Message C))
@@ -111,6 +113,7 @@ module _ {Rules Doc Reason C : Type 0} (m : Meaning Rules Doc Reason C) (rules :
   EditorLeft a c (Push lost) p = WasExchanging a c Submission p
   EditorLeft a c (Pull lost) p = WasExchanging a c Asking p
   EditorLeft a c (Forge version steps) p = AsWas a c p
+  EditorLeft a c Enter p = AsWas a c p
 
   module _ (a new : Authority C Rules Doc Reason) (c : Client C Rules Doc Reason) (next : Member C Rules Doc Reason) where
     abbrev Both : Type 0
@@ -162,6 +165,7 @@ module _ {Rules Doc Reason C : Type 0} (m : Meaning Rules Doc Reason C) (rules :
     left-editor Ask h = as-was h
     left-editor (Take n) h = as-was h
     left-editor (Forge version steps) h = as-was h
+    left-editor Enter h = as-was h
     left-editor (Push lost) h = exchanging Submission h
     left-editor (Pull lost) h = exchanging Asking h
     left-editor (Present j) h = let p = presenting h.0 h.2 in (p.0, p.1, (h.0, h.1, p.2))

@@ -21,7 +21,7 @@ use Rattle.pm_client.proofs.Keeps.{kin-composed}
 use Rattle.pm_client.specs.Kins.{Kin}
 use Rattle.pm_client.specs.Serials.{Parted}
 use Rattle.pm_session.specs.declared.line.Act.{Act}
-use Rattle.pm_session.specs.declared.line.Act.TheVariants.{Edit, Undo, Redo, UndoEvent, Cursor, Submit, Ask, Present, Take, Push, Pull, Forge}
+use Rattle.pm_session.specs.declared.line.Act.TheVariants.{Edit, Undo, Redo, UndoEvent, Cursor, Submit, Ask, Present, Take, Push, Pull, Forge, Enter}
 use Rattle.pm_session.specs.declared.line.Line.{Line}
 use Rattle.pm_session.specs.declared.member.Member.{Member}
 use Rattle.pm_session.specs.declared.member.Member.TheVariants.{Editor, Raw}
@@ -126,6 +126,7 @@ module _ {Rules Doc Reason C : Type 0} (m : Meaning Rules Doc Reason C) (rules :
     acted-answered makes Ask named = refl
     acted-answered makes (Take n) named = refl
     acted-answered makes (Forge version steps) named = refl
+    acted-answered makes Enter named = refl
 
   raw-answered : {Op : Type 0} (makes : Doc → Op → Result (List C) NoStep) (a : Authority C Rules Doc Reason) (name serial : ℕ) (act : Act Op C)
       → AnsweredByRaw m rules act a name serial (acted m rules makes a act (Raw name serial)).0 (acted m rules makes a act (Raw name serial)).1
@@ -134,6 +135,7 @@ module _ {Rules Doc Reason C : Type 0} (m : Meaning Rules Doc Reason C) (rules :
       ((presented m rules a message).0, gets a message, refl)
   raw-answered makes a name serial (Edit op event) = refl
   raw-answered makes a name serial Undo = refl
+  raw-answered makes a name serial Enter = refl
   raw-answered makes a name serial Redo = refl
   raw-answered makes a name serial (UndoEvent number) = refl
   raw-answered makes a name serial (Cursor p side) = refl

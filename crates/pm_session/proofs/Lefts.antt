@@ -11,7 +11,7 @@ use Rattle.pm_client.specs.declared.taken.MessageKind.TheVariants.{Submit as Sub
 use Rattle.pm_client.specs.Clients.{message_at}
 use Rattle.pm_client.specs.Kins.{Kin}
 use Rattle.pm_session.specs.declared.line.Act.{Act}
-use Rattle.pm_session.specs.declared.line.Act.TheVariants.{Edit, Undo, Redo, UndoEvent, Cursor, Submit, Ask, Present, Take, Push, Pull, Forge}
+use Rattle.pm_session.specs.declared.line.Act.TheVariants.{Edit, Undo, Redo, UndoEvent, Cursor, Submit, Ask, Present, Take, Push, Pull, Forge, Enter}
 use Rattle.pm_session.specs.declared.line.Line.{Line}
 use Rattle.pm_session.specs.Events.{State}
 use Rattle.pm_session.specs.Left.{LeftByLine, LeftByExchange, LeftPulling}
@@ -68,3 +68,4 @@ module _ {Rules Doc Reason C : Type 0} (m : Meaning Rules Doc Reason C) (rules :
     left-moved (Push lost) p h = exchanging Submission p h
     left-moved (Pull lost) p h = exchanging Asking p h
     left-moved (Forge version steps) p h = as-was p h
+    left-moved Enter p h = as-was p h

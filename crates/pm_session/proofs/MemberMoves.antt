@@ -17,7 +17,7 @@ use Rattle.pm_client.specs.Serials.{own_serials}
 use Rattle.pm_client.proofs.SerialLists.{own_serials-append, own_serials-foreign}
 use Rattle.pm_client.proofs.Takings.{get-index}
 use Rattle.pm_session.specs.declared.line.Act.{Act}
-use Rattle.pm_session.specs.declared.line.Act.TheVariants.{Edit, Undo, Redo, UndoEvent, Cursor, Submit, Ask, Present, Take, Push, Pull, Forge}
+use Rattle.pm_session.specs.declared.line.Act.TheVariants.{Edit, Undo, Redo, UndoEvent, Cursor, Submit, Ask, Present, Take, Push, Pull, Forge, Enter}
 use Rattle.pm_session.specs.declared.member.Member.{Member}
 use Rattle.pm_session.specs.declared.member.Member.TheVariants.{Editor, Raw}
 use Rattle.pm_session.specs.Events.{State, placed, member_exchanges, acted}
@@ -93,6 +93,7 @@ module _ {Rules Doc Reason C : Type 0} (m : Meaning Rules Doc Reason C) (rules :
           }
       raw-moved name serial drawn (Edit op event) h = absurd (cc)
       raw-moved name serial drawn Undo h = absurd (cc)
+      raw-moved name serial drawn Enter h = absurd (cc)
       raw-moved name serial drawn Redo h = absurd (cc)
       raw-moved name serial drawn (UndoEvent number) h = absurd (cc)
       raw-moved name serial drawn (Cursor p side) h = absurd (cc)

@@ -30,7 +30,7 @@ use Rattle.pm_client.proofs.Keeps.{kin-edited, kin-cursor, kin-composed}
 use Rattle.pm_client.proofs.Turns.{kin-turned}
 use Rattle.pm_client.proofs.Answering.{After, presented-kept, presented-only}
 use Rattle.pm_session.specs.declared.line.Act.{Act}
-use Rattle.pm_session.specs.declared.line.Act.TheVariants.{Edit, Undo, Redo, UndoEvent, Cursor, Submit, Ask, Present, Take, Push, Pull, Forge}
+use Rattle.pm_session.specs.declared.line.Act.TheVariants.{Edit, Undo, Redo, UndoEvent, Cursor, Submit, Ask, Present, Take, Push, Pull, Forge, Enter}
 use Rattle.pm_session.specs.Events.{edits, turns, sets, made}
 use Rattle.pm_session.specs.declared.outcome.Outcome.{Outcome}
 use Rattle.pm_session.specs.declared.outcome.Outcome.TheVariants.{NoStep as NoneMade, CursorAt}
@@ -224,6 +224,7 @@ module _ {Rules Doc Reason C : Type 0} (m : Meaning Rules Doc Reason C) (rules :
     acted-moved (Push lost) h = exchanges-moved Submission lost
     acted-moved (Pull lost) h = exchanges-moved Asking lost
     acted-moved (Forge version steps) h = unmoved m rules laws a stood c kin
+    acted-moved Enter h = unmoved m rules laws a stood c kin
     acted-moved (Present j) h = from (message_at c j) refl
       where
         some : {A : Type 0} (xs : List A) (k : ℕ) → k < length xs → (x : A) × (slice_get xs k ≡ Some x)

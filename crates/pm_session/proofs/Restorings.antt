@@ -11,7 +11,7 @@ use Rattle.pm_client.specs.declared.client.Client.{Client}
 use Rattle.pm_client.specs.Clients.{turned_if}
 use Rattle.pm_client.proofs.Turns.{turned-restores}
 use Rattle.pm_session.specs.declared.line.Act.{Act}
-use Rattle.pm_session.specs.declared.line.Act.TheVariants.{Edit, Undo, Redo, UndoEvent, Cursor, Submit, Ask, Present, Take, Push, Pull, Forge}
+use Rattle.pm_session.specs.declared.line.Act.TheVariants.{Edit, Undo, Redo, UndoEvent, Cursor, Submit, Ask, Present, Take, Push, Pull, Forge, Enter}
 use Rattle.pm_session.specs.declared.line.Line.{Line}
 use Rattle.pm_session.specs.declared.member.Member.TheVariants.{Editor}
 use Rattle.pm_session.specs.Events.{State, turns, acted, played}
@@ -50,6 +50,7 @@ module _ {Rules Doc Reason C : Type 0} (m : Meaning Rules Doc Reason C) (rules :
     acted-restored makes (Push lost) = tt
     acted-restored makes (Pull lost) = tt
     acted-restored makes (Forge version steps) = tt
+    acted-restored makes Enter = tt
 
   module _ {Op : Type 0} (makes : Doc → Op → Result (List C) NoStep) where
     -- a line was played

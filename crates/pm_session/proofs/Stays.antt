@@ -35,7 +35,7 @@ use Rattle.pm_client.proofs.TokenKeeps.{edited-keeps, taken-keeps}
 use Rattle.pm_client.proofs.Turns.{turned-keeps}
 use Rattle.pm_client.specs.Cursors.{cursor}
 use Rattle.pm_session.specs.declared.line.Act.{Act}
-use Rattle.pm_session.specs.declared.line.Act.TheVariants.{Edit, Undo, Redo, UndoEvent, Cursor, Submit, Ask, Present, Take, Push, Pull, Forge}
+use Rattle.pm_session.specs.declared.line.Act.TheVariants.{Edit, Undo, Redo, UndoEvent, Cursor, Submit, Ask, Present, Take, Push, Pull, Forge, Enter}
 use Rattle.pm_session.specs.declared.outcome.Outcome.{Outcome}
 use Rattle.pm_session.specs.declared.outcome.Outcome.TheVariants.{NoStep as NoneMade, CursorAt}
 use Rattle.pm_session.specs.Events.{edits, turns, sets, made}
@@ -303,6 +303,7 @@ module _ {Rules Doc Reason C : Type 0} (m : Meaning Rules Doc Reason C) (rules :
       acted-stayed makes (Push lost) = exchanges-stayed Submission lost
       acted-stayed makes (Pull lost) = exchanges-stayed Asking lost
       acted-stayed makes (Forge version steps) = unmoved
+      acted-stayed makes Enter = unmoved
 
       -- and so it is where an act ran out of memory
       pub left-stayed : (act : Act Op C) (p : Authority C Rules Doc Reason × Client C Rules Doc Reason) → EditorLeft m rules a c act p → Stayed p.0 p.1
@@ -318,3 +319,4 @@ module _ {Rules Doc Reason C : Type 0} (m : Meaning Rules Doc Reason C) (rules :
       left-stayed (Push lost) p h = exchanging Submission p h
       left-stayed (Pull lost) p h = exchanging Asking p h
       left-stayed (Forge version steps) p h = as-was p h
+      left-stayed Enter p h = as-was p h

@@ -19,7 +19,7 @@ use Rattle.pm_client.specs.Kins.{Kin}
 use Rattle.pm_client.proofs.Keeps.{kin-composed}
 use Rattle.pm_session.specs.declared.line.Line.{Line}
 use Rattle.pm_session.specs.declared.line.Act.{Act}
-use Rattle.pm_session.specs.declared.line.Act.TheVariants.{Edit, Undo, Redo, UndoEvent, Cursor, Submit, Ask, Present, Take, Push, Pull, Forge}
+use Rattle.pm_session.specs.declared.line.Act.TheVariants.{Edit, Undo, Redo, UndoEvent, Cursor, Submit, Ask, Present, Take, Push, Pull, Forge, Enter}
 use Rattle.pm_session.specs.declared.member.Member.{Member}
 use Rattle.pm_session.specs.declared.member.Member.TheVariants.{Editor, Raw}
 use Rattle.pm_session.specs.declared.outcome.Outcome.{Outcome}
@@ -98,6 +98,7 @@ module _ {Rules Doc Reason C : Type 0} (m : Meaning Rules Doc Reason C) (rules :
   acted-none makes (Push lost) = exchanges-none Submission lost
   acted-none makes (Pull lost) = exchanges-none Asking lost
   acted-none makes (Forge version steps) = tt
+  acted-none makes Enter = tt
 
 module _ {Rules Doc Reason C : Type 0} (m : Meaning Rules Doc Reason C) (rules : Rules) (laws : Laws m) where
   -- in a sound room no message of an editor is refused for a step

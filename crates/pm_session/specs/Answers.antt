@@ -12,7 +12,7 @@ use Rattle.pm_client.specs.declared.taken.MessageKind.TheVariants.{Submit as Sub
 use Rattle.pm_client.specs.declared.taken.Taken.{Taken}
 use Rattle.pm_client.specs.Clients.{named, message_of, message_at}
 use Rattle.pm_session.specs.declared.line.Act.{Act}
-use Rattle.pm_session.specs.declared.line.Act.TheVariants.{Edit, Undo, Redo, UndoEvent, Cursor, Submit, Ask, Present, Take, Push, Pull, Forge}
+use Rattle.pm_session.specs.declared.line.Act.TheVariants.{Edit, Undo, Redo, UndoEvent, Cursor, Submit, Ask, Present, Take, Push, Pull, Forge, Enter}
 use Rattle.pm_session.specs.declared.member.Member.{Member}
 use Rattle.pm_session.specs.declared.member.Member.TheVariants.{Editor, Raw}
 use Rattle.pm_session.specs.declared.line.Line.{Line}
@@ -52,6 +52,7 @@ module _ {Rules Doc Reason C : Type 0} (m : Meaning Rules Doc Reason C) (rules :
   AnsweredBy Ask a c o new = new ≡ a
   AnsweredBy (Take n) a c o new = new ≡ a
   AnsweredBy (Forge version steps) a c o new = new ≡ a
+  AnsweredBy Enter a c o new = new ≡ a
 
   -- A line of this act by a raw client of this name that has drawn so many serials. What it forges is a submission at the
   -- line's version, whose steps have the client's name and its next serials. The submission gets an answer, which may refuse
@@ -61,6 +62,7 @@ module _ {Rules Doc Reason C : Type 0} (m : Meaning Rules Doc Reason C) (rules :
       (answer : Answer C Rules Doc Reason) × Gets a (SubmitMessage version (named name (serial + 1) steps)) answer new × (o ≡ Answered (told answer))
   AnsweredByRaw (Edit op event) a name serial o new = new ≡ a
   AnsweredByRaw Undo a name serial o new = new ≡ a
+  AnsweredByRaw Enter a name serial o new = new ≡ a
   AnsweredByRaw Redo a name serial o new = new ≡ a
   AnsweredByRaw (UndoEvent number) a name serial o new = new ≡ a
   AnsweredByRaw (Cursor p side) a name serial o new = new ≡ a

@@ -17,7 +17,7 @@ use Rattle.pm_client.specs.declared.taken.MessageKind.TheVariants.{Submit as Sub
 use Rattle.pm_client.specs.Clients.{edited, undone_last, redone_last, undone_event, cursor_set, named, message_of, message_at, composed, kept, taken, taken_at}
 use Rattle.pm_session.specs.declared.line.Line.{Line}
 use Rattle.pm_session.specs.declared.line.Act.{Act}
-use Rattle.pm_session.specs.declared.line.Act.TheVariants.{Edit, Undo, Redo, UndoEvent, Cursor, Submit, Ask, Present, Take, Push, Pull, Forge}
+use Rattle.pm_session.specs.declared.line.Act.TheVariants.{Edit, Undo, Redo, UndoEvent, Cursor, Submit, Ask, Present, Take, Push, Pull, Forge, Enter}
 use Rattle.pm_session.specs.declared.member.Member.{Member}
 use Rattle.pm_session.specs.declared.member.Member.TheVariants.{Editor, Raw}
 use Rattle.pm_session.specs.declared.outcome.AnswerSummary.{AnswerSummary}
@@ -33,6 +33,7 @@ module _ {C : Type 0} where
   asked_by_raw (Forge version steps) name serial = Some (SubmitMessage version (named name (serial + 1) steps))
   asked_by_raw (Edit op event) name serial = None
   asked_by_raw Undo name serial = None
+  asked_by_raw Enter name serial = None
   asked_by_raw Redo name serial = None
   asked_by_raw (UndoEvent number) name serial = None
   asked_by_raw (Cursor p side) name serial = None
@@ -92,6 +93,7 @@ module _ {Rules Doc Reason C : Type 0} where
   asked_by_editor Ask c = None
   asked_by_editor (Take n) c = None
   asked_by_editor (Forge version steps) c = None
+  asked_by_editor Enter c = None
 
   -- the message that a member presents to the authority by this act, if any
   abbrev pub asked : {Op : Type 0} → Act Op C → Member C Rules Doc Reason → Option (Message C)
@@ -129,6 +131,7 @@ module _ {Rules Doc Reason C : Type 0} where
   finished_by_raw (Forge version steps) name serial answer = draws name serial (length steps) answer
   finished_by_raw (Edit op event) name serial answer = (NoneMade NotThere, Raw name serial)
   finished_by_raw Undo name serial answer = (NoneMade NotThere, Raw name serial)
+  finished_by_raw Enter name serial answer = (NoneMade NotThere, Raw name serial)
   finished_by_raw Redo name serial answer = (NoneMade NotThere, Raw name serial)
   finished_by_raw (UndoEvent number) name serial answer = (NoneMade NotThere, Raw name serial)
   finished_by_raw (Cursor p side) name serial answer = (NoneMade NotThere, Raw name serial)
@@ -199,6 +202,7 @@ module _ {Rules Doc Reason C : Type 0} (m : Meaning Rules Doc Reason C) (rules :
     finished_by_editor (Push lost) c answer = exchanges c Submission lost answer
     finished_by_editor (Pull lost) c answer = exchanges c Asking lost answer
     finished_by_editor (Forge version steps) c answer = (NoneMade NotThere, c)
+    finished_by_editor Enter c answer = (NoneMade NotThere, c)
 
     -- The outcome of an act by a member, and the member after it, from the answer that came. None came where the act presents
     -- no message.

@@ -11,7 +11,7 @@ use Rattle.pm_client.specs.declared.taken.MessageKind.{MessageKind}
 use Rattle.pm_client.specs.declared.taken.MessageKind.TheVariants.{Submit as Submission, Ask as Asking}
 use Rattle.pm_client.specs.Clients.{composed, kept, message_of, message_at}
 use Rattle.pm_session.specs.declared.line.Act.{Act}
-use Rattle.pm_session.specs.declared.line.Act.TheVariants.{Edit, Undo, Redo, UndoEvent, Cursor, Submit, Ask, Present, Take, Push, Pull, Forge}
+use Rattle.pm_session.specs.declared.line.Act.TheVariants.{Edit, Undo, Redo, UndoEvent, Cursor, Submit, Ask, Present, Take, Push, Pull, Forge, Enter}
 use Rattle.pm_session.specs.declared.member.Member.{Member}
 use Rattle.pm_session.specs.declared.member.Member.TheVariants.{Editor, Raw}
 use Rattle.pm_session.specs.declared.line.Line.{Line}
@@ -50,6 +50,7 @@ module _ {Rules Doc Reason C : Type 0} (same : Type 0) (tells : Message C → An
   LeftByEditor (Push lost) c next = LeftExchanging Submission c next
   LeftByEditor (Pull lost) c next = LeftExchanging Asking c next
   LeftByEditor (Forge version steps) c next = LeftAsWas (Editor c) next
+  LeftByEditor Enter c next = LeftAsWas (Editor c) next
 
   -- an act by a member left this; of what a raw client forges nothing was done
   abbrev pub LeftBy : {Op : Type 0} → Act Op C → Member C Rules Doc Reason → Member C Rules Doc Reason → Type 0

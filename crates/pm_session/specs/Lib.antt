@@ -2,6 +2,7 @@ pub mod Makes
 pub mod Members
 pub mod Hosts
 pub mod Events
+pub mod Idle
 pub mod Refusals
 pub mod Sessions
 pub mod Left

@@ -12,7 +12,7 @@ use Rattle.pm_session.specs.declared.line.Line.{Line}
 use Rattle.pm_session.specs.declared.outcome.AnswerSummary.{AnswerSummary}
 use Rattle.pm_session.specs.declared.outcome.AnswerSummary.TheVariants.{Accepted as ToldAccepted, Version, Refused as ToldRefused, Entries as ToldEntries}
 use Rattle.pm_session.specs.declared.outcome.Outcome.{Outcome}
-use Rattle.pm_session.specs.declared.outcome.Outcome.TheVariants.{Made, Nothing, NoStep, Refused, CursorAt, Composed, Answered, Took, Exchanged}
+use Rattle.pm_session.specs.declared.outcome.Outcome.TheVariants.{Made, Nothing, NoStep, Refused, CursorAt, Composed, Answered, Took, Exchanged, Entered}
 use Rattle.pm_session.specs.declared.member.Member.TheVariants.{Editor}
 use Rattle.pm_session.specs.Events.{State}
 use Rattle.pm_session.specs.Suits.{is_forge}
@@ -44,6 +44,7 @@ module _ {Rules Doc Reason C : Type 0} where
   GetsNoRefusal (CursorAt p) = Unit {0}
   GetsNoRefusal (Composed n) = Unit {0}
   GetsNoRefusal (Took taken) = Unit {0}
+  GetsNoRefusal (Entered version) = Unit {0}
 
   -- An act and what became of it. Where a member that doesn't forge, and so is an editor, did it, its answer refused no step.
   -- What a raw client forges may be refused.

@@ -1,11 +1,11 @@
--- Which lines may be played: those that name what was composed or kept by then.
+-- Which lines a room may play: those that name what was composed or kept by then, and do not enter.
 use Rattle.std.specs.Prelude.{◌≡◌, ℕ, ◌≤◌, ◌<◌, ◌==◌, ◌&&◌, nat_lt, nat_le, Bool, true, false, List, [], ◌∷◌, ◌++◌, length, count_by, slice_get, Some}
 use Rattle.pm_client.specs.declared.client.Client.{Client}
 use Rattle.pm_session.specs.declared.member.Member.{Member}
 use Rattle.pm_session.specs.declared.member.Member.TheVariants.{Editor, Raw}
 use Rattle.pm_session.specs.declared.line.Line.{Line}
 use Rattle.pm_session.specs.declared.line.Act.{Act}
-use Rattle.pm_session.specs.declared.line.Act.TheVariants.{Edit, Undo, Redo, UndoEvent, Cursor, Submit, Ask, Present, Take, Push, Pull, Forge}
+use Rattle.pm_session.specs.declared.line.Act.TheVariants.{Edit, Undo, Redo, UndoEvent, Cursor, Submit, Ask, Present, Take, Push, Pull, Forge, Enter}
 use Rattle.pm_session.specs.Events.{State}
 use Rattle.pm_session.specs.Members.{name_of, kinds_of}
 
@@ -24,6 +24,7 @@ module _ {Op C : Type 0} where
   composes_one (Present j) = false
   composes_one (Take n) = false
   composes_one (Forge version steps) = false
+  composes_one Enter = false
 
   -- an act that gets one answer, which is kept
   abbrev pub gets_one : Act Op C → Bool
@@ -39,12 +40,14 @@ module _ {Op C : Type 0} where
   gets_one (Cursor p side) = false
   gets_one (Take n) = false
   gets_one (Forge version steps) = false
+  gets_one Enter = false
 
   -- an act that forges
   abbrev pub is_forge : Act Op C → Bool
   is_forge (Forge version steps) = true
   is_forge (Edit op event) = false
   is_forge Undo = false
+  is_forge Enter = false
   is_forge Redo = false
   is_forge (UndoEvent number) = false
   is_forge (Cursor p side) = false
@@ -69,8 +72,25 @@ module _ {Op C : Type 0} where
   sets_one (Push lost) = false
   sets_one (Pull lost) = false
   sets_one (Forge version steps) = false
+  sets_one Enter = false
 
-  -- an act that names a message or an answer names one of so many
+  -- an act by which a client comes late
+  abbrev pub enters : Act Op C → Bool
+  enters (Cursor p side) = false
+  enters (Edit op event) = false
+  enters Undo = false
+  enters Redo = false
+  enters (UndoEvent number) = false
+  enters Submit = false
+  enters Ask = false
+  enters (Present j) = false
+  enters (Take n) = false
+  enters (Push lost) = false
+  enters (Pull lost) = false
+  enters (Forge version steps) = false
+  enters Enter = true
+
+  -- An act that names a message or an answer names one of so many. `Enter` suits no member, whatever there is.
   abbrev pub names_one : ℕ → ℕ → Act Op C → Bool
   names_one messages answers (Present j) = nat_lt 0 j && nat_le j messages
   names_one messages answers (Take n) = nat_lt 0 n && nat_le n answers
@@ -84,6 +104,7 @@ module _ {Op C : Type 0} where
   names_one messages answers (Push lost) = true
   names_one messages answers (Pull lost) = true
   names_one messages answers (Forge version steps) = true
+  names_one messages answers Enter = false
 
   -- how many of these lines are the client's and do this
   abbrev pub done_by : (Act Op C → Bool) → ℕ → List (Line Op C) → ℕ
@@ -97,7 +118,7 @@ module _ {Op C : Type 0} where
   abbrev pub answered_by : ℕ → List (Line Op C) → ℕ
   answered_by i lines = done_by gets_one i lines
 
-  -- an act that names a message or an answer names one of so many
+  -- An act that names a message or an answer names one of so many. `Enter` suits no member, whatever there is.
   abbrev pub NamesOneOf : ℕ → ℕ → Act Op C → Type 0
   NamesOneOf messages answers (Present j) = (0 < j) × (j ≤ messages)
   NamesOneOf messages answers (Take n) = (0 < n) × (n ≤ answers)
@@ -111,6 +132,7 @@ module _ {Op C : Type 0} where
   NamesOneOf messages answers (Push lost) = Unit {0}
   NamesOneOf messages answers (Pull lost) = Unit {0}
   NamesOneOf messages answers (Forge version steps) = Unit {0}
+  NamesOneOf messages answers Enter = ⊥
 
   -- A line that suits what the earlier lines composed and got. `raw` says of each client whether it is a raw one: the line's
   -- client is there, and it is a raw one exactly where the line forges.
@@ -124,7 +146,7 @@ module _ {Op C : Type 0} where
   AllSuit raw earlier (line ∷ lines) = Suits raw earlier line × AllSuit raw (earlier ++ line ∷ []) lines
 
   -- An act that suits a member as it stands. An editor doesn't forge, and the message or the answer that the act names is
-  -- there. A raw client forges, and does nothing else.
+  -- there. A raw client forges, and does nothing else. No member enters.
   abbrev pub ActSuits : {Rules Doc Reason : Type 0} → Member C Rules Doc Reason → Act Op C → Type 0
   ActSuits (Editor c) act = (is_forge act ≡ false) × NamesOneOf (length c.messages) (length c.answers) act
   ActSuits (Raw name serial) act = is_forge act ≡ true

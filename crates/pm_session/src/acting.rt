@@ -93,7 +93,8 @@ fn act_editor<C: Change, K: Maker<C>, H: Host<C>>(
         Act::Forge {
             version: _,
             steps: _,
-        } => unreachable!(),
+        }
+        | Act::Enter => unreachable!(),
     }
 }
 

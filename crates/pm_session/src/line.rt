@@ -1,11 +1,11 @@
 //! One line of a session.
 ghost use Rattle.std.specs.Prelude.{◌≡◌};
-ghost use Rattle.pm_session.specs.Suits.{composes_one, gets_one, names_one, sets_one};
+ghost use Rattle.pm_session.specs.Suits.{composes_one, gets_one, names_one, enters, sets_one};
 
 use pm_list::Listed;
 use pm_map::Side;
 
-/// What a line does. All acts but `Forge` are an editor's, and `Forge` is a raw client's.
+/// What a line does. All acts but `Forge` are an editor's, and `Forge` is a raw client's. `Enter` is an editor's that comes late.
 #[derive(Debug, Drop)]
 pub enum Act<O, C> {
     /// Makes the steps of this op. They join the last event to undo where that is open and has this number; else they are a
@@ -34,6 +34,8 @@ pub enum Act<O, C> {
     /// Presents a submission of these steps at this version. Each step gets the raw client's name and its next serial, also
     /// where the submission is refused.
     Forge { version: u64, steps: Listed<C> },
+    /// Comes late: the client stands at the log's end from here on. No member of a room plays it; a room of pm_versions does.
+    Enter,
 }
 
 impl<O, C> Act<O, C> {
@@ -53,7 +55,8 @@ impl<O, C> Act<O, C> {
             | Act::Forge {
                 version: _,
                 steps: _,
-            } => false,
+            }
+            | Act::Enter => false,
         }
     }
 
@@ -74,17 +77,20 @@ impl<O, C> Act<O, C> {
             | Act::Forge {
                 version: _,
                 steps: _,
-            } => false,
+            }
+            | Act::Enter => false,
         }
     }
 
-    /// Whether the message or the answer that it names is one of so many, counted from 1; true where it names none.
+    /// Whether the message or the answer that it names is one of so many, counted from 1; true where it names none, but false
+    /// for `Enter`, which no member plays.
     pub fn names(&self, messages: u64, answers: u64) -> bool
         ensures { result ≡ names_one messages answers self.now }
     {
         match self {
             Act::Present { message } => 0 < *message && *message <= messages,
             Act::Take { answer } => 0 < *answer && *answer <= answers,
+            Act::Enter => false,
             Act::Edit { op: _, event: _ }
             | Act::Undo
             | Act::Redo
@@ -98,6 +104,30 @@ impl<O, C> Act<O, C> {
                 version: _,
                 steps: _,
             } => true,
+        }
+    }
+
+    /// Whether a client comes late by it.
+    pub fn enters(&self) -> bool
+        ensures { result ≡ enters self.now }
+    {
+        match self {
+            Act::Enter => true,
+            Act::Edit { op: _, event: _ }
+            | Act::Undo
+            | Act::Redo
+            | Act::UndoEvent { event: _ }
+            | Act::Cursor { pos: _, side: _ }
+            | Act::Submit
+            | Act::Ask
+            | Act::Present { message: _ }
+            | Act::Take { answer: _ }
+            | Act::Push { lost: _ }
+            | Act::Pull { lost: _ }
+            | Act::Forge {
+                version: _,
+                steps: _,
+            } => false,
         }
     }
 
@@ -120,7 +150,8 @@ impl<O, C> Act<O, C> {
             | Act::Forge {
                 version: _,
                 steps: _,
-            } => false,
+            }
+            | Act::Enter => false,
         }
     }
 }

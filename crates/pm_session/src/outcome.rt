@@ -54,4 +54,8 @@ pub enum Outcome<C: Change> {
         told: AnswerSummary<C>,
         taken: Option<Taken>,
     },
+    /// A client that comes late stands at this version, which is the log's length.
+    Entered {
+        version: u64,
+    },
 }

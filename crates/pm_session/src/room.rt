@@ -1,7 +1,8 @@
 //! A room: an authority and its members.
 ghost use Rattle.std.specs.Prelude.{◌≡◌, ◌≤◌, ◌<◌, ◌+◌, ℕ, length, slice_get, take, vec_len, Some, IfOk, OnErr, OnOk};
 ghost use Rattle.pm_client.specs.declared.taken.MessageKind.TheVariants.{Ask};
-ghost use Rattle.pm_session.specs.Events.{state_of, by_member, member_exchanges, played};
+ghost use Rattle.pm_session.specs.Events.{state_of, placed, by_member, member_exchanges, played};
+ghost use Rattle.pm_session.specs.Idle.{IsIdleAt};
 ghost use Rattle.pm_session.specs.Members.{name_of};
 ghost use Rattle.pm_session.specs.Left.{LeftByLine, LeftByLines, LeftByExchange, LeftBringing, LeftPulling, LeftBySettle};
 ghost use Rattle.pm_session.specs.Restoring.{Restores};
@@ -79,6 +80,17 @@ impl<C: Change> Room<C> {
         ensures { result.now ≡ self.now.members.items }
     {
         self.members.as_slice()
+    }
+
+    /// Puts a member in the place of this client, which has drawn no serial and composed no message. The member must be named
+    /// by the client's number.
+    pub fn replace_member(&mut self, client: u32, member: Member<C>)
+        requires idle { IsIdleAt (state_of self.old) client }
+        requires named { name_of member ≡ client }
+        ensures { state_of self.new ≡ placed (state_of self.old) client self.old.authority member }
+    {
+        let place = &mut self.members[client as usize];
+        *place = member;
     }
 
     /// Plays a line, which must suit the room: its member is there, a raw client forges and an editor does not, and the

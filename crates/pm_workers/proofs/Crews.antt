@@ -11,7 +11,7 @@ use Rattle.pm_desk.specs.Desks.{DeskValue, SeatValue}
 use Rattle.pm_desk.specs.Histories.{state_at, calls_of, StartsWith}
 use Rattle.pm_session.specs.declared.line.Line.{Line}
 use Rattle.pm_session.specs.declared.line.Act.{Act}
-use Rattle.pm_session.specs.declared.line.Act.TheVariants.{Edit, Undo, Redo, UndoEvent, Cursor, Submit, Ask, Present, Take, Push, Pull, Forge}
+use Rattle.pm_session.specs.declared.line.Act.TheVariants.{Edit, Undo, Redo, UndoEvent, Cursor, Submit, Ask, Present, Take, Push, Pull, Forge, Enter}
 use Rattle.pm_session.specs.declared.member.Member.{Member}
 use Rattle.pm_session.specs.declared.member.Member.TheVariants.{Editor, Raw}
 use Rattle.pm_session.specs.declared.outcome.Outcome.{Outcome}
@@ -67,6 +67,7 @@ module _ {Op C : Type 0} (raw : List Bool) (i : ℕ) where
   forge-names (Take j) k n e = absurd (cc)
   forge-names (Push lost) k n e = absurd (cc)
   forge-names (Pull lost) k n e = absurd (cc)
+  forge-names Enter k n e = absurd (cc)
 
   -- the lines of a raw client
   raw-suits : (earlier lines : List (Line Op C)) (k n : ℕ) → slice_get raw i ≡ Some true → Each (λ line. line.client ≡ i) lines → AllSuit raw earlier lines → SuitInTurn i true k n lines

@@ -16,7 +16,7 @@ use Rattle.pm_client.specs.declared.taken.MessageKind.TheVariants.{Submit as Sub
 use Rattle.pm_client.specs.Clients.{edited, event_turned, turned_if, cursor_set, message_of, composed, kept, taken, taken_at}
 use Rattle.pm_session.specs.declared.line.Line.{Line}
 use Rattle.pm_session.specs.declared.line.Act.{Act}
-use Rattle.pm_session.specs.declared.line.Act.TheVariants.{Edit, Undo, Redo, UndoEvent, Cursor, Submit, Ask, Present, Take, Push, Pull, Forge}
+use Rattle.pm_session.specs.declared.line.Act.TheVariants.{Edit, Undo, Redo, UndoEvent, Cursor, Submit, Ask, Present, Take, Push, Pull, Forge, Enter}
 use Rattle.pm_session.specs.declared.member.Member.{Member}
 use Rattle.pm_session.specs.declared.member.Member.TheVariants.{Editor, Raw}
 use Rattle.pm_session.specs.declared.outcome.Outcome.{Outcome}
@@ -119,6 +119,7 @@ module _ {Rules Doc Reason C : Type 0} (m : Meaning Rules Doc Reason C) (rules :
   alone-counted (Editor c) (Push lost) suits none = absurd (cc)
   alone-counted (Editor c) (Pull lost) suits none = absurd (cc)
   alone-counted (Editor c) (Forge version steps) suits none = absurd (let e = suits.0 in cc)
+  alone-counted (Editor c) Enter suits none = absurd suits.1
   alone-counted (Raw name serial) (Edit op event) suits none = absurd (cc)
   alone-counted (Raw name serial) Undo suits none = absurd (cc)
   alone-counted (Raw name serial) Redo suits none = absurd (cc)
@@ -130,6 +131,7 @@ module _ {Rules Doc Reason C : Type 0} (m : Meaning Rules Doc Reason C) (rules :
   alone-counted (Raw name serial) (Take n) suits none = absurd (cc)
   alone-counted (Raw name serial) (Push lost) suits none = absurd (cc)
   alone-counted (Raw name serial) (Pull lost) suits none = absurd (cc)
+  alone-counted (Raw name serial) Enter suits none = absurd (cc)
   alone-counted (Raw name serial) (Forge version steps) suits none = absurd (cc)
 
   -- an act that presents a message, which gets this answer
@@ -146,6 +148,7 @@ module _ {Rules Doc Reason C : Type 0} (m : Meaning Rules Doc Reason C) (rules :
   given-counted (Editor c) Submit message answer is = absurd (cc)
   given-counted (Editor c) Ask message answer is = absurd (cc)
   given-counted (Editor c) (Take n) message answer is = absurd (cc)
+  given-counted (Editor c) Enter message answer is = absurd (cc)
   given-counted (Editor c) (Forge version steps) message answer is = absurd (cc)
   given-counted (Raw name serial) (Forge version steps) message answer is = record { name = refl; kind = refl; messages = refl; answers = refl }
   given-counted (Raw name serial) (Edit op event) message answer is = absurd (cc)
@@ -158,6 +161,7 @@ module _ {Rules Doc Reason C : Type 0} (m : Meaning Rules Doc Reason C) (rules :
   given-counted (Raw name serial) (Present j) message answer is = absurd (cc)
   given-counted (Raw name serial) (Take n) message answer is = absurd (cc)
   given-counted (Raw name serial) (Push lost) message answer is = absurd (cc)
+  given-counted (Raw name serial) Enter message answer is = absurd (cc)
   given-counted (Raw name serial) (Pull lost) message answer is = absurd (cc)
 
   -- an act that suits, wherever its message is presented

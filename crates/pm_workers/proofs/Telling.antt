@@ -18,7 +18,7 @@ use Rattle.pm_client.specs.declared.taken.MessageKind.TheVariants.{Submit as Sub
 use Rattle.pm_client.specs.Clients.{edited, turned_if, event_turned, cursor_set, message_of, composed, kept}
 use Rattle.pm_session.specs.declared.line.Line.{Line}
 use Rattle.pm_session.specs.declared.line.Act.{Act}
-use Rattle.pm_session.specs.declared.line.Act.TheVariants.{Edit, Undo, Redo, UndoEvent, Cursor, Submit, Ask, Present, Take, Push, Pull, Forge}
+use Rattle.pm_session.specs.declared.line.Act.TheVariants.{Edit, Undo, Redo, UndoEvent, Cursor, Submit, Ask, Present, Take, Push, Pull, Forge, Enter}
 use Rattle.pm_session.specs.declared.member.Member.{Member}
 use Rattle.pm_session.specs.declared.member.Member.TheVariants.{Editor, Raw}
 use Rattle.pm_session.specs.declared.outcome.Outcome.{Outcome}
@@ -91,6 +91,7 @@ module _ {Rules Doc Reason C : Type 0} (m : Meaning Rules Doc Reason C) (rules :
     more-box (Push lost) r h some = more-exchanges Submission lost r some
     more-box (Pull lost) r h some = more-exchanges Asking lost r some
     more-box (Forge version steps) r h some = absurd (cc)
+    more-box Enter r h some = (omega arith, omega arith)
 
     -- whether a message is there to present
     tells-editor : (act : Act Op C) (messages answers : ℕ) → is_forge act ≡ false → messages ≡ length c.messages → NamesOneOf messages answers act → is_some (asked act (Editor c)) ≡ presents act
@@ -105,6 +106,7 @@ module _ {Rules Doc Reason C : Type 0} (m : Meaning Rules Doc Reason C) (rules :
     tells-editor Submit n k h e named = refl
     tells-editor Ask n k h e named = refl
     tells-editor (Take j) n k h e named = refl
+    tells-editor Enter n k h e named = refl
     tells-editor (Forge version steps) n k h e named = absurd (cc)
 
 module _ {Rules Doc Reason C Op : Type 0} (m : Meaning Rules Doc Reason C) (rules : Rules) (makes : Doc → Op → Result (List C) NoStep) (raw : List Bool) (i : ℕ) where
@@ -131,6 +133,7 @@ module _ {Rules Doc Reason C Op : Type 0} (m : Meaning Rules Doc Reason C) (rule
   raw-tells (Take n) name serial h = absurd (cc)
   raw-tells (Push lost) name serial h = absurd (cc)
   raw-tells (Pull lost) name serial h = absurd (cc)
+  raw-tells Enter name serial h = absurd (cc)
 
   first-tells : (x : Member C Rules Doc Reason) (line : Line Op C) (earlier : List (Line Op C)) → line.client ≡ i → Keeps earlier x → Suits raw earlier line → is_some (asked line.act x) ≡ presents line.act
   first-tells (Raw name serial) line earlier own k suits = raw-tells line.act name serial (of-kind true line earlier own k.kind suits)
@@ -144,6 +147,7 @@ module _ {Rules Doc Reason C Op : Type 0} (m : Meaning Rules Doc Reason C) (rule
   raw-next (Forge version steps) name serial (Some answer) = (serial + length steps, refl)
   raw-next (Edit op event) name serial r = (serial, refl)
   raw-next Undo name serial r = (serial, refl)
+  raw-next Enter name serial r = (serial, refl)
   raw-next Redo name serial r = (serial, refl)
   raw-next (UndoEvent event) name serial r = (serial, refl)
   raw-next (Cursor p side) name serial r = (serial, refl)

@@ -8,7 +8,7 @@ use Rattle.pm_authority.specs.Presents.{presented}
 use Rattle.pm_desk.specs.declared.history.Past.{Past}
 use Rattle.pm_session.specs.declared.line.Line.{Line}
 use Rattle.pm_session.specs.declared.line.Act.{Act}
-use Rattle.pm_session.specs.declared.line.Act.TheVariants.{Edit, Undo, Redo, UndoEvent, Cursor, Submit, Ask, Present, Take, Push, Pull, Forge}
+use Rattle.pm_session.specs.declared.line.Act.TheVariants.{Edit, Undo, Redo, UndoEvent, Cursor, Submit, Ask, Present, Take, Push, Pull, Forge, Enter}
 use Rattle.pm_workers.specs.Merges.{ClientLine, merged}
 
 module _ {Rules Doc Reason C : Type 0} (m : Meaning Rules Doc Reason C) where
@@ -50,6 +50,7 @@ presents (Cursor p side) = false
 presents Submit = false
 presents Ask = false
 presents (Take n) = false
+presents Enter = false
 
 module _ {Op C : Type 0} where
   -- The lines of client i: the place of each, the first line at place k, and whether it presents a message.

@@ -127,6 +127,7 @@ fn presents<O, C>(act: &Act<O, C>) -> bool
         | Act::Cursor { pos: _, side: _ }
         | Act::Submit
         | Act::Ask
-        | Act::Take { answer: _ } => false,
+        | Act::Take { answer: _ }
+        | Act::Enter => false,
     }
 }

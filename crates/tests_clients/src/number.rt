@@ -3,7 +3,7 @@ ghost use Rattle.std.specs.Prelude.{◌≤◌, nat_lt, Ok, Err, Some, if◌then�
 ghost use Rattle.std.proofs.Common.{rules, inl};
 
 use pm_change::{Change, Failed};
-use pm_map::{Mapping, StepMap};
+use pm_map::{Positions, StepMap};
 use std::alloc::{AllocError, Global};
 
 /// Puts another number in place of the one that is there.
@@ -67,7 +67,11 @@ impl Change for Set {
         StepMap::new(None, None, false)
     }
 
-    fn carry(&self, _alloc: Global, _mapping: &Mapping) -> Result<Option<Set>, AllocError> {
+    fn carry<P: Positions>(
+        &self,
+        _alloc: Global,
+        _positions: &P,
+    ) -> Result<Option<Set>, AllocError> {
         Ok(Some(Set { to: self.to }))
     }
 
