@@ -8,7 +8,7 @@ use crate::round::Round;
 use crate::time::nanos_since;
 use anyhow::{Result, bail, ensure};
 use pm_build::depth_at;
-use pm_node::{Document, Fragment, MAX_SIZE};
+use pm_node::{Document, Fragment};
 use pm_replace::{replace, splice};
 use pm_resolve::resolve;
 use pm_schema::Schema;
@@ -38,7 +38,10 @@ pub fn splice_in<R: Clock + AllocGlobal>(
     let from = from as usize;
     let to = to as usize;
     let content = document.content();
-    ensure!(fits(content, from, to, slice), "the slice does not fit");
+    ensure!(
+        fits(schema, content, from, to, slice),
+        "the slice does not fit"
+    );
     let start = Instant::now(rt)?;
     let made = splice(rt.alloc(), schema, content, from, to, slice);
     let nanos = nanos_since(rt, &start)?;
@@ -50,14 +53,15 @@ pub fn splice_in<R: Clock + AllocGlobal>(
 }
 
 /// Whether the slice can stand in place of the range.
-fn fits(content: &Fragment, from: usize, to: usize, slice: &Slice) -> bool
+fn fits(schema: &Schema, content: &Fragment, from: usize, to: usize, slice: &Slice) -> bool
     ensures order { IsTrue result → from ≤ to }
     ensures within { IsTrue result → to ≤ length content.now }
     ensures depths { IsTrue result → depths_fit content.now from to slice.now ≡ true }
     ensures room { IsTrue result → from + slice_size slice.now + (length content.now - to) < 2 ^ 32 }
 {
     let size = content.size();
-    if to < from || size < to || MAX_SIZE < size || MAX_SIZE < slice.size() {
+    let most = schema.max_size();
+    if to < from || size < to || most < size || most < slice.size() {
         return false;
     }
     let left = depth_at(content, from);

@@ -15,6 +15,9 @@
 
 pub mod standing;
 
+// Values of attributes, and the kinds that an attribute may be kept to.
+pub use pm_value::{Kinds, Text, Value, ValueError};
+
 // Schemas, and reading one from its JSON value.
 pub use pm_schema::{
     AttrError, AttrSpec, AttrSpecs, Attrs, MarkSpec, NodeSpec, Schema, SchemaError, SchemaSpec,
@@ -24,7 +27,7 @@ pub use pm_schemajson::{SchemaReadError, read_schema};
 // Documents: nodes, their content, marks, and slices, which are parts of documents whose sides may be open.
 pub use pm_marks::{Mark, MarkSet};
 pub use pm_node::{
-    Body, CheckError, Document, FillError, Fragment, MAX_DEPTH, MAX_SIZE, Node, Units, make_filled,
+    Body, CheckError, Document, FillError, Fragment, MAX_DEPTH, Node, Units, make_filled,
 };
 pub use pm_slice::{CutError, Slice, cut};
 
@@ -42,9 +45,11 @@ pub use pm_resolve::{Place, PlaceError, resolve};
 // Steps, where positions go over them, and what they make of documents.
 pub use pm_apply::DocChange;
 pub use pm_change::{Change, Failed, MakeError, NoStep};
-pub use pm_map::{Mapping, Moved, Recover, Side, StepMap};
+pub use pm_map::{Mapping, Moved, Positions, Recover, Side, StepMap};
 pub use pm_replace::{Reason, replace};
-pub use pm_step::{MarkStep, Marking, NodeMarkStep, ReplaceAroundStep, ReplaceStep, Step};
+pub use pm_step::{
+    AttrStep, DocAttrStep, MarkStep, Marking, NodeMarkStep, ReplaceAroundStep, ReplaceStep, Step,
+};
 
 // Edits: what an editor asks for, the steps that do it, and a slice fitted to a place.
 pub use pm_edit::steps_for;

@@ -188,6 +188,9 @@ module _ (g : Global) where
     makes = refl;
     never_stuck = λ k d s l m n. n (live k d l s m);
     wraps = refl;
+    versioned = refl;
+    node_defaults = refl;
+    mark_defaults = refl;
   }
 
   pub built : IsBuilt schema

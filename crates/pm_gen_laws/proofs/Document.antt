@@ -15,7 +15,7 @@ use Rattle.std.specs.Str.{chars}
 use Rattle.pm_text.specs.Units.{utf16}
 use Rattle.pm_docjson.specs.Values.{values_for}
 use Rattle.pm_docjson.specs.Reading.{given_in, given_at, attrs_read, mark_of, mark_list, marks_of, text_from, branch_from, node_from, node_of, content_in, content_of, node_list}
-use Rattle.pm_schemajson.specs.Reading.{name_of, groups_of, attr_list, attrs_of, node_fields, mark_fields, node_list as type_list, mark_list as mark_types, marks_of as mark_types_of, types_of}
+use Rattle.pm_schemajson.specs.Reading.{name_of, groups_of, attr_of, attr_list, attrs_of, node_fields, mark_fields, node_list as type_list, mark_list as mark_types, marks_of as mark_types_of, types_of}
 use Rattle.pm_schemajson.specs.Contents.{contents_of, schema_of}
 use Rattle.pm_schemajson.specs.Views.{types_of_spec}
 use Rattle.pm_head.specs.Lines.{json_line}
@@ -70,7 +70,7 @@ top = record { kind = 0; attrs = []; marks = []; body = Children tokens }
 
 module _ (g : Global) where
   schema-read : schema_of schema_data ≡ Ok (types_of_spec (spec g))
-  unfolding schema_of contents_of types_of mark_types_of mark_types type_list mark_fields node_fields attrs_of attr_list groups_of name_of value_at list_at pairs_at
+  unfolding schema_of contents_of types_of mark_types_of mark_types type_list mark_fields node_fields attrs_of attr_list attr_of groups_of name_of value_at list_at pairs_at
   schema-read = refl
 
   pub schema-line : SchemaLine schema_text (Ok (schema g))

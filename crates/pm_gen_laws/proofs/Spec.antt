@@ -44,10 +44,10 @@ module _ (g : Global) where
       node (codes "doc") some_blocks [] false []
       ∷ node (codes "paragraph") any_inlines (codes "block" ∷ []) false []
       ∷ node (codes "blockquote") some_blocks (codes "block" ∷ []) false []
-      ∷ node (codes "heading") any_inlines (codes "block" ∷ []) false (record { name = codes "level"; default = Some (Int (pos 1)) } ∷ [])
+      ∷ node (codes "heading") any_inlines (codes "block" ∷ []) false (record { name = codes "level"; default = Some (Int (pos 1)); validate = None } ∷ [])
       ∷ node (codes "bullet_list") items (codes "block" ∷ []) false []
       ∷ node (codes "list_item") item_content [] false []
-      ∷ node (codes "image") Empty (codes "inline" ∷ []) true (record { name = codes "src"; default = None } ∷ [])
+      ∷ node (codes "image") Empty (codes "inline" ∷ []) true (record { name = codes "src"; default = None; validate = None } ∷ [])
       ∷ node (codes "text") Empty (codes "inline" ∷ []) false []
       ∷ []
 
@@ -56,11 +56,11 @@ module _ (g : Global) where
 
   abbrev pub marks : List MarkSpec
   marks =
-      mark (codes "link") false (record { name = codes "href"; default = None } ∷ []) None
+      mark (codes "link") false (record { name = codes "href"; default = None; validate = None } ∷ []) None
       ∷ mark (codes "em") true [] None
       ∷ mark (codes "strong") true [] None
       ∷ mark (codes "code") true [] (Some (codes "_"))
       ∷ []
 
   abbrev pub spec : SchemaSpec
-  spec = record { nodes = nodes; marks = marks; top = codes "doc" }
+  spec = record { nodes = nodes; marks = marks; top = codes "doc"; version = 1 }

@@ -5,6 +5,8 @@ use Rattle.std.proofs.lemmas.List.{append_cancel_right}
 use Rattle.serde_json.specs.Data.{Data}
 use Rattle.serde_json.specs.Find.{as_null}
 use Rattle.pm_tokens.specs.Tokens.{Attrs, Marks, Token, Close, Doc}
+use Rattle.pm_tokens.specs.Schemas.{max_size}
+use Rattle.pm_schema.specs.Documents.{documents_of}
 use Rattle.pm_tokens.specs.Scan.{is_whole}
 use Rattle.pm_tokens.specs.Faults.{fault}
 use Rattle.pm_schema.specs.declared.spec.SchemaSpec.{SchemaSpec}
@@ -101,7 +103,8 @@ module _ (s t : Schema) (h : types_of_spec s.spec ≡ types_of_spec t.spec) (bs 
       let len : length (node_tokens n) ≡ length g.1.tokens = ap length same in
       let small = f.small in
       let large = g.1.large in
-      omega (arith, len, small, large)
+      let most : max_size (documents_of s.spec) ≡ max_size (documents_of t.spec) = ap max_size (documents-alike s.spec t.spec h) in
+      omega (arith, len, small, large, most)
   filled-apart n f NoMemory code g c = absurd (cc)
 
   -- ---- the node that the value writes

@@ -11,7 +11,7 @@ use Rattle.pm_schema.specs.Generated.{FirstDeadEnd}
 use Rattle.pm_schema.specs.Refusals.{has_top, has_text, is_plain_text, IsNamed, HasAutomata, IsRefused}
 use Rattle.pm_schema.specs.Built.{IsBuilt}
 use Rattle.pm_schemajson.specs.declared.error.SchemaReadError.{SchemaReadError}
-use Rattle.pm_schemajson.specs.declared.error.SchemaReadError.TheVariants.{Shape, Expr, Schema as Unbuilt, Attr, NoMemory, Name}
+use Rattle.pm_schemajson.specs.declared.error.SchemaReadError.TheVariants.{Shape, Expr, Schema as Unbuilt, Attr, NoMemory, Name, BadDefault}
 use Rattle.pm_schemajson.specs.Contents.{schema_of}
 use Rattle.pm_schemajson.specs.Views.{types_of_spec, Refused, IsFault}
 use Rattle.pm_schemajson.proofs.SameTypes.{named-alike, automata-alike, no-first-fault}
@@ -82,6 +82,7 @@ split d (Shape a) code i c = inl (record { fault = Shape a; read = i; is = c })
 split d (Expr k e) code i c = inl (record { fault = Expr k e; read = expr-read d k e i; is = c })
 split d (Attr e) code i c = inl (record { fault = Attr e; read = attr-read d e i; is = c })
 split d (Name a) code i c = inl (record { fault = Name a; read = i; is = c })
+split d (BadDefault n) code i c = inl (record { fault = BadDefault n; read = i; is = c })
 split d NoMemory code i c = absurd (cc)
 split d (Unbuilt build.NoTop) code i c = inr (unbuilt d build.NoTop code i c)
 split d (Unbuilt build.NoText) code i c = inr (unbuilt d build.NoText code i c)

@@ -14,7 +14,7 @@ use Rattle.pm_schema.specs.declared.spec.AttrSpec.{AttrSpec}
 use Rattle.pm_schema.specs.declared.spec.SchemaSpec.{SchemaSpec}
 use Rattle.pm_schema.specs.Names.{place_of}
 use Rattle.pm_schema.specs.Types.{node_at, mark_at}
-use Rattle.pm_schema.specs.Attrs.{given_for, or_default, value_for, is_unknown}
+use Rattle.pm_schema.specs.Attrs.{given_for, or_default, value_for, is_unknown, is_refused, is_other_kind}
 use Rattle.pm_schema.specs.Documents.{documents_of}
 use Rattle.pm_schemajson.specs.Views.{attribute, attributes, types_of_spec}
 use Rattle.pm_schemajson.proofs.SameTypes.{any-alike, mark-names-alike, node-alike}
@@ -45,7 +45,8 @@ values-alike : (xs ys : List AttrSpec) (given : Given) → attributes xs ≡ att
 unfolding values_for
 values-alike xs ys given h =
     let unknown : (g : _) → is_unknown xs g ≡ is_unknown ys g = λ g. ap not (any-alike attribute (λ a. bytes_eq g.0 a.name) xs ys h) in
-    λ i. if list_any (λ g. unknown g i) given then None else all-values-alike given xs ys h i
+    let other : list_any (is_other_kind given) xs ≡ list_any (is_other_kind given) ys = any-alike attribute (λ a. is_refused a.validate (given_for a.name given)) xs ys h in
+    λ i. if list_any (λ g. unknown g i) given then None else (if other i then None else all-values-alike given xs ys h i)
 
 pub attrs-alike : (xs ys : List AttrSpec) (o : Option Data) → attributes xs ≡ attributes ys → attrs_read xs o ≡ attrs_read ys o
 unfolding attrs_read

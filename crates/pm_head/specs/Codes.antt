@@ -35,6 +35,7 @@ abbrev pub schema_code : SchemaReadError → Option Code
 schema_code (read.Shape f) = Some code.WrongShape
 schema_code (read.Name f) = Some code.UnknownName
 schema_code (read.Attr e) = Some code.BadAttribute
+schema_code (read.BadDefault n) = Some code.BadAttribute
 schema_code (read.Expr k e) = Some code.BadExpression
 schema_code (read.Schema e) = build_code e
 schema_code read.NoMemory = None

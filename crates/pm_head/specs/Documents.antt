@@ -3,6 +3,7 @@ use Rattle.std.specs.Prelude.{◌≡◌, ◌⊎◌, ◌≤◌, ℕ, ◌==◌, Bo
 use Rattle.serde_json.specs.Data.{Data}
 use Rattle.serde_json.specs.Find.{as_null}
 use Rattle.pm_tokens.specs.Tokens.{Doc}
+use Rattle.pm_tokens.specs.Schemas.{max_size}
 use Rattle.pm_tokens.specs.Scan.{is_whole}
 use Rattle.pm_tokens.specs.Faults.{fault}
 use Rattle.pm_schema.specs.declared.schema.Schema.{Schema}
@@ -32,7 +33,7 @@ top_of s = unwrap_or (place_of s.top (names_of_nodes s)) 0
 pub record IsFilledTop (s : Schema) (n : Node) : Type 0 where
   pub made : CanBeMade s (top_of s.spec)
   pub filled : Filling s (top_of s.spec) (Some (node_tokens n))
-  pub small : length (node_tokens n) ≤ 500000
+  pub small : length (node_tokens n) ≤ max_size (documents_of s.spec)
 
 -- why the top type can't be filled
 pub record NotFilled (s : Schema) (code : Code) : Type 0 where

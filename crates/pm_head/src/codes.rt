@@ -41,6 +41,7 @@ pub(crate) fn schema_code(error: SchemaReadError) -> Option<Code>
         SchemaReadError::Shape { field: _ } => Some(Code::WrongShape),
         SchemaReadError::Name { field: _ } => Some(Code::UnknownName),
         SchemaReadError::Attr(_) => Some(Code::BadAttribute),
+        SchemaReadError::BadDefault { attr: _ } => Some(Code::BadAttribute),
         SchemaReadError::Expr { kind: _, error: _ } => Some(Code::BadExpression),
         SchemaReadError::Schema(e) => build_code(e),
         SchemaReadError::NoMemory => None,

@@ -35,8 +35,14 @@ op_send =
                         (
                           (search sendable, (search sendable, (search (sendable, crosses, attrs_send) depth 20, tt))),
                           (
-                            (search (sendable, slice_send, attrs_send, Values.crosses, crosses) depth 40, tt),
-                            tt,
+                            (search sendable, (search (sendable, Text.the_send) depth 20, (search (sendable, crosses, Values.crosses, Text.the_send) depth 20, tt))),
+                            (
+                              (search (sendable, Text.the_send) depth 20, (search (sendable, crosses, Values.crosses, Text.the_send) depth 20, tt)),
+                              (
+                                (search (sendable, slice_send, attrs_send, Values.crosses, crosses, Text.the_send) depth 40 fits 20000, tt),
+                                tt,
+                              ),
+                            ),
                           ),
                         ),
                       ),
@@ -76,8 +82,14 @@ op_sync =
                         (
                           (search sendable, (search sendable, (search (sendable, crosses, attrs_sync) depth 20, tt))),
                           (
-                            (search (sendable, slice_sync, attrs_sync, Values.crosses, crosses) depth 40, tt),
-                            tt,
+                            (search sendable, (search (sendable, Text.the_sync) depth 20, (search (sendable, crosses, Values.crosses, Text.the_sync) depth 20, tt))),
+                            (
+                              (search (sendable, Text.the_sync) depth 20, (search (sendable, crosses, Values.crosses, Text.the_sync) depth 20, tt)),
+                              (
+                                (search (sendable, slice_sync, attrs_sync, Values.crosses, crosses, Text.the_sync) depth 40 fits 20000, tt),
+                                tt,
+                              ),
+                            ),
                           ),
                         ),
                       ),

@@ -76,6 +76,8 @@ module _ (s t : Schema) (h : types_of_spec s.spec ≡ types_of_spec t.spec) (bs 
       (of_node (λ node. let end = behind pos node in Ok (ReplaceAround pos end (pos + 1) (end - 1) (empty_node kind attrs node.marks) 1 true)) (node_at d pos)))
   answer-alike d (op.AddMark from to mark) = refl
   answer-alike d (op.RemoveMark from to mark) = refl
+  answer-alike d (op.SetAttr pos attr value) = refl
+  answer-alike d (op.SetDocAttr attr value) = refl
   answer-alike d (op.Step step) = refl
 
   pub makes-alike : (d : Doc) (o : Op) → makes s d o ≡ makes t d o

@@ -19,7 +19,7 @@ use Rattle.pm_docjson.specs.Trees.{Tree, text, branch, Trees, none, tree, trees_
 use Rattle.pm_docjson.specs.Values.{keys}
 use Rattle.pm_docjson.specs.Writing.{typed, with_attrs, with_content, with_marks, mark_written, marks_written, text_written, branch_written, tree_written, trees_written, nodes_written, doc_written}
 use Rattle.pm_slicejson.specs.Writing.{with_count, slice_written}
-use Rattle.pm_meaning.specs.Steps.{Step, Replace, ReplaceAround, AddMark, RemoveMark, AddNodeMark, RemoveNodeMark}
+use Rattle.pm_meaning.specs.Steps.{Step, Replace, ReplaceAround, AddMark, RemoveMark, AddNodeMark, RemoveNodeMark, Attr, DocAttr}
 use Rattle.pm_meaning.specs.declared.reason.Reason.{Reason}
 use Rattle.pm_stepjson.specs.Fields as fields
 use Rattle.pm_stepjson.specs.Fields.{count, with_structure, replaced}
@@ -107,6 +107,8 @@ module _ (s t : SchemaSpec) (h : types_of_spec s ≡ types_of_spec t) where
   step-written-alike (RemoveMark from to mark) = range-alike (codes "removeMark") from to mark
   step-written-alike (AddNodeMark pos mark) = node-mark-alike (codes "addNodeMark") pos mark
   step-written-alike (RemoveNodeMark pos mark) = node-mark-alike (codes "removeNodeMark") pos mark
+  step-written-alike (Attr pos name value) = refl
+  step-written-alike (DocAttr name value) = refl
 
   -- ---- the report
 

@@ -13,7 +13,7 @@ use Rattle.pm_session.specs.declared.line.Line.{Line}
 use Rattle.pm_session.specs.declared.outcome.AnswerSummary.{AnswerSummary}
 use Rattle.pm_session.specs.declared.outcome.AnswerSummary.TheVariants.{Accepted, Version, Refused as ToldRefused, Entries}
 use Rattle.pm_session.specs.declared.outcome.Outcome.{Outcome}
-use Rattle.pm_session.specs.declared.outcome.Outcome.TheVariants.{Made, Nothing, NoStep, Refused, CursorAt, Composed, Answered, Took, Exchanged}
+use Rattle.pm_session.specs.declared.outcome.Outcome.TheVariants.{Made, Nothing, NoStep, Refused, CursorAt, Composed, Answered, Took, Exchanged, Entered}
 use Rattle.pm_report.specs.Words.{◌&◌, line}
 use Rattle.pm_report.specs.declared.outcomes.Numbered.{Numbered}
 
@@ -30,7 +30,8 @@ reason_text reason.Deep = codes "8"
 reason_text (reason.Content at) = codes "9" & decimal at
 reason_text reason.NoNode = codes "10"
 reason_text reason.NoAttribute = codes "11"
-reason_text reason.NotInSchema = codes "12"
+reason_text reason.BadValue = codes "12"
+reason_text reason.NotInSchema = codes "13"
 
 -- a step that does not apply, counted from 0
 abbrev pub refused_text : ℕ → Reason → List ℕ
@@ -65,6 +66,7 @@ outcome_text (Composed n) = codes "composed" & decimal n
 outcome_text (Answered told) = told_text told
 outcome_text (Took taken) = taken_text taken
 outcome_text (Exchanged told taken) = told_text told ++ codes ";" & end_text taken
+outcome_text (Entered version) = codes "entered" & decimal version
 
 -- the outcomes of these lines, each with its line's number
 abbrev pub with_numbers : List (Line Op Step) → List (Outcome Step Schema Doc Reason) → List Numbered

@@ -74,6 +74,7 @@ fn push_outcome(text: &mut String, outcome: &Outcome<DocChange>) -> Result<(), A
         Outcome::Answered { told } => push_told(text, told),
         Outcome::Took { taken } => push_taken(text, *taken),
         Outcome::Exchanged { told, taken } => push_exchanged(text, told, *taken),
+        Outcome::Entered { version } => write!(text, "entered {version}"),
     }
 }
 
@@ -148,6 +149,7 @@ fn push_reason(text: &mut String, reason: &Reason) -> Result<(), AllocError>
         Reason::Content { at } => write!(text, "9 {at}"),
         Reason::NoNode => text.push_str("10"),
         Reason::NoAttribute => text.push_str("11"),
-        Reason::NotInSchema => text.push_str("12"),
+        Reason::BadValue => text.push_str("12"),
+        Reason::NotInSchema => text.push_str("13"),
     }
 }

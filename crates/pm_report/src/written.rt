@@ -1,6 +1,7 @@
 //! Lists of numbers as JSON texts.
 ghost use Rattle.std.specs.Prelude.{◌≡◌, ◌++◌, map, decimal, false, IfOk, OnOk, string_bytes};
 ghost use Rattle.serde_json.specs.Written.{comma_if, items_text};
+ghost use Rattle.pm_authority.specs.declared.named.Named.{Named};
 ghost use Rattle.pm_report.specs.Words.{◌&◌, list_text, number_items};
 ghost use Rattle.pm_report.specs.Report.{serial_of, place_of};
 
@@ -21,8 +22,9 @@ pub(crate) fn push_serials(
     push_numbers(text, &serials)
 }
 
-fn serials_of(alloc: Global, steps: &[Named<DocChange>]) -> Result<Vec<u64>, AllocError>
-    ensures { IfOk result (λ v. v.items ≡ map serial_of steps.now) }
+/// The serials of steps, whatever these change.
+fn serials_of<C>(alloc: Global, steps: &[Named<C>]) -> Result<Vec<u64>, AllocError>
+    ensures { IfOk result (λ v. v.items ≡ map (λ (n : Named C). n.name.serial) steps.now) }
 {
     steps.iter().map(|step| step.name.serial).collect(alloc)
 }

@@ -3,6 +3,7 @@ pub mod Sides
 pub mod Places
 pub mod Tallies
 pub mod PartLaws
+pub mod ValueLaws
 pub mod StepLaws
 pub mod OpLists
 pub mod Suited

@@ -106,6 +106,8 @@ module _ (s t : SchemaSpec) (h : HaveSameTypes s t) where
   op-alike kind.SetType d = set-type-alike d
   op-alike kind.AddMark d = add-mark-alike d
   op-alike kind.RemoveMark d = remove-mark-alike d
+  op-alike kind.Attr d = refl
+  op-alike kind.DocAttr d = refl
 
   -- ---- acts and lines
 

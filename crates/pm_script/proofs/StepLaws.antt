@@ -7,12 +7,12 @@ use Rattle.pm_step.specs.declared.step.Step.{Step}
 use Rattle.pm_step.specs.Steps.{as_step, step_of}
 use Rattle.pm_step.proofs.Meant.{step-meant}
 use Rattle.pm_stepjson.specs.declared.fault.StepReadError.{StepReadError}
-use Rattle.pm_stepjson.specs.declared.fault.StepReadError.TheVariants.{Shape, UnknownKind, Slice, Mark, NoMemory}
+use Rattle.pm_stepjson.specs.declared.fault.StepReadError.TheVariants.{Shape, UnknownKind, Slice, Mark, NoMemory, Value}
 use Rattle.pm_stepjson.specs.Answers as step
 use Rattle.pm_head.specs.declared.fault.LineError.{LineError}
 use Rattle.pm_head.specs.Answers.{Fails}
 use Rattle.pm_head.specs.Codes.{node_code}
-use Rattle.pm_script.specs.Codes.{step_code, coded}
+use Rattle.pm_script.specs.Codes.{step_code, value_code, coded}
 use Rattle.pm_script.specs.Faults.{fault_of}
 use Rattle.pm_script.proofs.PartLaws.{with-code}
 
@@ -26,6 +26,7 @@ line-of UnknownKind r f = ap of_line f
 line-of (Slice e) r f = with-code (node_code e) (of_line r) (ap of_line f)
 line-of (Mark e) r f = with-code (node_code e) (of_line r) (ap of_line f)
 line-of NoMemory r f = tt
+line-of (Value e) r f = with-code (value_code e) (of_line r) (ap of_line f)
 
 -- a reading that has this fault has its code
 pub step-fault : (e : StepReadError) (line : LineError) (r : Result steps.Step StepReadError) → step.Fails e r → line ≡ fault_of (step_code e) → Fails line (coded r >>= (λ s. Ok (as_step s)))
@@ -41,6 +42,7 @@ change-line UnknownKind r f = ap coded f
 change-line (Slice e) r f = with-code (node_code e) (coded r) (ap coded f)
 change-line (Mark e) r f = with-code (node_code e) (coded r) (ap coded f)
 change-line NoMemory r f = tt
+change-line (Value e) r f = with-code (value_code e) (coded r) (ap coded f)
 
 pub change-fault : (e : StepReadError) (line : LineError) (r : Result steps.Step StepReadError) → step.Fails e r → line ≡ fault_of (step_code e) → Fails line (coded r)
 change-fault e line r f h = subst (λ (l : LineError). Fails l (coded r)) (sym h) (change-line e r f)

@@ -16,7 +16,7 @@ use Rattle.pm_head.specs.Lines.{json_line}
 use Rattle.pm_ops.specs.declared.op.Op.{Op}
 use Rattle.pm_session.specs.declared.line.Line.{Line}
 use Rattle.pm_session.specs.declared.line.Act.{Act}
-use Rattle.pm_session.specs.declared.line.Act.TheVariants.{Edit, Undo, Redo, UndoEvent, Cursor, Submit, Ask, Present, Take, Push, Pull, Forge}
+use Rattle.pm_session.specs.declared.line.Act.TheVariants.{Edit, Undo, Redo, UndoEvent, Cursor, Submit, Ask, Present, Take, Push, Pull, Forge, Enter}
 use Rattle.pm_session.specs.Suits.{is_forge, names_one, NamesOneOf, composed_by, answered_by, Suits, AllSuit}
 use Rattle.pm_script.specs.declared.kinds.EditKind.{EditKind}
 use Rattle.pm_script.specs.declared.word.Word.{Word}
@@ -34,7 +34,7 @@ use Rattle.pm_script.proofs.Places.{position-within}
 
 -- ---- what the words make
 
--- whether the act forges
+-- whether the act forges; no word of these sessions enters
 abbrev IsMade : Bool → Act Op Step → Type 0
 IsMade forge (Edit op event) = false ≡ forge
 IsMade forge Undo = false ≡ forge
@@ -48,6 +48,7 @@ IsMade forge (Take n) = false ≡ forge
 IsMade forge (Push lost) = false ≡ forge
 IsMade forge (Pull lost) = false ≡ forge
 IsMade forge (Forge version steps) = true ≡ forge
+IsMade forge Enter = ⊥
 
 edit-made : (s : SchemaSpec) (kind : EditKind) (d : Data) (act : Act Op Step) → edit_in s kind d ≡ Ok act → IsMade false act
 unfolding edit_in
@@ -156,6 +157,7 @@ names forge messages answers (Take n) made h = let b = both-true (nat_lt 0 n) (n
 names forge messages answers (Push lost) made h = tt
 names forge messages answers (Pull lost) made h = tt
 names forge messages answers (Forge version steps) made h = tt
+names forge messages answers Enter made h = absurd made
 
 kind : (forge : Bool) (act : Act Op Step) → IsMade forge act → is_forge act ≡ forge
 kind forge (Edit op event) made = made
@@ -170,6 +172,7 @@ kind forge (Take n) made = made
 kind forge (Push lost) made = made
 kind forge (Pull lost) made = made
 kind forge (Forge version steps) made = made
+kind forge Enter made = absurd made
 
 client-within : (clients : List ClientEntry) (d : Data) (i : ℕ) → client_in clients d ≡ Ok i → i < length clients
 client-within clients d i h =

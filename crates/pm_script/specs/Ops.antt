@@ -1,15 +1,15 @@
--- The twelve edits: for each the fields of its line, in the order in which they are read.
+-- The fourteen edits: for each the fields of its line, in the order in which they are read.
 use Rattle.std.specs.Prelude.{codes, Result, Ok}
 use Rattle.serde_json.specs.Data.{Data}
 use Rattle.pm_list.specs.Readings.{◌>>=◌}
 use Rattle.pm_schema.specs.declared.spec.SchemaSpec.{SchemaSpec}
 use Rattle.pm_head.specs.declared.code.Code.{Code}
 use Rattle.pm_ops.specs.declared.op.Op.{Op}
-use Rattle.pm_ops.specs.declared.op.Op.TheVariants.{InsertText, Delete, Paste, InsertNode, Split, Join, Wrap, Lift, SetType, AddMark, RemoveMark, Step}
+use Rattle.pm_ops.specs.declared.op.Op.TheVariants.{InsertText, Delete, Paste, InsertNode, Split, Join, Wrap, Lift, SetType, AddMark, RemoveMark, SetAttr, SetDocAttr, Step}
 use Rattle.pm_script.specs.declared.kinds.EditKind.{EditKind}
 use Rattle.pm_script.specs.declared.kinds.EditKind.TheVariants as kind
 use Rattle.pm_script.specs.Fields.{text_in, number_in, depth_in}
-use Rattle.pm_script.specs.Parts.{step_in, slice_in, node_in, mark_in, type_in, attrs_in}
+use Rattle.pm_script.specs.Parts.{step_in, slice_in, node_in, mark_in, value_in, type_in, attrs_in}
 
 -- `text`
 unfoldable pub text_op : Data → Result Op Code
@@ -45,6 +45,21 @@ unfoldable pub lift_op : Data → Result Op Code
 lift_op d = do
   at ← number_in (codes "pos") d
   Ok (Lift at)
+
+-- `attr`
+unfoldable pub attr_op : Data → Result Op Code
+attr_op d = do
+  at ← number_in (codes "pos") d
+  name ← text_in (codes "attr") d
+  value ← value_in d
+  Ok (SetAttr at name value)
+
+-- `docattr`
+unfoldable pub doc_attr_op : Data → Result Op Code
+doc_attr_op d = do
+  name ← text_in (codes "attr") d
+  value ← value_in d
+  Ok (SetDocAttr name value)
 
 module _ (s : SchemaSpec) where
   -- `step`
@@ -115,3 +130,5 @@ module _ (s : SchemaSpec) where
   op_of kind.SetType d = set_type_op d
   op_of kind.AddMark d = add_mark_op d
   op_of kind.RemoveMark d = remove_mark_op d
+  op_of kind.Attr d = attr_op d
+  op_of kind.DocAttr d = doc_attr_op d

@@ -1,10 +1,12 @@
--- The parts of an edit or a `forge` that are read by the schema. One that is absent and must be there is of a wrong shape, and a name
+-- The parts of an edit or a `forge` that have a form of their own, most of which are read by the schema. One that is absent and must be there is of a wrong shape, and a name
 -- of no node type is unknown.
 use Rattle.std.specs.Prelude.{ℕ, List, [], ◌∷◌, codes, Result, Ok}
 use Rattle.serde_json.specs.Data.{Data, Items, no_items, item}
 use Rattle.serde_json.specs.Find.{get, as_array}
 use Rattle.pm_list.specs.Readings.{◌>>=◌, or_fault}
 use Rattle.pm_value.specs.Plain.{Plain}
+use Rattle.pm_value.specs.Reading.{value_of}
+use Rattle.pm_value.specs.declared.value.Value.{Value}
 use Rattle.pm_marks.specs.declared.mark.Mark.{Mark}
 use Rattle.pm_tokens.specs.Slices.{Slice}
 use Rattle.pm_schema.specs.declared.spec.SchemaSpec.{SchemaSpec}
@@ -20,9 +22,18 @@ use Rattle.pm_head.specs.declared.code.Code.TheVariants.{WrongShape, UnknownName
 use Rattle.pm_meaning.specs.Steps as steps
 use Rattle.pm_step.specs.declared.step.Step.{Step}
 use Rattle.pm_step.specs.Steps.{as_step}
+use Rattle.pm_step.specs.Values.{as_value}
 use Rattle.pm_stepjson.specs.Reading.{step_read}
-use Rattle.pm_script.specs.Codes.{coded, node_coded}
+use Rattle.pm_script.specs.Codes.{coded, node_coded, value_coded}
 use Rattle.pm_script.specs.Fields.{text_in}
+
+-- the value as one of an attribute
+abbrev pub value_from : Data → Result Value Code
+value_from d = value_coded (value_of d) >>= (λ read. Ok (as_value read))
+
+-- the value at `value`, which must be there; null is one
+abbrev pub value_in : Data → Result Value Code
+value_in d = or_fault WrongShape (get (codes "value") d) >>= value_from
 
 module _ (s : SchemaSpec) where
   -- the value as a step

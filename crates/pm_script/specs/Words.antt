@@ -26,7 +26,9 @@ edit_named text =
     else (if says text (codes "settype") then Some kind.SetType
     else (if says text (codes "addmark") then Some kind.AddMark
     else (if says text (codes "removemark") then Some kind.RemoveMark
-    else None)))))))))))
+    else (if says text (codes "attr") then Some kind.Attr
+    else (if says text (codes "docattr") then Some kind.DocAttr
+    else None)))))))))))))
 
 -- a word by which a client brings its steps to the authority, or takes others' steps from it
 abbrev pub exchange_named : List ℕ → Option Word

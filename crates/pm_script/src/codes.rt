@@ -1,12 +1,13 @@
-//! The codes of the faults of steps and of what edits put in.
+//! The codes of the faults of steps and of what edits put in or set.
 ghost use Rattle.std.specs.Prelude.{◌≡◌};
 ghost use Rattle.pm_head.specs.Codes.{node_code};
-ghost use Rattle.pm_script.specs.Codes.{step_code};
+ghost use Rattle.pm_script.specs.Codes.{step_code, value_code};
 ghost use Rattle.pm_script.specs.Faults.{fault_of};
 
 use pm_docjson::DocReadError;
 use pm_head::{Code, LineError, node_code};
 use pm_stepjson::StepReadError;
+use pm_value::ValueError;
 
 /// The fault of a line whose step has this fault.
 pub(crate) fn step_fault(error: StepReadError) -> LineError
@@ -22,7 +23,24 @@ pub(crate) fn node_fault(error: DocReadError) -> LineError
     fault_of(node_code(error))
 }
 
-/// The code of a value that is no step; `None` for want of memory.
+/// The fault of a line whose value has this fault.
+pub(crate) fn value_fault(error: ValueError) -> LineError
+    ensures { result ≡ fault_of (value_code error) }
+{
+    fault_of(value_code(error))
+}
+
+/// The code of a JSON value that is no value of an attribute; `None` for want of memory.
+fn value_code(error: ValueError) -> Option<Code>
+    ensures { result ≡ value_code error }
+{
+    match error {
+        ValueError::Float | ValueError::Wide | ValueError::Deep => Some(Code::BadAttribute),
+        ValueError::NoMemory => None,
+    }
+}
+
+/// The code of a JSON value that is no step; `None` for want of memory.
 fn step_code(error: StepReadError) -> Option<Code>
     ensures { result ≡ step_code error }
 {
@@ -31,6 +49,7 @@ fn step_code(error: StepReadError) -> Option<Code>
         StepReadError::UnknownKind => Some(Code::UnknownName),
         StepReadError::Slice(e) | StepReadError::Mark(e) => node_code(e),
         StepReadError::NoMemory => None,
+        StepReadError::Value(e) => value_code(e),
     }
 }
 

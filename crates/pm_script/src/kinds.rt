@@ -17,6 +17,8 @@ pub(crate) enum EditKind {
     SetType,
     AddMark,
     RemoveMark,
+    Attr,
+    DocAttr,
 }
 
 impl EditKind {
@@ -48,6 +50,10 @@ impl EditKind {
             Some(EditKind::AddMark)
         } else if text == "removemark" {
             Some(EditKind::RemoveMark)
+        } else if text == "attr" {
+            Some(EditKind::Attr)
+        } else if text == "docattr" {
+            Some(EditKind::DocAttr)
         } else {
             None
         }

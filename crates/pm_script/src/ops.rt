@@ -1,11 +1,11 @@
-//! The twelve edits, each read by the fields of its line.
+//! The fourteen edits, each read by the fields of its line.
 ghost use Rattle.serde_json.specs.View.{view};
 ghost use Rattle.pm_head.specs.Answers.{Gives};
-ghost use Rattle.pm_script.specs.Ops.{step_op, text_op, delete_op, paste_op, insert_op, split_op, join_op, wrap_op, lift_op, set_type_op, add_mark_op, remove_mark_op, op_of};
+ghost use Rattle.pm_script.specs.Ops.{step_op, text_op, delete_op, paste_op, insert_op, split_op, join_op, wrap_op, lift_op, set_type_op, add_mark_op, remove_mark_op, attr_op, doc_attr_op, op_of};
 
 use crate::fields::{depth_in, number_in, text_in};
 use crate::kinds::EditKind;
-use crate::parts::{attrs_in, mark_in, node_in, slice_in, step_in, type_in};
+use crate::parts::{attrs_in, mark_in, node_in, slice_in, step_in, type_in, value_in};
 use pm_head::LineError;
 use pm_ops::Op;
 use pm_schema::Schema;
@@ -35,6 +35,8 @@ pub(crate) fn op_of(
         EditKind::SetType => set_type_op(alloc, schema, json),
         EditKind::AddMark => add_mark_op(alloc, schema, json),
         EditKind::RemoveMark => remove_mark_op(alloc, schema, json),
+        EditKind::Attr => attr_op(alloc, json),
+        EditKind::DocAttr => doc_attr_op(alloc, json),
     }
 }
 
@@ -155,4 +157,25 @@ fn remove_mark_op(alloc: Global, schema: &Schema, json: &Value) -> Result<Op, Li
     let to = number_in(json, "to")?;
     let mark = mark_in(alloc, schema, json)?;
     Ok(Op::RemoveMark { from, to, mark })
+}
+
+#[tactic(auto, unfolding(crate::specs::Ops::attr_op))]
+fn attr_op(alloc: Global, json: &Value) -> Result<Op, LineError>
+    ensures { Gives (λ o. o) result (attr_op (view json.now)) }
+{
+    let pos = number_in(json, "pos")?;
+    let name = text_in(json, "attr")?;
+    let value = value_in(alloc, json)?;
+    let attr = Text::from_str(alloc, name)?;
+    Ok(Op::SetAttr { pos, attr, value })
+}
+
+#[tactic(auto, unfolding(crate::specs::Ops::doc_attr_op))]
+fn doc_attr_op(alloc: Global, json: &Value) -> Result<Op, LineError>
+    ensures { Gives (λ o. o) result (doc_attr_op (view json.now)) }
+{
+    let name = text_in(json, "attr")?;
+    let value = value_in(alloc, json)?;
+    let attr = Text::from_str(alloc, name)?;
+    Ok(Op::SetDocAttr { attr, value })
 }

@@ -1,4 +1,4 @@
-//! The parts of an edit or a `forge` that are read by the schema. One that is absent and must be there is of a wrong shape; the codes of the
+//! The parts of an edit or a `forge` that have a form of their own, most of which are read by the schema. One that is absent and must be there is of a wrong shape; the codes of the
 //! faults within one are those of its reader.
 ghost use Rattle.std.specs.Prelude.{◌<◌, length, IfOk};
 ghost use Rattle.serde_json.specs.View.{view, items_view};
@@ -8,9 +8,9 @@ ghost use Rattle.pm_slicejson.specs.Reading.{slice_of};
 ghost use Rattle.pm_stepjson.specs.Reading.{step_read};
 ghost use Rattle.pm_head.specs.Answers.{Gives};
 ghost use Rattle.pm_script.specs.Codes.{coded, node_coded};
-ghost use Rattle.pm_script.specs.Parts.{step_from, step_in, step_list, steps_in, slice_in, node_in, mark_in, type_in, attrs_in};
+ghost use Rattle.pm_script.specs.Parts.{step_from, step_in, step_list, steps_in, slice_in, node_in, mark_in, value_from, value_in, type_in, attrs_in};
 
-use crate::codes::{node_fault, step_fault};
+use crate::codes::{node_fault, step_fault, value_fault};
 use crate::fields::text_in;
 use pm_apply::DocChange;
 use pm_attrs::Attrs;
@@ -25,6 +25,7 @@ use pm_slice::Slice;
 use pm_slicejson::read_slice;
 use pm_step::Step;
 use pm_stepjson::read_step;
+use pm_value::Value as Given;
 use serde_json::Value;
 use std::alloc::{AllocError, Global};
 
@@ -162,6 +163,27 @@ fn mark_from(alloc: Global, schema: &Schema, json: &Value) -> Result<Mark<Attrs>
     match read_mark(alloc, schema, json) {
         Ok(mark) => Ok(mark),
         Err(error) => Err(node_fault(error)),
+    }
+}
+
+/// The value at `value`, which must be there; null is one.
+pub(crate) fn value_in(alloc: Global, json: &Value) -> Result<Given, LineError>
+    ensures { Gives (λ v. v) result (value_in (view json.now)) }
+{
+    match json.get("value") {
+        Some(value) => value_from(alloc, value),
+        None => Err(LineError::Code(Code::WrongShape)),
+    }
+}
+
+/// The JSON value as a value of an attribute.
+#[tactic(auto, using(crate::proofs::ValueLaws::read_values))]
+fn value_from(alloc: Global, json: &Value) -> Result<Given, LineError>
+    ensures { Gives (λ v. v) result (value_from (view json.now)) }
+{
+    match Given::from_json(alloc, json) {
+        Ok(value) => Ok(value),
+        Err(error) => Err(value_fault(error)),
     }
 }
 

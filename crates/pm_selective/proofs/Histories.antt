@@ -12,7 +12,7 @@ use Rattle.pm_change.proofs.Folds.{fold-cons, fold-append, fold-good}
 use Rattle.pm_tokens.specs.Tokens.{Doc}
 use Rattle.pm_tokens.specs.Schemas.{Schema}
 use Rattle.pm_tokens.specs.Faults.{Valid}
-use Rattle.pm_meaning.specs.Steps.{Step, Replace, ReplaceAround, AddMark, RemoveMark, AddNodeMark, RemoveNodeMark}
+use Rattle.pm_meaning.specs.Steps.{Step, Replace, ReplaceAround, AddMark, RemoveMark, AddNodeMark, RemoveNodeMark, Attr, DocAttr}
 use Rattle.pm_meaning.specs.Meanings.{meaning_by, meaning}
 use Rattle.pm_meaning.specs.Maps.{step_map, carry}
 use Rattle.pm_meaning.specs.Inverses.{inverse}
@@ -78,6 +78,8 @@ has-range (AddMark from to mark) h = absurd h
 has-range (RemoveMark from to mark) h = absurd h
 has-range (AddNodeMark p mark) h = absurd h
 has-range (RemoveNodeMark p mark) h = absurd h
+has-range (Attr p name value) h = absurd h
+has-range (DocAttr name value) h = absurd h
 
 -- ---- stored inverses
 

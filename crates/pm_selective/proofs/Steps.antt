@@ -13,7 +13,7 @@ use Rattle.pm_map.specs.Mirrors.{enclosed}
 use Rattle.pm_tokens.specs.Tokens.{Token}
 use Rattle.pm_tokens.specs.Scan.{part}
 use Rattle.pm_tokens.specs.Slices.{Slice, slice_tokens, slice_size, content_end}
-use Rattle.pm_meaning.specs.Steps.{Step, Replace, ReplaceAround, AddMark, RemoveMark, AddNodeMark, RemoveNodeMark}
+use Rattle.pm_meaning.specs.Steps.{Step, Replace, ReplaceAround, AddMark, RemoveMark, AddNodeMark, RemoveNodeMark, Attr, DocAttr}
 use Rattle.pm_meaning.specs.Maps.{span, step_map, ahead, back, carry, carry_replace, carry_around, is_within}
 use Rattle.pm_selective.specs.Shifts.{shift, shifted, IsOutsideAll, shift_all, over, beside, IsCorner, IsGrid}
 use Rattle.pm_selective.specs.Edits.{Piece, spans, spliced, along, all_spans, spliced_all}
@@ -30,6 +30,8 @@ IsOrdered (AddMark from to mark) = ⊥
 IsOrdered (RemoveMark from to mark) = ⊥
 IsOrdered (AddNodeMark p mark) = ⊥
 IsOrdered (RemoveNodeMark p mark) = ⊥
+IsOrdered (Attr p name value) = ⊥
+IsOrdered (DocAttr name value) = ⊥
 
 abbrev pub AreOrdered : List Step → Type 0
 AreOrdered [] = Unit {0}
@@ -43,6 +45,8 @@ ordered (AddMark from to mark) n h w = absurd h
 ordered (RemoveMark from to mark) n h w = absurd h
 ordered (AddNodeMark p mark) n h w = absurd h
 ordered (RemoveNodeMark p mark) n h w = absurd h
+ordered (Attr p name value) n h w = absurd h
+ordered (DocAttr name value) n h w = absurd h
 
 pub apart-step : (c : Step) → IsOrdered c → AreApart (step_map c) 0
 apart-step (Replace from to sl structure) h = (omega arith, tt)
@@ -51,6 +55,8 @@ apart-step (AddMark from to mark) h = absurd h
 apart-step (RemoveMark from to mark) h = absurd h
 apart-step (AddNodeMark p mark) h = absurd h
 apart-step (RemoveNodeMark p mark) h = absurd h
+apart-step (Attr p name value) h = absurd h
+apart-step (DocAttr name value) h = absurd h
 
 -- ---- steps as edits
 
@@ -65,6 +71,8 @@ edit (AddMark from to mark) = []
 edit (RemoveMark from to mark) = []
 edit (AddNodeMark p mark) = []
 edit (RemoveNodeMark p mark) = []
+edit (Attr p name value) = []
+edit (DocAttr name value) = []
 
 abbrev pub edits : List Step → List (List (Piece Token))
 edits [] = []
@@ -90,6 +98,8 @@ edit-spans (AddMark from to mark) h = absurd h
 edit-spans (RemoveMark from to mark) h = absurd h
 edit-spans (AddNodeMark p mark) h = absurd h
 edit-spans (RemoveNodeMark p mark) h = absurd h
+edit-spans (Attr p name value) h = absurd h
+edit-spans (DocAttr name value) h = absurd h
 
 pub edits-spans : (cs : List Step) → AreOrdered cs → all_spans (edits cs) ≡ step_maps cs
 edits-spans [] h = refl
@@ -113,6 +123,8 @@ edit-splice (AddMark from to mark) ts h = absurd h
 edit-splice (RemoveMark from to mark) ts h = absurd h
 edit-splice (AddNodeMark p mark) ts h = absurd h
 edit-splice (RemoveNodeMark p mark) ts h = absurd h
+edit-splice (Attr p name value) ts h = absurd h
+edit-splice (DocAttr name value) ts h = absurd h
 
 pub edits-splices : (cs : List Step) (ts : List Token) → AreOrdered cs → splices cs ts ≡ spliced_all (edits cs) ts
 edits-splices [] ts h = refl
@@ -127,6 +139,8 @@ moved_step f (AddMark from to mark) = AddMark from to mark
 moved_step f (RemoveMark from to mark) = RemoveMark from to mark
 moved_step f (AddNodeMark p mark) = AddNodeMark p mark
 moved_step f (RemoveNodeMark p mark) = RemoveNodeMark p mark
+moved_step f (Attr p name value) = Attr p name value
+moved_step f (DocAttr name value) = DocAttr name value
 
 -- these steps, each carried over what the earlier ones made of the row
 abbrev pub moved_steps : List (List Span) → List Step → List Step
@@ -218,6 +232,8 @@ carries ms gs (AddMark from to mark) s h k = absurd h
 carries ms gs (RemoveMark from to mark) s h k = absurd h
 carries ms gs (AddNodeMark p mark) s h k = absurd h
 carries ms gs (RemoveNodeMark p mark) s h k = absurd h
+carries ms gs (Attr p name value) s h k = absurd h
+carries ms gs (DocAttr name value) s h k = absurd h
 
 -- ---- the carried step as an edit
 
@@ -279,6 +295,8 @@ same gs (AddMark from to mark) h k = absurd h
 same gs (RemoveMark from to mark) h k = absurd h
 same gs (AddNodeMark p mark) h k = absurd h
 same gs (RemoveNodeMark p mark) h k = absurd h
+same gs (Attr p name value) h k = absurd h
+same gs (DocAttr name value) h k = absurd h
 
 -- ---- all steps
 

@@ -8,7 +8,7 @@ use Rattle.pm_change.proofs.Folds.{fold-cons, fold-append}
 use Rattle.pm_tokens.specs.Tokens.{Doc}
 use Rattle.pm_tokens.specs.Schemas.{Schema}
 use Rattle.pm_tokens.specs.Faults.{Valid}
-use Rattle.pm_meaning.specs.Steps.{Step, Replace, ReplaceAround, AddMark, RemoveMark, AddNodeMark, RemoveNodeMark}
+use Rattle.pm_meaning.specs.Steps.{Step, Replace, ReplaceAround, AddMark, RemoveMark, AddNodeMark, RemoveNodeMark, Attr, DocAttr}
 use Rattle.pm_meaning.specs.Meanings.{meaning_by}
 use Rattle.pm_meaning.specs.Maps.{step_map, is_within}
 use Rattle.pm_meaning.specs.Inverses.{inverse}
@@ -39,6 +39,8 @@ map-splice (AddMark from to mark) n w h = absurd h
 map-splice (RemoveMark from to mark) n w h = absurd h
 map-splice (AddNodeMark p mark) n w h = absurd h
 map-splice (RemoveNodeMark p mark) n w h = absurd h
+map-splice (Attr p name value) n w h = absurd h
+map-splice (DocAttr name value) n w h = absurd h
 
 pub splice-map : (c : Step) → IsOrdered c → IsSpliceMap (step_map c)
 splice-map (Replace from to sl st) h = apart-step (Replace from to sl st) h
@@ -47,6 +49,8 @@ splice-map (AddMark from to mark) h = absurd h
 splice-map (RemoveMark from to mark) h = absurd h
 splice-map (AddNodeMark p mark) h = absurd h
 splice-map (RemoveNodeMark p mark) h = absurd h
+splice-map (Attr p name value) h = absurd h
+splice-map (DocAttr name value) h = absurd h
 
 module _ {Rules : Type 0} (schema_of : Rules → Schema) (rules : Rules) where
   -- steps whose items these stand for, in two parts

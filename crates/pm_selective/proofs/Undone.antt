@@ -8,7 +8,7 @@ use Rattle.pm_change.proofs.Folds.{fold-cons}
 use Rattle.pm_tokens.specs.Tokens.{Token, Doc}
 use Rattle.pm_tokens.specs.Schemas.{Schema}
 use Rattle.pm_tokens.specs.Faults.{Valid}
-use Rattle.pm_meaning.specs.Steps.{Step, Replace, ReplaceAround, AddMark, RemoveMark, AddNodeMark, RemoveNodeMark}
+use Rattle.pm_meaning.specs.Steps.{Step, Replace, ReplaceAround, AddMark, RemoveMark, AddNodeMark, RemoveNodeMark, Attr, DocAttr}
 use Rattle.pm_meaning.specs.Inverses.{inverse, replace_back, around_back}
 use Rattle.pm_meaning.specs.Outcomes.{outcome}
 use Rattle.pm_meaning.specs.Meanings.{meaning}
@@ -43,6 +43,8 @@ edit-within (AddMark from to mark) n h w = absurd h
 edit-within (RemoveMark from to mark) n h w = absurd h
 edit-within (AddNodeMark p mark) n h w = absurd h
 edit-within (RemoveNodeMark p mark) n h w = absurd h
+edit-within (Attr p name value) n h w = absurd h
+edit-within (DocAttr name value) n h w = absurd h
 
 tokens-are : (s : Schema) (c : Step) (d next : Doc) → IsSplice c → Valid s d → outcome s c d ≡ Ok next → next.tokens ≡ splice c d.tokens
 tokens-are s (Replace from to sl st) d next h v e = ap (λ z. z.tokens) (rep.next-is s from to sl d next v (rep.replaced s from to sl st d next e))
@@ -51,6 +53,8 @@ tokens-are s (AddMark from to mark) d next h v e = absurd h
 tokens-are s (RemoveMark from to mark) d next h v e = absurd h
 tokens-are s (AddNodeMark p mark) d next h v e = absurd h
 tokens-are s (RemoveNodeMark p mark) d next h v e = absurd h
+tokens-are s (Attr p name value) d next h v e = absurd h
+tokens-are s (DocAttr name value) d next h v e = absurd h
 
 pub applied : (s : Schema) (c : Step) (d next : Doc) → IsSplice c → Valid s d → outcome s c d ≡ Ok next → Applied s c d next
 applied s c d next h v e =
@@ -110,6 +114,8 @@ undone-by s (AddMark from to mark) d next h v e = absurd h
 undone-by s (RemoveMark from to mark) d next h v e = absurd h
 undone-by s (AddNodeMark p mark) d next h v e = absurd h
 undone-by s (RemoveNodeMark p mark) d next h v e = absurd h
+undone-by s (Attr p name value) d next h v e = absurd h
+undone-by s (DocAttr name value) d next h v e = absurd h
 
 -- Steps that lead from a document back to the first tokens, with these maps.
 pub record Backwards (bs : List Step) (ms : List (List Span)) (now first : List Token) : Type 0 where
@@ -215,6 +221,8 @@ ordered-splices (c ∷ cs) k = (one c k.0, ordered-splices cs k.1)
     one (RemoveMark from to mark) k = k
     one (AddNodeMark p mark) k = k
     one (RemoveNodeMark p mark) k = k
+    one (Attr p name value) k = k
+    one (DocAttr name value) k = k
 
 pub undo-leaves : (s : Schema) → UndoLeaves s
 undo-leaves s es ls us before mid last end u h k a =

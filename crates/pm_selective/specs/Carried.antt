@@ -7,7 +7,7 @@ use Rattle.pm_map.specs.Mirrors.{entry, enclosed}
 use Rattle.pm_tokens.specs.Tokens.{Token}
 use Rattle.pm_tokens.specs.Scan.{part}
 use Rattle.pm_tokens.specs.Slices.{slice_tokens}
-use Rattle.pm_meaning.specs.Steps.{Step, Replace, ReplaceAround, AddMark, RemoveMark, AddNodeMark, RemoveNodeMark}
+use Rattle.pm_meaning.specs.Steps.{Step, Replace, ReplaceAround, AddMark, RemoveMark, AddNodeMark, RemoveNodeMark, Attr, DocAttr}
 use Rattle.pm_meaning.specs.Maps.{step_map, carry}
 use Rattle.pm_selective.specs.Apart.{backs}
 
@@ -19,6 +19,8 @@ IsSplice (AddMark from to mark) = ⊥
 IsSplice (RemoveMark from to mark) = ⊥
 IsSplice (AddNodeMark p mark) = ⊥
 IsSplice (RemoveNodeMark p mark) = ⊥
+IsSplice (Attr p name value) = ⊥
+IsSplice (DocAttr name value) = ⊥
 
 abbrev pub AreSplices : List Step → Type 0
 AreSplices [] = Unit {0}
@@ -33,6 +35,8 @@ splice (AddMark from to mark) ts = ts
 splice (RemoveMark from to mark) ts = ts
 splice (AddNodeMark p mark) ts = ts
 splice (RemoveNodeMark p mark) ts = ts
+splice (Attr p name value) ts = ts
+splice (DocAttr name value) ts = ts
 
 -- the tokens after all these steps, one after another
 abbrev pub splices : List Step → List Token → List Token

@@ -1,8 +1,11 @@
 -- Steps that are written are read again.
-use Rattle.std.proofs.Common.{◌≡◌, ◌==◌, ◌<◌, ℕ, ◌^◌, Bool, true, false, cond, refl, ap, sym, subst, ◌∙◌, nat_lt, arith}
+use Rattle.std.proofs.Common.{◌≡◌, ◌==◌, ◌<◌, ◌≤◌, ℕ, List, ◌^◌, Bool, true, false, cond, refl, ap, sym, subst, ◌∙◌, nat_lt, arith}
 use Rattle.std.proofs.lemmas.Bool.Decides.{nat_tests}
 use Rattle.std.specs.Prelude.{None, Result, Ok, Err, IfOk, OnOk, codes}
 use Rattle.serde_json.specs.Data.{Data, null, string}
+use Rattle.pm_value.specs.Plain.{Plain, depth}
+use Rattle.pm_value.specs.Reading.{value_of}
+use Rattle.pm_value.specs.Writing.{written}
 use Rattle.pm_marks.specs.declared.mark.Mark.{Mark}
 use Rattle.pm_tokens.specs.Tokens.{Attrs}
 use Rattle.pm_tokens.specs.Slices.{Slice, slice_size}
@@ -14,7 +17,7 @@ use Rattle.pm_docjson.specs.Writable.{mark_fits, AreWritable}
 use Rattle.pm_slice.specs.Sides.{no_slice, or_none}
 use Rattle.pm_slicejson.specs.Reading.{slice_of}
 use Rattle.pm_slicejson.specs.Writing.{sides_written, slice_written}
-use Rattle.pm_meaning.specs.Steps.{Step, Replace, ReplaceAround, AddMark, RemoveMark, AddNodeMark, RemoveNodeMark}
+use Rattle.pm_meaning.specs.Steps.{Step, Replace, ReplaceAround, AddMark, RemoveMark, AddNodeMark, RemoveNodeMark, Attr, DocAttr}
 use Rattle.pm_step.specs.declared.marking.Marking.{Marking}
 use Rattle.pm_step.specs.declared.marking.Marking.TheVariants.{Add, Remove}
 use Rattle.pm_step.specs.Steps.{mark_in, node_step, range_step}
@@ -24,6 +27,8 @@ use Rattle.pm_stepjson.specs.Replace.{replace_from, replace_written}
 use Rattle.pm_stepjson.specs.Around.{around_from, around_written}
 use Rattle.pm_stepjson.specs.Mark.{range_from, range_written}
 use Rattle.pm_stepjson.specs.NodeMark.{node_from, node_written}
+use Rattle.pm_stepjson.specs.Attr.{attr_from, attr_written}
+use Rattle.pm_stepjson.specs.DocAttr.{doc_attr_from, doc_attr_written}
 use Rattle.pm_stepjson.specs.Reading.{step_read}
 use Rattle.pm_stepjson.specs.Writing.{step_written}
 use Rattle.pm_stepjson.specs.Writable.{CanBeWritten, HasCounts}
@@ -118,6 +123,16 @@ remove_node_mark-read : (s : SchemaSpec) (pos : ℕ) (mark : Mark Attrs) → pos
 unfolding step_read node_from
 remove_node_mark-read s pos mark hp again = rw (small pos hp, again) refl
 
+attr-read : (s : SchemaSpec) (pos : ℕ) (name : List ℕ) (value : Plain) → pos < 2 ^ 32 → value_of (written value) ≡ Ok value
+    → step_read s (attr_written pos name value) ≡ Ok (Attr pos name value)
+unfolding step_read attr_from
+attr-read s pos name value hp again = rw (small pos hp, again) refl
+
+doc_attr-read : (s : SchemaSpec) (name : List ℕ) (value : Plain) → value_of (written value) ≡ Ok value
+    → step_read s (doc_attr_written name value) ≡ Ok (DocAttr name value)
+unfolding step_read doc_attr_from
+doc_attr-read s name value again = rw again refl
+
 -- what is written of a step is read as the step, where it can be written
 abbrev pub IsReadAgain : SchemaSpec → Step → Type 0
 IsReadAgain s step = CanBeWritten s step → HasCounts step → step_read s (step_written s step) ≡ Ok step
@@ -139,6 +154,16 @@ range-again s (Remove mark) from to again = λ can h. remove_mark-read s from to
 pub node-again : (s : SchemaSpec) (m : Marking) (pos : ℕ) → IsMarkAgain s (mark_in m) → IsReadAgain s (node_step m pos)
 node-again s (Add mark) pos again = λ can h. add_node_mark-read s pos mark h (again can)
 node-again s (Remove mark) pos again = λ can h. remove_node_mark-read s pos mark h (again can)
+
+-- the value of a step is read as the value, where it can be written
+abbrev pub IsValueAgain : Plain → Type 0
+IsValueAgain value = depth value ≤ 4 → value_of (written value) ≡ Ok value
+
+pub attr-again : (s : SchemaSpec) (pos : ℕ) (name : List ℕ) (value : Plain) → IsValueAgain value → IsReadAgain s (Attr pos name value)
+attr-again s pos name value again = λ can h. attr-read s pos name value h (again can)
+
+pub doc_attr-again : (s : SchemaSpec) (name : List ℕ) (value : Plain) → IsValueAgain value → IsReadAgain s (DocAttr name value)
+doc_attr-again s name value again = λ can h. doc_attr-read s name value (again can)
 
 -- what a call wrote of a step is read as the step
 module _ (s : SchemaSpec) {J E Again : Type 0} (view : J → Data) where

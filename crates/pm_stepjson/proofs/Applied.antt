@@ -1,24 +1,25 @@
 -- Each step that applies to a valid document can be written and is read back.
-use Rattle.std.specs.Prelude.{◌≡◌, ℕ, ◌+◌, ◌-◌, ◌≤◌, ◌<◌, ◌^◌, Bool, true, false, ◌&&◌, List, [], ◌∷◌, ◌++◌, length, take, drop, None, Ok}
+use Rattle.std.specs.Prelude.{◌≡◌, ℕ, ◌≤◌, ◌<◌, ◌^◌, Bool, true, false, ◌&&◌, List, [], ◌∷◌, ◌++◌, length, take, drop, None, Ok}
 use Rattle.std.proofs.lemmas.List.{take-append-drop}
-use Rattle.std.proofs.Common.{refl, ap, sym, ◌∙◌, subst, arith, append_assoc, length-append}
+use Rattle.std.proofs.Common.{ap, sym, ◌∙◌, subst, arith, append_assoc}
 use Rattle.pm_marks.specs.declared.mark.Mark.{Mark}
 use Rattle.pm_tokens.specs.Tokens.{Attrs, Token, Doc}
-use Rattle.pm_tokens.specs.Scan.{unclosed, part, ends_high, starts_low, depth_at}
+use Rattle.pm_tokens.specs.Scan.{unclosed, part, ends_high, starts_low}
+use Rattle.pm_tokens.specs.Schemas.{max_size}
 use Rattle.pm_tokens.specs.Faults.{Valid}
-use Rattle.pm_tokens.specs.Slices.{Slice, slice_tokens, slice_size}
+use Rattle.pm_tokens.specs.Slices.{Slice, slice_tokens}
 use Rattle.pm_tokens.proofs.PartLaws.{split-front, split-rest, Pieces, pieces-at, pieces-gap, pieces-last}
 use Rattle.pm_tokens.proofs.PairLaws.{no-right, ends-part, before-gap, after-gap}
 use Rattle.pm_tokens.proofs.ScanLaws.{whole-of, unclosed-whole}
+use Rattle.pm_tokens.proofs.SchemaLaws.{max-size-small}
 use Rattle.pm_tokens.proofs.ValidLaws.{pair-free, valid-tokens}
 use Rattle.pm_schema.specs.declared.spec.SchemaSpec.{SchemaSpec}
 use Rattle.pm_schema.specs.Documents.{documents_of}
 use Rattle.pm_docjson.specs.Writable.{mark_fits, are_writable, AreWritable}
 use Rattle.pm_docjson.proofs.Writables.{content-writable}
-use Rattle.pm_meaning.specs.Known.{knows_mark, knows_slice}
-use Rattle.pm_meaning.specs.Maps.{is_within}
+use Rattle.pm_meaning.specs.Known.{knows_mark}
 use Rattle.pm_meaning.specs.Outcomes.{outcome}
-use Rattle.pm_meaning.specs.Steps.{Step, Replace, ReplaceAround, AddMark, RemoveMark, AddNodeMark, RemoveNodeMark}
+use Rattle.pm_meaning.specs.Steps.{Step, Replace, ReplaceAround, AddMark, RemoveMark, AddNodeMark, RemoveNodeMark, Attr, DocAttr}
 use Rattle.pm_meaning.proofs.LooseLaws.{Paired}
 use Rattle.pm_meaning.proofs.OutcomeLaws.{made-ok}
 use Rattle.pm_meaning.proofs.PairedLaws.{paired-of}
@@ -27,12 +28,19 @@ use Rattle.pm_meaning.proofs.AroundLaws as aro
 use Rattle.pm_meaning.proofs.StepLaws.{good, within}
 use Rattle.pm_stepjson.specs.Writable.{IsStorable}
 use Rattle.pm_stepjson.proofs.Depths.{Low, low-front, low-behind, low-both}
-use Rattle.pm_stepjson.proofs.SlicesWritten.{ends, paired-behind, paired-end, closes-paired, can-front, can-behind, can-both, slice-can, slice-low}
+use Rattle.pm_stepjson.proofs.ValueDepths.{attr-shallow, doc-attr-shallow}
+use Rattle.pm_stepjson.proofs.SlicesWritten.{mark-as, ends, paired-behind, paired-end, closes-paired, can-front, can-behind, can-both, slice-can, slice-low}
 
 -- a mark that the schema knows can be written
 mark-can : (s : SchemaSpec) (m : Mark Attrs) → knows_mark (documents_of s) m ≡ true → mark_fits s m ≡ true
-unfolding documents_of
-mark-can s m h = h
+mark-can s m h = sym (mark-as s m) ∙ h
+
+-- a valid document has at most a million tokens, whatever the version
+sized : (s : SchemaSpec) (d : Doc) → Valid (documents_of s) d → length d.tokens ≤ 1000000
+sized s d v =
+    let l : length d.tokens ≤ max_size (documents_of s) = v.size in
+    let m = max-size-small (documents_of s) in
+    omega (arith, l, m)
 
 -- a position of a valid document that parts no pair
 free-at : (s : SchemaSpec) (d : Doc) (p : ℕ) → Valid (documents_of s) d → (ends_high (take p d.tokens) && starts_low (drop p d.tokens)) ≡ false
@@ -71,7 +79,7 @@ module _ (s : SchemaSpec) (from to : ℕ) (sl : Slice) (structure : Bool) (d nex
 
   pub replace-storable : IsStorable s (Replace from to sl structure)
   replace-storable =
-      let n : length d.tokens ≤ 500000 = v.size in
+      let n = sized s d v in
       let low : Low 48 (unclosed [] a) (m ++ b) = low-behind 48 [] a (m ++ b) (subst (λ z. Low 48 [] z) is vn.depth) in
       record {
         written = written;
@@ -170,8 +178,8 @@ module _ (s : SchemaSpec) (from to gf gt : ℕ) (sl : Slice) (insert : ℕ) (str
 
   pub around-storable : IsStorable s (ReplaceAround from to gf gt sl insert structure)
   around-storable =
-      let n : length d.tokens ≤ 500000 = v.size in
-      let k : length next.tokens ≤ 500000 = un.size in
+      let n = sized s d v in
+      let k = sized s next un in
       let l = aro.around-length (documents_of s) from to gf gt sl insert structure d next v q in
       let t = unclosed [] a₁ in
       let low : Low 48 t (s₁ ++ (g ++ (s₂ ++ b₁))) = low-behind 48 [] a₁ (s₁ ++ (g ++ (s₂ ++ b₁))) (subst (λ z. Low 48 [] z) are un.depth) in
@@ -192,7 +200,7 @@ module _ (s : SchemaSpec) (from to gf gt : ℕ) (sl : Slice) (insert : ℕ) (str
       }
 
 -- a range, and a position, within a valid document
-counts-range : (d : Doc) (from to : ℕ) → length d.tokens ≤ 500000 → (from ≤ to) × (to ≤ length d.tokens) → (from < 2 ^ 32) × (to < 2 ^ 32)
+counts-range : (d : Doc) (from to : ℕ) → length d.tokens ≤ 1000000 → (from ≤ to) × (to ≤ length d.tokens) → (from < 2 ^ 32) × (to < 2 ^ 32)
 counts-range d from to n h = (omega (arith, n, h.0, h.1), omega (arith, n, h.1))
 
 pub applied-storable : (s : SchemaSpec) (step : Step) (d next : Doc) → Valid (documents_of s) d → outcome (documents_of s) step d ≡ Ok next → IsStorable s step
@@ -200,19 +208,24 @@ applied-storable s (Replace from to sl structure) d next v h = replace-storable 
 applied-storable s (ReplaceAround from to gf gt sl insert structure) d next v h = around-storable s from to gf gt sl insert structure d next v h
 applied-storable s (AddMark from to mark) d next v h = record {
   written = mark-can s mark (made-ok (documents_of s) (AddMark from to mark) d next h).0;
-  counts = counts-range d from to v.size (within (documents_of s) (AddMark from to mark) d next v h);
+  counts = counts-range d from to (sized s d v) (within (documents_of s) (AddMark from to mark) d next v h);
   nested = tt;
 }
 applied-storable s (RemoveMark from to mark) d next v h = record {
   written = mark-can s mark (made-ok (documents_of s) (RemoveMark from to mark) d next h).0;
-  counts = counts-range d from to v.size (within (documents_of s) (RemoveMark from to mark) d next v h);
+  counts = counts-range d from to (sized s d v) (within (documents_of s) (RemoveMark from to mark) d next v h);
   nested = tt;
 }
 applied-storable s (AddNodeMark p mark) d next v h =
-    let n : length d.tokens ≤ 500000 = v.size in
+    let n = sized s d v in
     let w : p ≤ length d.tokens = within (documents_of s) (AddNodeMark p mark) d next v h in
     record { written = mark-can s mark (made-ok (documents_of s) (AddNodeMark p mark) d next h).0; counts = omega (arith, n, w); nested = tt }
 applied-storable s (RemoveNodeMark p mark) d next v h =
-    let n : length d.tokens ≤ 500000 = v.size in
+    let n = sized s d v in
     let w : p ≤ length d.tokens = within (documents_of s) (RemoveNodeMark p mark) d next v h in
     record { written = mark-can s mark (made-ok (documents_of s) (RemoveNodeMark p mark) d next h).0; counts = omega (arith, n, w); nested = tt }
+applied-storable s (Attr p name value) d next v h =
+    let n = sized s d v in
+    let w : p ≤ length d.tokens = within (documents_of s) (Attr p name value) d next v h in
+    record { written = attr-shallow (documents_of s) p name value d next v h; counts = omega (arith, n, w); nested = tt }
+applied-storable s (DocAttr name value) d next v h = record { written = doc-attr-shallow (documents_of s) name value d next v h; counts = tt; nested = tt }

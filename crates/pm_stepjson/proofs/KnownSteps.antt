@@ -1,40 +1,39 @@
 -- A step that can be written is one that the schema knows.
-use Rattle.std.specs.Prelude.{◌≡◌, ℕ, ◌==◌, Bool, true, ◌&&◌, not, nat_lt, List, [], ◌∷◌, length, take}
+use Rattle.std.specs.Prelude.{◌≡◌, ℕ, ◌==◌, true, ◌&&◌, not, nat_lt, List, [], ◌∷◌, length, take}
 use Rattle.std.specs.List.{list_all}
 use Rattle.std.proofs.lemmas.Bool.{and_parts, and_from}
-use Rattle.std.proofs.Common.{refl, subst}
+use Rattle.std.proofs.Common.{refl, subst, ◌∙◌}
 use Rattle.pm_tokens.specs.Tokens.{Attrs, Marks, Token, Open, Close, Leaf, CodeUnit}
+use Rattle.pm_tokens.specs.Schemas.{node_attrs, mark_attrs}
 use Rattle.pm_tokens.specs.Scan.{are_opens}
 use Rattle.pm_tokens.specs.Marks.{is_set, have_attrs}
-use Rattle.pm_tokens.specs.Slices.{Slice, is_slice, slice_tokens}
+use Rattle.pm_tokens.specs.Slices.{Slice, is_slice}
 use Rattle.pm_tokens.proofs.PartLaws.{slice-is, slice-split}
 use Rattle.pm_schema.specs.declared.spec.SchemaSpec.{SchemaSpec}
-use Rattle.pm_schema.specs.Types.{node_at, mark_at, fit_attrs}
+use Rattle.pm_schema.specs.Types.{node_at, fit_attrs}
 use Rattle.pm_schema.specs.Documents.{documents_of}
 use Rattle.pm_docjson.specs.Writable.{mark_fits, marks_fit, type_fits, is_writable, are_writable, AreWritable}
 use Rattle.pm_meaning.specs.Known.{knows_mark, knows_open, knows_slice, knows_step}
-use Rattle.pm_meaning.specs.Steps.{Step, Replace, ReplaceAround, AddMark, RemoveMark, AddNodeMark, RemoveNodeMark}
+use Rattle.pm_meaning.specs.Steps.{Step, Replace, ReplaceAround, AddMark, RemoveMark, AddNodeMark, RemoveNodeMark, Attr, DocAttr}
 use Rattle.pm_marks.specs.declared.mark.Mark.{Mark}
 use Rattle.pm_stepjson.specs.Writable.{CanBeWritten, HasSlice}
-use Rattle.pm_stepjson.proofs.SlicesWritten.{can-front, ends}
+use Rattle.pm_stepjson.proofs.SlicesWritten.{mark-as, type-as, can-front}
 
 module _ (s : SchemaSpec) where
   mark-known : (m : Mark Attrs) → mark_fits s m ≡ true → knows_mark (documents_of s) m ≡ true
-  unfolding documents_of
-  mark-known m h = h
+  mark-known m h = mark-as s m ∙ h
 
   marks-known : (ms : Marks) → list_all (mark_fits s) ms ≡ true → have_attrs (documents_of s) ms ≡ true
   marks-known [] h = refl
   marks-known (m ∷ ms) h =
       let p = and_parts (mark_fits s m) (list_all (mark_fits s) ms) h in
-      and_from ((documents_of s).mark_attrs m.kind m.attrs) (have_attrs (documents_of s) ms) (mark-known m p.0) (marks-known ms p.1)
+      and_from (mark_attrs (documents_of s) m.kind m.attrs) (have_attrs (documents_of s) ms) (mark-known m p.0) (marks-known ms p.1)
 
-  type-known : (k : ℕ) (a : Attrs) → type_fits s k a ≡ true → ((documents_of s).node_attrs k a ≡ true) × (not (k == (documents_of s).text) ≡ true)
-  unfolding documents_of
+  type-known : (k : ℕ) (a : Attrs) → type_fits s k a ≡ true → (node_attrs (documents_of s) k a ≡ true) × (not (k == (documents_of s).text) ≡ true)
   type-known k a h =
       let p = and_parts (nat_lt k (length s.nodes)) (not (k == (documents_of s).text) && fit_attrs (node_at s k).attrs a) h in
       let q = and_parts (not (k == (documents_of s).text)) (fit_attrs (node_at s k).attrs a) p.1 in
-      (and_from (nat_lt k (length s.nodes)) (fit_attrs (node_at s k).attrs a) p.0 q.1, q.0)
+      (type-as s k a ∙ and_from (nat_lt k (length s.nodes)) (fit_attrs (node_at s k).attrs a) p.0 q.1, q.0)
 
   opens-known : (o : List Token) → are_opens o ≡ true → are_writable s o ≡ true → list_all (knows_open (documents_of s)) o ≡ true
   opens-known [] h w = refl
@@ -46,8 +45,8 @@ module _ (s : SchemaSpec) where
       let z = and_parts (list_all (mark_fits s) m) (is_set d m) y.1 in
       let t = type-known k a x.0 in
       and_from (knows_open d (Open k a m)) (list_all (knows_open d) o)
-      (and_from (d.node_attrs k a && (not (k == d.text) && not (d.is_leaf k))) (have_attrs d m && is_set d m)
-      (and_from (d.node_attrs k a) (not (k == d.text) && not (d.is_leaf k)) t.0 (and_from (not (k == d.text)) (not (d.is_leaf k)) t.1 y.0))
+      (and_from (node_attrs d k a && (not (k == d.text) && not (d.is_leaf k))) (have_attrs d m && is_set d m)
+      (and_from (node_attrs d k a) (not (k == d.text) && not (d.is_leaf k)) t.0 (and_from (not (k == d.text)) (not (d.is_leaf k)) t.1 y.0))
       (and_from (have_attrs d m) (is_set d m) (marks-known m z.0) z.1))
       (opens-known o h b.1)
   opens-known (Close ∷ o) h w = absurd (cc)
@@ -68,3 +67,5 @@ module _ (s : SchemaSpec) where
   step-known (RemoveMark from to mark) h w = mark-known mark w
   step-known (AddNodeMark pos mark) h w = mark-known mark w
   step-known (RemoveNodeMark pos mark) h w = mark-known mark w
+  step-known (Attr pos name value) h w = refl
+  step-known (DocAttr name value) h w = refl

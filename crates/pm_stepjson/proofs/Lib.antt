@@ -1,6 +1,7 @@
 pub mod FaultLaws
 pub mod ObjectLaws
 pub mod Again
+pub mod WrittenValues
 pub mod NoFloat
 pub mod ReadSteps
 pub mod StepLevels
@@ -8,6 +9,7 @@ pub mod StepOrder
 pub mod SameSpecs
 pub mod Depths
 pub mod SlicesWritten
+pub mod ValueDepths
 pub mod Applied
 pub mod StepsBack
 pub mod KnownSteps

@@ -3,6 +3,8 @@ use Rattle.std.proofs.Common.{◌≡◌, ◌==◌, ℕ, List, Bool, true, false,
 use Rattle.std.specs.Prelude.{codes}
 use Rattle.serde_json.specs.Data.{Data, boolean, string, Members, no_members, member}
 use Rattle.serde_json.specs.Written.{has_float, members_have_float}
+use Rattle.pm_value.specs.Plain.{Plain}
+use Rattle.pm_value.specs.Writing.{written}
 use Rattle.pm_marks.specs.declared.mark.Mark.{Mark}
 use Rattle.pm_tokens.specs.Tokens.{Attrs}
 use Rattle.pm_tokens.specs.Slices.{Slice, slice_size}
@@ -11,11 +13,14 @@ use Rattle.pm_docjson.specs.Writing.{mark_written}
 use Rattle.pm_docjson.proofs.NoFloat.{neither, mark-whole}
 use Rattle.pm_slicejson.specs.Writing.{slice_written}
 use Rattle.pm_slicejson.proofs.NoFloat.{slice-whole}
-use Rattle.pm_meaning.specs.Steps.{Step, Replace, ReplaceAround, AddMark, RemoveMark, AddNodeMark, RemoveNodeMark}
+use Rattle.pm_meaning.specs.Steps.{Step, Replace, ReplaceAround, AddMark, RemoveMark, AddNodeMark, RemoveNodeMark, Attr, DocAttr}
 use Rattle.pm_stepjson.specs.Fields.{count, typed, with_structure, with_slice, replaced}
 use Rattle.pm_stepjson.specs.Mark.{range_written}
 use Rattle.pm_stepjson.specs.NodeMark.{node_written}
+use Rattle.pm_stepjson.specs.Attr.{attr_written}
+use Rattle.pm_stepjson.specs.DocAttr.{doc_attr_written}
 use Rattle.pm_stepjson.specs.Writing.{step_written}
+use Rattle.pm_stepjson.proofs.WrittenValues.{value-whole}
 
 -- one more member without a float
 more : (k : List ℕ) (d : Data) (ms : Members) → has_float d ≡ false → members_have_float ms ≡ false → members_have_float (member k d ms) ≡ false
@@ -26,6 +31,24 @@ counted k n ms h = more k (count n) ms refl h
 
 typed-whole : (name : List ℕ) (ms : Members) → members_have_float ms ≡ false → members_have_float (typed name ms) ≡ false
 typed-whole name ms h = more (codes "stepType") (string name) ms refl h
+
+-- the name of an attribute before other members
+named-whole : (name : List ℕ) (ms : Members) → members_have_float ms ≡ false → members_have_float (member (codes "attr") (string name) ms) ≡ false
+named-whole name ms h = more (codes "attr") (string name) ms refl h
+
+value-member : (value : Plain) → members_have_float (member (codes "value") (written value) no_members) ≡ false
+value-member value = more (codes "value") (written value) no_members (value-whole value) refl
+
+attr-whole : (pos : ℕ) (name : List ℕ) (value : Plain) → has_float (attr_written pos name value) ≡ false
+attr-whole pos name value =
+    let last = member (codes "value") (written value) no_members in
+    let kind = typed (codes "attr") last in
+    named-whole name (member (codes "pos") (count pos) kind) (counted (codes "pos") pos kind (typed-whole (codes "attr") last (value-member value)))
+
+doc-attr-whole : (name : List ℕ) (value : Plain) → has_float (doc_attr_written name value) ≡ false
+doc-attr-whole name value =
+    let last = member (codes "value") (written value) no_members in
+    named-whole name (typed (codes "docAttr") last) (typed-whole (codes "docAttr") last (value-member value))
 
 structure-whole : (b : Bool) (ms : Members) → members_have_float ms ≡ false → members_have_float (with_structure b ms) ≡ false
 structure-whole true ms h = more (codes "structure") (boolean true) ms refl h
@@ -68,3 +91,5 @@ module _ (s : SchemaSpec) where
   step-whole (RemoveMark from to mark) = range-whole (codes "removeMark") from to mark
   step-whole (AddNodeMark pos mark) = node-whole (codes "addNodeMark") pos mark
   step-whole (RemoveNodeMark pos mark) = node-whole (codes "removeNodeMark") pos mark
+  step-whole (Attr pos name value) = attr-whole pos name value
+  step-whole (DocAttr name value) = doc-attr-whole name value

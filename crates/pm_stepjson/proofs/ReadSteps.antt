@@ -1,15 +1,18 @@
 -- A step that is read can be written.
-use Rattle.std.proofs.Common.{◌≡◌, ◌<◌, ◌^◌, ◌-◌, ℕ, List, [], Bool, true, false, cond, nat_lt, refl, ap, subst, arith}
+use Rattle.std.proofs.Common.{◌≡◌, ◌<◌, ◌≤◌, ◌^◌, ◌-◌, ℕ, List, [], Bool, true, false, cond, nat_lt, refl, ap, subst, arith}
 use Rattle.std.proofs.lemmas.Bool.Decides.{nat_tests}
 use Rattle.std.specs.Prelude.{Option, Some, None, Result, Ok, Err, codes, is_some, option_and_then}
 use Rattle.serde_json.specs.Data.{Data}
 use Rattle.serde_json.specs.Find.{get, as_null, as_number, as_u64}
 use Rattle.pm_list.specs.Readings.{◌>>=◌, or_fault}
+use Rattle.pm_value.specs.Plain.{Plain, depth}
+use Rattle.pm_value.specs.Reading.{value_of}
+use Rattle.pm_value.specs.declared.fault.ValueError.{ValueError}
+use Rattle.pm_value.proofs.Shallow.{value-shallow}
 use Rattle.pm_marks.specs.declared.mark.Mark.{Mark}
 use Rattle.pm_tokens.specs.Tokens.{Attrs}
 use Rattle.pm_tokens.specs.Slices.{Slice}
 use Rattle.pm_schema.specs.declared.spec.SchemaSpec.{SchemaSpec}
-use Rattle.pm_schema.specs.Defaults.{HasShallowDefaults}
 use Rattle.pm_schema.specs.Documents.{documents_of}
 use Rattle.pm_schema.specs.Types.{node_at}
 use Rattle.pm_slice.specs.Sides.{no_slice}
@@ -17,7 +20,7 @@ use Rattle.pm_docjson.specs.declared.fault.DocReadError.{DocReadError}
 use Rattle.pm_docjson.specs.Fields.{non_null, field}
 use Rattle.pm_docjson.specs.Reading.{mark_of}
 use Rattle.pm_docjson.specs.Writable.{mark_fits, AreWritable}
-use Rattle.pm_docjson.proofs.ReadAttrs.{first-read, there, mark-read}
+use Rattle.pm_docjson.proofs.ReadAttrs.{first-read, there, mark-read, KnownDefaults}
 use Rattle.pm_docjson.proofs.ViewTexts.{HasTexts, field-texts}
 use Rattle.pm_slicejson.specs.Numbers.{bounded_count, as_count}
 use Rattle.pm_slicejson.specs.Reading.{slice_of}
@@ -25,16 +28,18 @@ use Rattle.pm_slicejson.proofs.ReadSlices.{none-writable, slice-read}
 use Rattle.pm_meaning.specs.Steps as steps
 use Rattle.pm_meaning.specs.Steps.{Step}
 use Rattle.pm_stepjson.specs.declared.kind.Kind.{Kind}
-use Rattle.pm_stepjson.specs.declared.kind.Kind.TheVariants.{Replace, ReplaceAround, AddMark, RemoveMark, AddNodeMark, RemoveNodeMark}
+use Rattle.pm_stepjson.specs.declared.kind.Kind.TheVariants.{Replace, ReplaceAround, AddMark, RemoveMark, AddNodeMark, RemoveNodeMark, Attr, DocAttr}
 use Rattle.pm_stepjson.specs.declared.mark.Ranged.{Ranged}
 use Rattle.pm_stepjson.specs.declared.node_mark.AtNode.{AtNode}
 use Rattle.pm_stepjson.specs.declared.fault.StepReadError.TheVariants.{Shape, UnknownKind}
 use Rattle.pm_stepjson.specs.Kinds.{kind_named}
-use Rattle.pm_stepjson.specs.Fields.{number_at, text_at, structure_at, as_slice, as_mark, slice_in, slice_at, mark_at}
+use Rattle.pm_stepjson.specs.Fields.{number_at, text_at, structure_at, as_slice, as_mark, as_value, slice_in, slice_at, mark_at, value_at}
 use Rattle.pm_stepjson.specs.Replace.{replace_from}
 use Rattle.pm_stepjson.specs.Around.{around_from}
 use Rattle.pm_stepjson.specs.Mark.{range_from}
 use Rattle.pm_stepjson.specs.NodeMark.{node_from}
+use Rattle.pm_stepjson.specs.Attr.{attr_from}
+use Rattle.pm_stepjson.specs.DocAttr.{doc_attr_from}
 use Rattle.pm_stepjson.specs.Reading.{kind_from, step_read}
 use Rattle.pm_stepjson.specs.Writable.{CanBeWritten, IsCount, HasCounts}
 
@@ -66,6 +71,15 @@ mark-kept : (r : Result (Mark Attrs) DocReadError) (m : Mark Attrs) → as_mark 
 mark-kept (Ok x) m h = let same : x ≡ m = cc in ap Ok same
 mark-kept (Err e) m h = absurd (cc)
 
+value-kept : (r : Result Plain ValueError) (v : Plain) → as_value r ≡ Ok v → r ≡ Ok v
+value-kept (Ok x) v h = let same : x ≡ v = cc in ap Ok same
+value-kept (Err e) v h = absurd (cc)
+
+value-found : (d : Data) (v : Plain) → value_at d ≡ Ok v → depth v ≤ 4
+value-found d v h =
+    let a = first-read (or_fault Shape (get (codes "value") d)) (λ x. as_value (value_of x)) v h in
+    value-shallow a.0 4 v (value-kept (value_of a.0) v a.1.1)
+
 set-texts : (o : Option Data) (e : Data) → ((x : Data) → o ≡ Some x → HasTexts x) → option_and_then non_null o ≡ Some e → HasTexts e
 set-texts None e all h = absurd (cc)
 set-texts (Some x) e all h = from (is_some (as_null x)) h
@@ -74,7 +88,7 @@ set-texts (Some x) e all h = from (is_some (as_null x)) h
     from true g = absurd (cc)
     from false g = let same : x ≡ e = cc in subst HasTexts same (all x refl)
 
-module _ (s : SchemaSpec) (sh : HasShallowDefaults s) where
+module _ (s : SchemaSpec) (sh : KnownDefaults s) where
   mark-found : (d : Data) (m : Mark Attrs) → mark_at s d ≡ Ok m → mark_fits s m ≡ true
   mark-found d m h =
       let a = first-read (or_fault Shape (get (codes "mark") d)) (λ x. as_mark (mark_of s x)) m h in
@@ -140,6 +154,25 @@ module _ (s : SchemaSpec) (sh : HasShallowDefaults s) where
           (number-read (codes "from") d a.0 a.1.0, number-read (codes "to") d b.0 b.1.0, number-read (codes "gapFrom") d c.0 c.1.0, number-read (codes "gapTo") d e.0 e.1.0, number-read (codes "insert") d f.0 f.1.0),
         )
 
+    attr-back : (d : Data) (step : Step) → attr_from d ≡ Ok step → Back step
+    unfolding attr_from
+    attr-back d step h =
+        let a = first-read (number_at (codes "pos") d) (λ pos. text_at (codes "attr") d >>= λ name. value_at d >>= λ value. Ok (steps.Attr pos name value)) step h in
+        let b = first-read (text_at (codes "attr") d) (λ name. value_at d >>= λ value. Ok (steps.Attr a.0 name value)) step a.1.1 in
+        let c = first-read (value_at d) (λ value. Ok (steps.Attr a.0 b.0 value)) step b.1.1 in
+        let made : Step = steps.Attr a.0 b.0 c.0 in
+        let same : made ≡ step = cc c.1.1 in
+        subst Back same (value-found d c.0 c.1.0, number-read (codes "pos") d a.0 a.1.0)
+
+    doc-attr-back : (d : Data) (step : Step) → doc_attr_from d ≡ Ok step → Back step
+    unfolding doc_attr_from
+    doc-attr-back d step h =
+        let b = first-read (text_at (codes "attr") d) (λ name. value_at d >>= λ value. Ok (steps.DocAttr name value)) step h in
+        let c = first-read (value_at d) (λ value. Ok (steps.DocAttr b.0 value)) step b.1.1 in
+        let made : Step = steps.DocAttr b.0 c.0 in
+        let same : made ≡ step = cc c.1.1 in
+        subst Back same (value-found d c.0 c.1.0, tt)
+
     kind-back : (k : Kind) (d : Data) (step : Step) → HasTexts d → kind_from s k d ≡ Ok step → Back step
     kind-back Replace d step t h = replace-back d step t h
     kind-back ReplaceAround d step t h = around-back d step t h
@@ -159,6 +192,8 @@ module _ (s : SchemaSpec) (sh : HasShallowDefaults s) where
         let a = first-read (node_from s d) (λ (r : AtNode). Ok (steps.RemoveNodeMark r.pos r.mark)) step h in
         let same : steps.RemoveNodeMark a.0.pos a.0.mark ≡ step = cc a.1.1 in
         subst Back same (at_node-read d a.0 a.1.0)
+    kind-back Attr d step t h = attr-back d step h
+    kind-back DocAttr d step t h = doc-attr-back d step h
 
     pub step-back : (d : Data) (step : Step) → HasTexts d → step_read s d ≡ Ok step → Back step
     unfolding step_read

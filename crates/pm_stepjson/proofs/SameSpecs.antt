@@ -9,7 +9,7 @@ use Rattle.pm_docjson.specs.Reading.{mark_of}
 use Rattle.pm_slicejson.specs.Reading.{slice_of}
 use Rattle.pm_meaning.specs.Steps as steps
 use Rattle.pm_stepjson.specs.declared.kind.Kind.{Kind}
-use Rattle.pm_stepjson.specs.declared.kind.Kind.TheVariants.{Replace, ReplaceAround, AddMark, RemoveMark, AddNodeMark, RemoveNodeMark}
+use Rattle.pm_stepjson.specs.declared.kind.Kind.TheVariants.{Replace, ReplaceAround, AddMark, RemoveMark, AddNodeMark, RemoveNodeMark, Attr, DocAttr}
 use Rattle.pm_stepjson.specs.declared.fault.StepReadError.TheVariants.{Shape, UnknownKind}
 use Rattle.pm_stepjson.specs.Kinds.{kind_named}
 use Rattle.pm_stepjson.specs.Fields.{number_at, text_at, structure_at, as_slice, as_mark, slice_in, slice_at, mark_at}
@@ -53,6 +53,8 @@ module _ (s t : SchemaSpec) (slices : (d : Data) → slice_of s d ≡ slice_of t
   kind-alike RemoveMark d = λ i. range-alike d i >>= (λ r. Ok (steps.RemoveMark r.from r.to r.mark))
   kind-alike AddNodeMark d = λ i. node-alike d i >>= (λ n. Ok (steps.AddNodeMark n.pos n.mark))
   kind-alike RemoveNodeMark d = λ i. node-alike d i >>= (λ n. Ok (steps.RemoveNodeMark n.pos n.mark))
+  kind-alike Attr d = refl
+  kind-alike DocAttr d = refl
 
   pub step-alike : (d : Data) → step_read s d ≡ step_read t d
   unfolding step_read

@@ -1,17 +1,19 @@
 -- When the content of a slice can be written: its own tokens can, no pair of them is broken, and its open nodes are known.
-use Rattle.std.specs.Prelude.{◌≡◌, ℕ, ◌+◌, ◌≤◌, ◌<◌, ◌==◌, Bool, true, false, ◌&&◌, not, cond, nat_lt, List, [], ◌∷◌, ◌++◌, length, take, drop, Option, Some, None}
+use Rattle.std.specs.Prelude.{◌≡◌, ℕ, ◌+◌, ◌≤◌, ◌==◌, Bool, true, false, ◌&&◌, not, cond, nat_lt, List, [], ◌∷◌, ◌++◌, length, map, take, drop, Option, Some, None}
 use Rattle.std.specs.List.{list_all}
 use Rattle.std.proofs.lemmas.Bool.{and_parts, and_from}
-use Rattle.std.proofs.Common.{refl, ap, sym, ◌∙◌, subst, arith, length-take}
+use Rattle.std.proofs.Common.{refl, sym, ◌∙◌, subst, arith}
+use Rattle.pm_marks.specs.declared.mark.Mark.{Mark}
 use Rattle.pm_tokens.specs.Tokens.{Attrs, Marks, Token, Open, Close, Leaf, CodeUnit}
-use Rattle.pm_tokens.specs.Scan.{unclosed, is_whole, deepest, are_opens, are_closes, ends_high}
+use Rattle.pm_tokens.specs.Schemas.{Declared, fit_declared, fit_type, node_attrs, mark_attrs}
+use Rattle.pm_tokens.specs.Scan.{unclosed, are_opens, are_closes, ends_high}
 use Rattle.pm_tokens.specs.Marks.{is_set, have_attrs}
-use Rattle.pm_tokens.specs.Faults.{first_broken, high_of, pair_fits}
+use Rattle.pm_tokens.specs.Faults.{first_broken, high_of}
 use Rattle.pm_tokens.specs.Slices.{Slice, content_end, slice_tokens}
 use Rattle.pm_tokens.proofs.PartLaws.{IsSlice, slice-split}
 use Rattle.pm_tokens.proofs.DepthLaws.{depths-bound}
 use Rattle.pm_schema.specs.declared.spec.SchemaSpec.{SchemaSpec}
-use Rattle.pm_schema.specs.Types.{node_at, mark_at, fit_attrs}
+use Rattle.pm_schema.specs.Types.{node_at, mark_at, declared, fit_attrs}
 use Rattle.pm_schema.specs.Documents.{documents_of}
 use Rattle.pm_docjson.specs.Writable.{mark_fits, marks_fit, type_fits, is_writable, are_writable, AreWritable}
 use Rattle.pm_docjson.proofs.Pairs.{joined}
@@ -54,7 +56,21 @@ opens-paired (CodeUnit u m ∷ o) ts h p = absurd (cc)
 
 -- ---- tokens
 
+-- values that fit a type, where there is such a type
+pub fit-where : (there : Bool) (as' : List Declared) (values : Attrs) → fit_type (cond there (Some as') None) values ≡ (there && fit_declared as' values)
+fit-where true as' values = refl
+fit-where false as' values = refl
+
 module _ (s : SchemaSpec) where
+  -- a mark that the schema has, and a type with attributes
+  pub mark-as : (m : Mark Attrs) → mark_attrs (documents_of s) m.kind m.attrs ≡ mark_fits s m
+  unfolding documents_of
+  mark-as m = fit-where (nat_lt m.kind (length s.marks)) (map declared (mark_at s m.kind).attrs) m.attrs
+
+  pub type-as : (k : ℕ) (a : Attrs) → node_attrs (documents_of s) k a ≡ (nat_lt k (length s.nodes) && fit_attrs (node_at s k).attrs a)
+  unfolding documents_of
+  type-as k a = fit-where (nat_lt k (length s.nodes)) (map declared (node_at s k).attrs) a
+
   abbrev Can : List Token → Type 0
   Can ts = are_writable s ts ≡ true
 
@@ -82,16 +98,14 @@ module _ (s : SchemaSpec) where
   closes-can (CodeUnit u m ∷ c) h = absurd (cc)
 
   known-marks : (ms : Marks) → have_attrs (documents_of s) ms ≡ true → list_all (mark_fits s) ms ≡ true
-  unfolding documents_of
   known-marks [] h = refl
   known-marks (m ∷ ms) h =
-      let p = and_parts (nat_lt m.kind (length s.marks) && fit_attrs (mark_at s m.kind).attrs m.attrs) (have_attrs (documents_of s) ms) h in
-      and_from (mark_fits s m) (list_all (mark_fits s) ms) p.0 (known-marks ms p.1)
+      let p = and_parts (mark_attrs (documents_of s) m.kind m.attrs) (have_attrs (documents_of s) ms) h in
+      and_from (mark_fits s m) (list_all (mark_fits s) ms) (sym (mark-as m) ∙ p.0) (known-marks ms p.1)
 
-  known-type : (k : ℕ) (a : Attrs) → (documents_of s).node_attrs k a ≡ true → not (k == (documents_of s).text) ≡ true → type_fits s k a ≡ true
-  unfolding documents_of
+  known-type : (k : ℕ) (a : Attrs) → node_attrs (documents_of s) k a ≡ true → not (k == (documents_of s).text) ≡ true → type_fits s k a ≡ true
   known-type k a h no_text =
-      let p = and_parts (nat_lt k (length s.nodes)) (fit_attrs (node_at s k).attrs a) h in
+      let p = and_parts (nat_lt k (length s.nodes)) (fit_attrs (node_at s k).attrs a) (sym (type-as k a) ∙ h) in
       and_from (nat_lt k (length s.nodes)) (not (k == (documents_of s).text) && fit_attrs (node_at s k).attrs a) p.0
       (and_from (not (k == (documents_of s).text)) (fit_attrs (node_at s k).attrs a) no_text p.1)
 
@@ -101,8 +115,8 @@ module _ (s : SchemaSpec) where
   opens-can (Open k a m ∷ o) h =
       let d = documents_of s in
       let b = and_parts (knows_open d (Open k a m)) (list_all (knows_open d) o) h in
-      let x = and_parts (d.node_attrs k a && (not (k == d.text) && not (d.is_leaf k))) (have_attrs d m && is_set d m) b.0 in
-      let y = and_parts (d.node_attrs k a) (not (k == d.text) && not (d.is_leaf k)) x.0 in
+      let x = and_parts (node_attrs d k a && (not (k == d.text) && not (d.is_leaf k))) (have_attrs d m && is_set d m) b.0 in
+      let y = and_parts (node_attrs d k a) (not (k == d.text) && not (d.is_leaf k)) x.0 in
       let z = and_parts (not (k == d.text)) (not (d.is_leaf k)) y.1 in
       let w = and_parts (have_attrs d m) (is_set d m) x.1 in
       and_from (is_writable s (Open k a m)) (are_writable s o)

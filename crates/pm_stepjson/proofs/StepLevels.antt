@@ -8,10 +8,11 @@ use Rattle.pm_docjson.specs.Writing.{nodes_written}
 use Rattle.pm_docjson.specs.Writable.{AreWritable}
 use Rattle.pm_docjson.proofs.Levels.{mark-low, nodes-low}
 use Rattle.pm_slicejson.specs.Writing.{with_count, sides_written, slice_written}
-use Rattle.pm_meaning.specs.Steps.{Step, Replace, ReplaceAround, AddMark, RemoveMark, AddNodeMark, RemoveNodeMark}
+use Rattle.pm_meaning.specs.Steps.{Step, Replace, ReplaceAround, AddMark, RemoveMark, AddNodeMark, RemoveNodeMark, Attr, DocAttr}
 use Rattle.pm_stepjson.specs.Writable.{CanBeWritten, IsNested, NestsWithin}
 use Rattle.pm_stepjson.specs.Fields.{count, typed, with_structure, replaced}
 use Rattle.pm_stepjson.specs.Writing.{step_written}
+use Rattle.pm_stepjson.proofs.WrittenValues.{value-low}
 
 count-deep : (k : List ℕ) (n : ℕ) (ms : Members) → members_depth (with_count k n ms) ≤ members_depth ms
 count-deep k n ms = pick (n == 0)
@@ -50,3 +51,5 @@ module _ (s : SchemaSpec) where
   step-deep (RemoveMark from to mark) w n = let d = mark-low s mark w in omega (arith, d)
   step-deep (AddNodeMark pos mark) w n = let d = mark-low s mark w in omega (arith, d)
   step-deep (RemoveNodeMark pos mark) w n = let d = mark-low s mark w in omega (arith, d)
+  step-deep (Attr pos name value) w n = let d = value-low value w in omega (arith, d)
+  step-deep (DocAttr name value) w n = let d = value-low value w in omega (arith, d)

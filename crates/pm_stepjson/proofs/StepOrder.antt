@@ -9,9 +9,10 @@ use Rattle.pm_docjson.specs.KeyOrder.{AllAfter, HasOrderedKeys, AreOrderedByKey}
 use Rattle.pm_docjson.specs.Writing.{nodes_written}
 use Rattle.pm_docjson.proofs.KeyOrder.{mark-ordered, nodes-ordered}
 use Rattle.pm_slicejson.specs.Writing.{sides_written, slice_written}
-use Rattle.pm_meaning.specs.Steps.{Step, Replace, ReplaceAround, AddMark, RemoveMark, AddNodeMark, RemoveNodeMark}
+use Rattle.pm_meaning.specs.Steps.{Step, Replace, ReplaceAround, AddMark, RemoveMark, AddNodeMark, RemoveNodeMark, Attr, DocAttr}
 use Rattle.pm_stepjson.specs.Fields.{count, typed, with_structure, replaced}
 use Rattle.pm_stepjson.specs.Writing.{step_written}
+use Rattle.pm_stepjson.proofs.WrittenValues.{value-ordered}
 
 module _ (s : SchemaSpec) where
   slice-ordered : (sl : Slice) → HasOrderedKeys (slice_written s sl)
@@ -87,3 +88,5 @@ module _ (s : SchemaSpec) where
   step-ordered (RemoveMark from to mark) = (tt, (refl, (refl, (refl, tt))), (mark-ordered s mark, (refl, (refl, tt)), (tt, (refl, tt), (tt, tt, tt))))
   step-ordered (AddNodeMark pos mark) = (mark-ordered s mark, (refl, (refl, tt)), (tt, (refl, tt), (tt, tt, tt)))
   step-ordered (RemoveNodeMark pos mark) = (mark-ordered s mark, (refl, (refl, tt)), (tt, (refl, tt), (tt, tt, tt)))
+  step-ordered (Attr pos name value) = (tt, (refl, (refl, (refl, tt))), (tt, (refl, (refl, tt)), (tt, (refl, tt), (value-ordered value, tt, tt))))
+  step-ordered (DocAttr name value) = (tt, (refl, (refl, tt)), (tt, (refl, tt), (value-ordered value, tt, tt)))

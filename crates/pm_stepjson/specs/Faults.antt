@@ -1,8 +1,10 @@
--- For private clauses: the fault of a step whose slice or mark has a fault.
+-- For private clauses: the fault of a step whose slice, mark or value has a fault.
 use Rattle.pm_docjson.specs.declared.fault.DocReadError.{DocReadError}
 use Rattle.pm_docjson.specs.declared.fault.DocReadError.TheVariants.{Shape, UnknownType, Attr, EmptyText, NotASet, Open, NoMemory, Large}
+use Rattle.pm_value.specs.declared.fault.ValueError.{ValueError}
+use Rattle.pm_value.specs.declared.fault.ValueError.TheVariants as value
 use Rattle.pm_stepjson.specs.declared.fault.StepReadError.{StepReadError}
-use Rattle.pm_stepjson.specs.declared.fault.StepReadError.TheVariants.{Slice, Mark, NoMemory as OutOfMemory}
+use Rattle.pm_stepjson.specs.declared.fault.StepReadError.TheVariants.{Slice, Mark, Value, NoMemory as OutOfMemory}
 
 -- want of memory stays what it is
 abbrev pub slice_fault : DocReadError → StepReadError
@@ -24,3 +26,9 @@ mark_fault NotASet = Mark NotASet
 mark_fault Open = Mark Open
 mark_fault NoMemory = OutOfMemory
 mark_fault Large = Mark Large
+
+abbrev pub value_fault : ValueError → StepReadError
+value_fault value.Float = Value value.Float
+value_fault value.Wide = Value value.Wide
+value_fault value.Deep = Value value.Deep
+value_fault value.NoMemory = OutOfMemory

@@ -3,6 +3,9 @@ use Rattle.std.specs.Prelude.{ℕ, Bool, true, false, ◌==◌, List, codes, Opt
 use Rattle.serde_json.specs.Data.{Data, boolean, number, unsigned, string, Members, no_members, member}
 use Rattle.serde_json.specs.Find.{get, as_bool, as_str}
 use Rattle.pm_list.specs.Readings.{◌>>=◌, or_fault}
+use Rattle.pm_value.specs.Plain.{Plain}
+use Rattle.pm_value.specs.Reading.{value_of}
+use Rattle.pm_value.specs.declared.fault.ValueError.{ValueError}
 use Rattle.pm_marks.specs.declared.mark.Mark.{Mark}
 use Rattle.pm_tokens.specs.Tokens.{Attrs}
 use Rattle.pm_tokens.specs.Slices as slices
@@ -16,7 +19,7 @@ use Rattle.pm_slicejson.specs.Numbers.{as_count}
 use Rattle.pm_slicejson.specs.Reading.{slice_of}
 use Rattle.pm_slicejson.specs.Writing.{slice_written}
 use Rattle.pm_stepjson.specs.declared.fault.StepReadError.{StepReadError}
-use Rattle.pm_stepjson.specs.declared.fault.StepReadError.TheVariants.{Shape, Slice as OfSlice, Mark as OfMark}
+use Rattle.pm_stepjson.specs.declared.fault.StepReadError.TheVariants.{Shape, Slice as OfSlice, Mark as OfMark, Value as OfValue}
 
 -- ---- read
 
@@ -35,7 +38,7 @@ flag_of (Some d) = or_fault Shape (as_bool d)
 abbrev pub structure_at : Data → Result Bool StepReadError
 structure_at d = flag_of (field (codes "structure") d)
 
--- a fault of a slice, and of a mark
+-- a fault of a slice, of a mark, and of a value
 abbrev pub as_slice : {A : Type 0} → Result A DocReadError → Result A StepReadError
 as_slice (Ok v) = Ok v
 as_slice (Err e) = Err (OfSlice e)
@@ -43,6 +46,14 @@ as_slice (Err e) = Err (OfSlice e)
 abbrev pub as_mark : {A : Type 0} → Result A DocReadError → Result A StepReadError
 as_mark (Ok v) = Ok v
 as_mark (Err e) = Err (OfMark e)
+
+abbrev pub as_value : {A : Type 0} → Result A ValueError → Result A StepReadError
+as_value (Ok v) = Ok v
+as_value (Err e) = Err (OfValue e)
+
+-- a value, which must be there; null is one
+abbrev pub value_at : Data → Result Plain StepReadError
+value_at d = or_fault Shape (get (codes "value") d) >>= (λ v. as_value (value_of v))
 
 -- ---- written
 

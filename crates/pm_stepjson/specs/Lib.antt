@@ -6,6 +6,8 @@ pub mod Replace
 pub mod Around
 pub mod Mark
 pub mod NodeMark
+pub mod Attr
+pub mod DocAttr
 pub mod Reading
 pub mod Writing
 pub mod Writable

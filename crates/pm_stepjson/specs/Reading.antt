@@ -7,7 +7,7 @@ use Rattle.pm_schema.specs.declared.spec.SchemaSpec.{SchemaSpec}
 use Rattle.pm_meaning.specs.Steps as steps
 use Rattle.pm_meaning.specs.Steps.{Step}
 use Rattle.pm_stepjson.specs.declared.kind.Kind.{Kind}
-use Rattle.pm_stepjson.specs.declared.kind.Kind.TheVariants.{Replace, ReplaceAround, AddMark, RemoveMark, AddNodeMark, RemoveNodeMark}
+use Rattle.pm_stepjson.specs.declared.kind.Kind.TheVariants.{Replace, ReplaceAround, AddMark, RemoveMark, AddNodeMark, RemoveNodeMark, Attr, DocAttr}
 use Rattle.pm_stepjson.specs.declared.fault.StepReadError.{StepReadError}
 use Rattle.pm_stepjson.specs.declared.fault.StepReadError.TheVariants.{UnknownKind}
 use Rattle.pm_stepjson.specs.Kinds.{kind_named}
@@ -16,6 +16,8 @@ use Rattle.pm_stepjson.specs.Replace.{replace_from}
 use Rattle.pm_stepjson.specs.Around.{around_from}
 use Rattle.pm_stepjson.specs.Mark.{range_from}
 use Rattle.pm_stepjson.specs.NodeMark.{node_from}
+use Rattle.pm_stepjson.specs.Attr.{attr_from}
+use Rattle.pm_stepjson.specs.DocAttr.{doc_attr_from}
 
 module _ (s : SchemaSpec) where
   -- the step of this kind
@@ -26,6 +28,8 @@ module _ (s : SchemaSpec) where
   kind_from RemoveMark d = range_from s d >>= (λ r. Ok (steps.RemoveMark r.from r.to r.mark))
   kind_from AddNodeMark d = node_from s d >>= (λ n. Ok (steps.AddNodeMark n.pos n.mark))
   kind_from RemoveNodeMark d = node_from s d >>= (λ n. Ok (steps.RemoveNodeMark n.pos n.mark))
+  kind_from Attr d = attr_from d
+  kind_from DocAttr d = doc_attr_from d
 
   unfoldable pub step_read : Data → Result Step StepReadError
   step_read d = do

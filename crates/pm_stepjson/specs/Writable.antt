@@ -1,12 +1,13 @@
 -- What can be written and is read again.
 use Rattle.std.specs.Prelude.{◌≡◌, ℕ, ◌<◌, ◌≤◌, ◌^◌, true}
+use Rattle.pm_value.specs.Plain.{depth}
 use Rattle.pm_tokens.specs.Scan.{is_whole, deepest}
 use Rattle.pm_tokens.specs.Slices.{Slice, is_slice}
 use Rattle.pm_schema.specs.declared.spec.SchemaSpec.{SchemaSpec}
 use Rattle.pm_docjson.specs.Writable.{mark_fits, AreWritable}
-use Rattle.pm_meaning.specs.Steps.{Step, Replace, ReplaceAround, AddMark, RemoveMark, AddNodeMark, RemoveNodeMark}
+use Rattle.pm_meaning.specs.Steps.{Step, Replace, ReplaceAround, AddMark, RemoveMark, AddNodeMark, RemoveNodeMark, Attr, DocAttr}
 
--- the step's mark can be written, or the content of its slice
+-- the step's mark can be written, or the content of its slice; a value nests at most four levels deep
 abbrev pub CanBeWritten : SchemaSpec → Step → Type 0
 CanBeWritten s (Replace from to sl structure) = AreWritable s sl.content
 CanBeWritten s (ReplaceAround from to gap_from gap_to sl insert structure) = AreWritable s sl.content
@@ -14,6 +15,8 @@ CanBeWritten s (AddMark from to mark) = mark_fits s mark ≡ true
 CanBeWritten s (RemoveMark from to mark) = mark_fits s mark ≡ true
 CanBeWritten s (AddNodeMark pos mark) = mark_fits s mark ≡ true
 CanBeWritten s (RemoveNodeMark pos mark) = mark_fits s mark ≡ true
+CanBeWritten s (Attr pos name value) = depth value ≤ 4
+CanBeWritten s (DocAttr name value) = depth value ≤ 4
 
 -- the step's slice is one, as that of every step of the code is
 abbrev pub HasSlice : Step → Type 0
@@ -23,6 +26,8 @@ HasSlice (AddMark from to mark) = Unit {0}
 HasSlice (RemoveMark from to mark) = Unit {0}
 HasSlice (AddNodeMark pos mark) = Unit {0}
 HasSlice (RemoveNodeMark pos mark) = Unit {0}
+HasSlice (Attr pos name value) = Unit {0}
+HasSlice (DocAttr name value) = Unit {0}
 
 -- a number that is read
 abbrev pub IsCount : ℕ → Type 0
@@ -36,6 +41,8 @@ HasCounts (AddMark from to mark) = IsCount from × IsCount to
 HasCounts (RemoveMark from to mark) = IsCount from × IsCount to
 HasCounts (AddNodeMark pos mark) = IsCount pos
 HasCounts (RemoveNodeMark pos mark) = IsCount pos
+HasCounts (Attr pos name value) = IsCount pos
+HasCounts (DocAttr name value) = Unit {0}
 
 -- The slice's content is a whole number of nodes, as that of every slice is, and each position in it stands in at most n nodes.
 pub record IsNested (n : ℕ) (sl : Slice) : Type 0 where
@@ -50,6 +57,8 @@ NestsWithin n (AddMark from to mark) = Unit {0}
 NestsWithin n (RemoveMark from to mark) = Unit {0}
 NestsWithin n (AddNodeMark pos mark) = Unit {0}
 NestsWithin n (RemoveNodeMark pos mark) = Unit {0}
+NestsWithin n (Attr pos name value) = Unit {0}
+NestsWithin n (DocAttr name value) = Unit {0}
 
 -- The step can be stored as text: it can be written, its numbers are ones that are read, and its slice nests no deeper than a
 -- document, so that the text is read as the JSON value and the value as this step.

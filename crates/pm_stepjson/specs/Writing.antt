@@ -2,11 +2,13 @@
 use Rattle.std.specs.Prelude.{codes}
 use Rattle.serde_json.specs.Data.{Data}
 use Rattle.pm_schema.specs.declared.spec.SchemaSpec.{SchemaSpec}
-use Rattle.pm_meaning.specs.Steps.{Step, Replace, ReplaceAround, AddMark, RemoveMark, AddNodeMark, RemoveNodeMark}
+use Rattle.pm_meaning.specs.Steps.{Step, Replace, ReplaceAround, AddMark, RemoveMark, AddNodeMark, RemoveNodeMark, Attr, DocAttr}
 use Rattle.pm_stepjson.specs.Replace.{replace_written}
 use Rattle.pm_stepjson.specs.Around.{around_written}
 use Rattle.pm_stepjson.specs.Mark.{range_written}
 use Rattle.pm_stepjson.specs.NodeMark.{node_written}
+use Rattle.pm_stepjson.specs.Attr.{attr_written}
+use Rattle.pm_stepjson.specs.DocAttr.{doc_attr_written}
 
 module _ (s : SchemaSpec) where
   abbrev pub step_written : Step → Data
@@ -16,3 +18,5 @@ module _ (s : SchemaSpec) where
   step_written (RemoveMark from to mark) = range_written s (codes "removeMark") from to mark
   step_written (AddNodeMark pos mark) = node_written s (codes "addNodeMark") pos mark
   step_written (RemoveNodeMark pos mark) = node_written s (codes "removeNodeMark") pos mark
+  step_written (Attr pos name value) = attr_written pos name value
+  step_written (DocAttr name value) = doc_attr_written name value

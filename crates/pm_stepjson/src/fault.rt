@@ -1,9 +1,10 @@
 //! Why a JSON value is no step.
 ghost use Rattle.std.specs.Prelude.{◌≡◌};
 ghost use Rattle.pm_stepjson.specs.declared.fault.StepReadError.TheVariants.{NoMemory};
-ghost use Rattle.pm_stepjson.specs.Faults.{slice_fault, mark_fault};
+ghost use Rattle.pm_stepjson.specs.Faults.{slice_fault, mark_fault, value_fault};
 
 use pm_docjson::DocReadError;
+use pm_value::ValueError;
 use std::alloc::{AllocError, AllocFailed};
 use thiserror::Error;
 
@@ -20,6 +21,8 @@ pub enum StepReadError {
     Mark(DocReadError),
     #[error("no memory")]
     NoMemory,
+    #[error("the value: {0}")]
+    Value(ValueError),
 }
 
 impl From<AllocError> for StepReadError {
@@ -55,5 +58,15 @@ pub(crate) fn mark_fault(error: DocReadError) -> StepReadError
     match error {
         DocReadError::NoMemory => StepReadError::NoMemory,
         _ => StepReadError::Mark(error),
+    }
+}
+
+/// The fault of a step whose value has this fault.
+pub(crate) fn value_fault(error: ValueError) -> StepReadError
+    ensures { result ≡ value_fault error }
+{
+    match error {
+        ValueError::NoMemory => StepReadError::NoMemory,
+        _ => StepReadError::Value(error),
     }
 }

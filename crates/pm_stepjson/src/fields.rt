@@ -3,15 +3,18 @@ ghost use Rattle.serde_json.specs.View.{view};
 ghost use Rattle.pm_stepjson.specs.Answers.{Gives};
 ghost use Rattle.pm_docjson.specs.Reading.{mark_of};
 ghost use Rattle.pm_slicejson.specs.Reading.{slice_of};
-ghost use Rattle.pm_stepjson.specs.Fields.{as_mark, as_slice, mark_at, number_at, slice_at, structure_at, text_at};
+ghost use Rattle.pm_value.specs.Reading.{value_of};
+ghost use Rattle.pm_value.specs.Views.{plain};
+ghost use Rattle.pm_stepjson.specs.Fields.{as_mark, as_slice, as_value, mark_at, number_at, slice_at, structure_at, text_at, value_at};
 
-use crate::fault::{StepReadError, mark_fault, slice_fault};
+use crate::fault::{StepReadError, mark_fault, slice_fault, value_fault};
 use pm_attrs::Attrs;
 use pm_docjson::{field, read_mark};
 use pm_marks::Mark;
 use pm_schema::Schema;
 use pm_slice::Slice;
 use pm_slicejson::{as_count, read_slice};
+use pm_value::Value;
 use serde_json::Value as Json;
 use std::alloc::Global;
 
@@ -91,5 +94,25 @@ fn as_mark(alloc: Global, schema: &Schema, json: &Json) -> Result<Mark<Attrs>, S
     match read_mark(alloc, schema, json) {
         Ok(mark) => Ok(mark),
         Err(error) => Err(mark_fault(error)),
+    }
+}
+
+/// The value, which must be there; null is one.
+pub fn value_at(alloc: Global, json: &Json) -> Result<Value, StepReadError>
+    ensures { Gives plain result (value_at (view json.now)) }
+{
+    let Some(value) = json.get("value") else {
+        return Err(StepReadError::Shape);
+    };
+    as_value(alloc, value)
+}
+
+/// The JSON value as a value.
+fn as_value(alloc: Global, json: &Json) -> Result<Value, StepReadError>
+    ensures { Gives plain result (as_value (value_of (view json.now))) }
+{
+    match Value::from_json(alloc, json) {
+        Ok(value) => Ok(value),
+        Err(error) => Err(value_fault(error)),
     }
 }

@@ -1,4 +1,4 @@
-//! The six kinds of steps.
+//! The eight kinds of steps.
 ghost use Rattle.std.specs.Prelude.{◌≡◌};
 ghost use Rattle.pm_stepjson.specs.Kinds.{kind_named};
 
@@ -11,6 +11,8 @@ pub(crate) enum Kind {
     RemoveMark,
     AddNodeMark,
     RemoveNodeMark,
+    Attr,
+    DocAttr,
 }
 
 impl Kind {
@@ -30,6 +32,10 @@ impl Kind {
             Some(Kind::AddNodeMark)
         } else if name == "removeNodeMark" {
             Some(Kind::RemoveNodeMark)
+        } else if name == "attr" {
+            Some(Kind::Attr)
+        } else if name == "docAttr" {
+            Some(Kind::DocAttr)
         } else {
             None
         }

@@ -54,6 +54,8 @@ fn has_slice(step: &Step)
         }
         Step::Mark(_) => {}
         Step::NodeMark(_) => {}
+        Step::Attr(_) => {}
+        Step::DocAttr(_) => {}
     }
 }
 

@@ -2,6 +2,8 @@
 #![tactic(auto)]
 
 mod around;
+mod attr;
+mod doc_attr;
 mod fault;
 mod fields;
 mod kind;

@@ -5,6 +5,8 @@ ghost use Rattle.pm_stepjson.specs.Answers.{Gives};
 ghost use Rattle.pm_stepjson.specs.Reading.{kind_from, step_read};
 
 use crate::around::around_from;
+use crate::attr::attr_from;
+use crate::doc_attr::doc_attr_from;
 use crate::fault::StepReadError;
 use crate::fields::text_at;
 use crate::kind::Kind;
@@ -18,9 +20,10 @@ use std::alloc::Global;
 
 /// The step of a JSON value, or its first fault in the order `stepType` and then the fields of that kind. `Shape` comes where a
 /// field is missing that must be there, or is of another kind: a position or `insert` is a whole number from 0 to 4,294,967,295,
-/// `structure` a truth value. `UnknownKind` comes where no kind of steps has the name, `Slice` at the first fault of the slice,
-/// and `Mark` at that of the mark. A slice that is absent or null is the empty one, and a `structure` that is absent or null is
-/// false.
+/// `structure` a truth value, `attr` a text. `UnknownKind` comes where no kind of steps has the name, `Slice` at the first fault
+/// of the slice, `Mark` at that of the mark, and `Value` at that of the value. A slice that is absent or null is the empty one,
+/// and a `structure` that is absent or null is false; a `value` must be there, and null is a value. Whether a type has the
+/// attribute is asked where the step is applied.
 #[tactic(auto, unfolding(crate::specs::Reading::step_read))]
 pub fn read_step(alloc: Global, schema: &Schema, json: &Json) -> Result<Step, StepReadError>
     ensures { Gives step_of result (step_read schema.now.spec (view json.now)) }
@@ -57,5 +60,7 @@ fn kind_from(alloc: Global, schema: &Schema, kind: Kind, json: &Json) -> Result<
             let marking = Marking::Remove(mark);
             Ok(Step::NodeMark(NodeMarkStep { pos, marking }))
         }
+        Kind::Attr => Ok(Step::Attr(attr_from(alloc, json)?)),
+        Kind::DocAttr => Ok(Step::DocAttr(doc_attr_from(alloc, json)?)),
     }
 }

@@ -1,8 +1,9 @@
 use Rattle.std.proofs.Common.{ap}
 use Rattle.serde_json.specs.View.{view}
 use Rattle.pm_step.specs.Steps.{node_step, range_step, step_of}
-use Rattle.pm_meaning.specs.Steps.{Replace, ReplaceAround}
-use Rattle.pm_stepjson.proofs.Again.{replace-again, around-again, range-again, node-again, reads-again}
+use Rattle.pm_value.specs.Views.{plain}
+use Rattle.pm_meaning.specs.Steps.{Replace, ReplaceAround, Attr, DocAttr}
+use Rattle.pm_stepjson.proofs.Again.{replace-again, around-again, range-again, node-again, attr-again, doc_attr-again, reads-again}
 use Rattle.pm_stepjson.proofs.writing.write_step.Goals as goal
 
 pub returns-in-Replace-clause-again : goal.returns-in-Replace-clause-again
@@ -32,3 +33,17 @@ returns-in-NodeMark-clause-again c =
     let m = c.in-NodeMark.step in
     reads-again s view (node_step m.marking m.pos) (step_of c.args.step.now) c.node_json.result (ap step_of c.in-NodeMark.is)
     c.node_json.ensures.written c.node_json.ensures.again (node-again s m.marking m.pos)
+
+pub returns-in-Attr-clause-again : goal.returns-in-Attr-clause-again
+returns-in-Attr-clause-again c =
+    let s = c.args.schema.now.spec in
+    let a = c.in-Attr.step in
+    reads-again s view (Attr a.pos a.attr (plain a.value)) (step_of c.args.step.now) c.attr_json.result (ap step_of c.in-Attr.is)
+    c.attr_json.ensures.written c.attr_json.ensures.again (attr-again s a.pos a.attr (plain a.value))
+
+pub returns-in-DocAttr-clause-again : goal.returns-in-DocAttr-clause-again
+returns-in-DocAttr-clause-again c =
+    let s = c.args.schema.now.spec in
+    let a = c.in-DocAttr.step in
+    reads-again s view (DocAttr a.attr (plain a.value)) (step_of c.args.step.now) c.doc_attr_json.result (ap step_of c.in-DocAttr.is)
+    c.doc_attr_json.ensures.written c.doc_attr_json.ensures.again (doc_attr-again s a.attr (plain a.value))
