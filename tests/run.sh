@@ -38,7 +38,8 @@ for session in "$top"/tests/*/*.session "$top"/examples/*.session; do
 done
 
 # Inputs at a limit are made here, since they are large: one byte more than an input may have, one op line more than a
-# session, an op line that is one byte too long and one that is not, and documents of as many tokens as one may have.
+# session, an op line that is one byte too long and one that is not, and documents of as many tokens as one may have in each
+# version.
 wanted=$(mktemp) || exit 2
 large=$(mktemp) || exit 2
 whole=$(mktemp) || exit 2
@@ -74,6 +75,23 @@ letters 499998 >"$large"
 limit "a step that makes the document too large" replay 0 "4 refused 0 7"
 letters 499999 >"$large"
 limit "a first document that is too large" check 1 "refused 2 16"
+# The same of version 2, and of documents of both versions that are only counted.
+sized() {
+  letters "$2" | sed "1s/^{/{\"version\":$1,/" | head -n "$3"
+}
+counted() {
+  sized "$1" "$2" 3 >"$large"
+  limit "a document of $2 letters in version $1" check "$3" "$4"
+}
+counted 1 499998 0 "ok 0 500000"
+counted 1 600000 1 "refused 2 16"
+counted 2 600000 0 "ok 0 600002"
+counted 2 999998 0 "ok 0 1000000"
+counted 2 999999 1 "refused 2 16"
+sized 2 999997 4 >"$large"
+limit "a step that fills a document of version 2" replay 0 "4 made 1"
+sized 2 999998 4 >"$large"
+limit "a step that makes a document of version 2 too large" replay 0 "4 refused 0 7"
 
 # A large session that is made from a number: its summary begins so, and a second run writes the same bytes.
 printf 'gen 4 2500 1\nlines 10000\n' >"$wanted"

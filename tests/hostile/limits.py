@@ -154,6 +154,11 @@ def documents():
         made = lambda count=count: session(None, letters(count), None, [step])
         yield row(f"{count} letters and one", made, **ok(1, count + 2, first))
     yield row("499,999 letters", lambda: session(None, letters(499_999)), any=refused(2, 16))
+    grown = {"version": 2, "nodes": PARAGRAPHS}
+    for count, first in ((999_997, "4 made 1"), (999_998, "4 refused 0 7")):
+        made = lambda count=count: session(grown, letters(count), None, [step])
+        yield row(f"{count} letters and one in version 2", made, **ok(1, count + 2, first))
+    yield row("999,999 letters in version 2", lambda: session(grown, letters(999_999)), any=refused(2, 16))
     text = {"type": "p"}
     for depth, first in ((46, "4 made 1"), (47, "4 refused 0 8")):
         wrapped = op(op="wrap", **{"from": 0, "to": 2 * depth + 2, "type": "q"})
@@ -187,6 +192,8 @@ def documents():
         line = f'{{"c":"a","op":"settype","pos":0,"type":"p","attrs":{{"k":{value}}}}}'
         told = {"any": refused(4, code)} if code else ok(1, 2, "4 made 1")
         yield row(f"the attribute {value[:24]} in an op", lambda line=line: session(schema, None, None, [line]), **told)
+        line = f'{{"c":"a","op":"attr","pos":0,"attr":"k","value":{value}}}'
+        yield row(f"the attribute {value[:24]} alone", lambda line=line: session(schema, None, None, [line]), **told)
 
 
 def clients():

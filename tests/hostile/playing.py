@@ -49,10 +49,10 @@ def wanted(path):
 
 
 NUMBERS = r"\[(?:\d+(?:,\d+)*)?\]"
-TELLS = r"(?:accepted \d+ \d+|version \d+|refused \d+ (?:[1-8]|9 \d+|10)|entries \d+ \d+)"
+TELLS = r"(?:accepted \d+ \d+|version \d+|refused \d+ (?:[1-8]|9 \d+|1[0-2])|entries \d+ \d+)"
 TAKES = r"(?:confirmed \d+|rebased \d+ \d+ \d+|stale|kept)"
 OUTCOME = re.compile(
-    rf"(\d+) (?:made \d+|refused 0 (?:[1-8]|9 \d+|10)|no place|no fit|no range|nothing|cursor \d+|composed [1-9]\d*"
+    rf"(\d+) (?:made \d+|refused 0 (?:[1-8]|9 \d+|1[0-2])|no place|no fit|no range|nothing|cursor \d+|composed [1-9]\d*"
     rf"|{TELLS}|{TAKES}|{TELLS}; (?:{TAKES}|lost))"
 )
 CLIENT = re.compile(rf"client ([a-z0-9]{{1,16}}) (\d+) {NUMBERS} {NUMBERS} {NUMBERS} (\{{.*\}})")
