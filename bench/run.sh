@@ -175,6 +175,8 @@ node "$here/check.js" "$here/../crates/pm_program/out/pm_program" $((10 * tries)
 title "the word replay, milliseconds" "ours" "ProseMirror"
 node "$here/undos.js" "$here/../crates/pm_program/out/pm_program" 5000 1000 $tries
 for lines in 1000 10000 100000; do node "$here/typing.js" "$here/../crates/pm_program/out/pm_program" $lines; done
+for count in 500 2000 8000; do node "$here/rebases.js" "$here/../crates/pm_program/out/pm_program" $count 10 $tries 1; done
+node "$here/rebases.js" "$here/../crates/pm_program/out/pm_program" 2000 10 $tries 100
 
 # The middle of seven runs each, with their spread, and a head of its own.
 echo
