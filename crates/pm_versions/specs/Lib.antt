@@ -1,3 +1,4 @@
 pub mod Checkpoints
 pub mod Late
+pub mod Suiting
 pub mod Pulled
