@@ -26,3 +26,4 @@ mod slicing;
 mod templates;
 #[cfg(test)]
 mod undoing;
+mod viewing;

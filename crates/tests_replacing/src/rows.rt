@@ -9,6 +9,7 @@ use crate::replacing::replaced;
 use crate::sample::{document, document_json, schema, step, step_json};
 use crate::slicing::sliced;
 use crate::undoing::undone;
+use crate::viewing::viewed;
 use pm_node::Document;
 use pm_schema::Schema;
 use std::alloc::Global;
@@ -44,6 +45,9 @@ fn found(alloc: Global, schema: &Schema, row: Row<'_>) -> Result<String, Fail> {
     }
     if is_sliced(row.asked) {
         return sliced(alloc, schema, row.asked, &before, row.step);
+    }
+    if row.asked == "view" {
+        return viewed(alloc, &before, row.step);
     }
     let step = step(alloc, schema, row.step)?;
     match row.asked {
