@@ -5,3 +5,7 @@ pub mod Lates
 pub mod Alikes
 pub mod Fresh
 pub mod Pulls
+pub mod LateLines
+pub mod LateRuns
+pub mod PulledRuns
+pub mod LateOpenings

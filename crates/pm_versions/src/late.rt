@@ -1,8 +1,8 @@
 //! Rooms that clients enter late.
-ghost use Rattle.std.specs.Prelude.{◌≡◌, ◌<◌, ◌≤◌, ℕ, [], ◌++◌, length, take, Bool, false, IfOk, OnOk, OnErr};
+ghost use Rattle.std.specs.Prelude.{◌≡◌, ◌<◌, ◌≤◌, ℕ, [], ◌++◌, length, take, Bool, false, vec_len, IfOk, OnOk, OnErr};
 ghost use Rattle.pm_authority.specs.Runs.{AllApply};
 ghost use Rattle.pm_session.specs.Events.{State, state_of, played};
-ghost use Rattle.pm_session.specs.Refusals.{EditorGetsNoRefusal};
+ghost use Rattle.pm_session.specs.Refusals.{EditorGetsNoRefusal, NoEditorRefused};
 ghost use Rattle.pm_session.specs.Restoring.{Restores};
 ghost use Rattle.pm_session.specs.Sessions.{settled};
 ghost use Rattle.pm_session.specs.Sounds.{Sound, AllCaughtUp};
@@ -10,6 +10,7 @@ ghost use Rattle.pm_session.specs.Standing.{CursorsStay};
 ghost use Rattle.pm_session.specs.Suits.{enters};
 ghost use Rattle.pm_versions.specs.Checkpoints.{IsVersions};
 ghost use Rattle.pm_versions.specs.Late.{IsLate, IsEditorIdle, SuitsLate, entered, late_played, LeftByLate, LeftByLateSettle, HasFront};
+ghost use Rattle.pm_versions.specs.LateSessions.{LateLinesSuit, LeftByLateLines, late_session, AllHold, AllAsPulled};
 ghost use Rattle.pm_versions.specs.Pulled.{AsPulled, EntersNew, entered_with, pulled_line};
 
 use crate::at::AtError;
@@ -88,6 +89,35 @@ impl<C: Change> LateRoom<C> {
         };
         self.reach(alloc, rules)?;
         Ok(outcome)
+    }
+
+    /// Plays lines in order, and tells what became of each. Each must suit the room as the lines before it leave it, and who enters
+    /// has no earlier line. Want of memory leaves the room after the lines that were played, and the next as `play` says.
+    pub fn play_all<K: Maker<C>>(
+        &mut self,
+        alloc: Global,
+        rules: &C::Rules,
+        maker: &K,
+        lines: &[Line<K::Op, C>],
+    ) -> Result<Vec<Outcome<C>>, AllocError>
+        requires kept { IsLate C.means rules.now self.old }
+        requires suit { LateLinesSuit (state_of self.old.room) lines.now }
+        ensures outcomes { IfOk result (λ v. v.items ≡ (late_session C.means rules.now (K.makes maker.now rules.now) (state_of self.old.room) lines.now).0) }
+        ensures each { IfOk result (λ v. vec_len v ≡ length lines.now) }
+        ensures unrefused { IfOk result (λ v. NoEditorRefused lines.now v.items) }
+        ensures room { OnOk result (state_of self.new.room ≡ (late_session C.means rules.now (K.makes maker.now rules.now) (state_of self.old.room) lines.now).1) }
+        ensures left { OnErr result (LeftByLateLines C.means rules.now (K.makes maker.now rules.now) (state_of self.old.room) lines.now (state_of self.new.room)) }
+        ensures kept { IsLate C.means rules.now self.new }
+        ensures reached { OnOk result (self.new.versions.log ≡ self.new.room.authority.log) }
+        ensures holds { OnOk result (AllHold C.means rules.now (K.makes maker.now rules.now) (state_of self.old.room) lines.now) }
+        ensures pulled { OnOk result (AllAsPulled C.means rules.now (K.makes maker.now rules.now) (state_of self.old.room) lines.now) }
+    {
+        let mut outcomes = Vec::new(alloc);
+        self.reach(alloc, rules)?;
+        for line in lines {
+            outcomes.push(self.play(alloc, rules, maker, line)?)?;
+        }
+        Ok(outcomes)
     }
 
     /// Settles the room as `Room::settle` says. Want of memory leaves the room as before, or as `Room::settle` says, or settled.

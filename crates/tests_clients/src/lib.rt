@@ -1,4 +1,4 @@
-//! Tests of the authority and of its clients.
+//! Tests of the authority, of its clients and of the versions of its log.
 #![tactic(auto)]
 
 #[cfg(test)]
@@ -7,3 +7,5 @@ mod authority;
 mod client;
 #[cfg(test)]
 mod number;
+#[cfg(test)]
+mod versions;
