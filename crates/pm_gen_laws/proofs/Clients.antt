@@ -10,10 +10,12 @@ use Rattle.serde_json.specs.Read.{read, number_of}
 use Rattle.serde_json.proofs.Numbers.{number_of-decimal}
 use Rattle.serde_json.proofs.OnLiterals.{serde_json_on_literals}
 use Rattle.pm_list.specs.Readings.{◌>>=◌}
+use Rattle.pm_head.specs.declared.form.Form.TheVariants.{Plain}
 use Rattle.pm_head.specs.declared.clients.ClientEntry.{ClientEntry}
 use Rattle.pm_head.specs.Lines.{json_line}
 use Rattle.pm_head.specs.Clients.{editor, entries_of, clients_of, clients_line}
-use Rattle.pm_script.specs.Lines.{is_raw}
+use Rattle.pm_script.specs.Lines.{is_raw, is_late}
+use Rattle.pm_script.specs.Entrants.{all_enter}
 use Rattle.pm_gen.specs.Session.{names}
 use Rattle.pm_gen_laws.proofs.Pieces.{all_shown, below, at-below}
 use Rattle.pm_gen_laws.proofs.Readable.{line-reads}
@@ -51,7 +53,7 @@ unfolding digits serde_json_on_literals
 reads = ((((((((((((((((((((((((((((((((tt, refl), refl), refl), refl), refl), refl), refl), refl), refl), refl), refl), refl), refl), refl), refl), refl), refl), refl), refl), refl), refl), refl), refl), refl), refl), refl), refl), refl), refl), refl), refl), refl)
 
 abbrev AreEditors : ℕ → Type 0
-AreEditors k = clients_of (array (name_items 1 (suc k))) ≡ Ok (editors 1 (suc k))
+AreEditors k = clients_of Plain (array (name_items 1 (suc k))) ≡ Ok (editors 1 (suc k))
 
 entries : Upto AreEditors 32
 unfolding digits clients_of entries_of
@@ -70,12 +72,12 @@ names-shown n h = (and_parts (all_shown (names (suc n))) (nat_le (length (names 
 pub names-short : (n : ℕ) → n < 32 → length (names (suc n)) ≤ 300
 names-short n h = leb-true (length (names (suc n))) 300 (and_parts (all_shown (names (suc n))) (nat_le (length (names (suc n))) 300) (at-below is_short 32 shorts n h)).1
 
-pub clients-read : (n : ℕ) → n < 32 → clients_line (names (suc n)) ≡ Ok (editors 1 (suc n))
+pub clients-read : (n : ℕ) → n < 32 → clients_line Plain (names (suc n)) ≡ Ok (editors 1 (suc n))
 unfolding clients_line
 clients-read n h =
     let d : Data = array (name_items 1 (suc n)) in
     let json : json_line (names (suc n)) ≡ Ok d = line-reads (names (suc n)) d (names-shown n h) (omega (arith, names-short n h)) (at-upto IsRead 32 reads n h) in
-    ap (λ r. r >>= clients_of) json ∙ at-upto AreEditors 32 entries n h
+    ap (λ r. r >>= clients_of Plain) json ∙ at-upto AreEditors 32 entries n h
 
 -- ---- a client by its name
 
@@ -124,3 +126,13 @@ pub not-raw : (n i from : ℕ) → i < n → is_raw (editors from n) i ≡ false
 not-raw zero i from h = absurd (omega arith)
 not-raw (suc n) zero from h = refl
 not-raw (suc n) (suc i) from h = not-raw n i (from + 1) (omega arith)
+
+pub not-late : (n i from : ℕ) → i < n → is_late (editors from n) i ≡ false
+not-late zero i from h = absurd (omega arith)
+not-late (suc n) zero from h = refl
+not-late (suc n) (suc i) from h = not-late n i (from + 1) (omega arith)
+
+-- so none of them has to enter
+pub none-enters : (n from : ℕ) (lines : List (List ℕ)) → all_enter (editors from n) lines ≡ true
+none-enters zero from lines = refl
+none-enters (suc n) from lines = none-enters n (from + 1) lines

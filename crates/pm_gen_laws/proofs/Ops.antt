@@ -10,13 +10,14 @@ use Rattle.pm_session.specs.declared.line.Act.TheVariants as act
 use Rattle.pm_session.specs.declared.line.Line.{Line}
 use Rattle.pm_docjson.specs.Values.{values_for}
 use Rattle.pm_docjson.specs.Reading.{mark_of, attrs_read, given_at}
+use Rattle.pm_head.specs.declared.form.Form.TheVariants.{Plain}
 use Rattle.pm_head.specs.declared.code.Code.{Code}
 use Rattle.pm_head.specs.declared.code.Code.TheVariants.{TooManyLines}
 use Rattle.pm_head.specs.declared.clients.ClientEntry.{ClientEntry}
 use Rattle.pm_head.specs.Lines.{json_line, lines_of}
 use Rattle.pm_script.specs.Ops.{text_op, delete_op, split_op, add_mark_op}
 use Rattle.pm_script.specs.Acts.{edit_in}
-use Rattle.pm_script.specs.Lines.{is_raw, op_in, op_line}
+use Rattle.pm_script.specs.Lines.{is_raw, is_late, op_in, op_line}
 use Rattle.pm_script.specs.Sessions.{at_line, ops_of}
 use Rattle.pm_gen.specs.Lines.{turn_line}
 use Rattle.pm_gen.specs.Turns.{turn_at, after_turn}
@@ -26,7 +27,7 @@ use Rattle.pm_gen_laws.proofs.Readable.{lt-false}
 use Rattle.pm_gen_laws.proofs.Lines.{next-line}
 use Rattle.pm_gen_laws.proofs.Texts.{data_of, body, line-is, body-shown, body-short, body-reads}
 use Rattle.pm_gen_laws.proofs.Spec.{spec}
-use Rattle.pm_gen_laws.proofs.Clients.{name_of, editors, found, not-raw}
+use Rattle.pm_gen_laws.proofs.Clients.{name_of, editors, found, not-raw, not-late}
 
 abbrev mark_kind : Bool → ℕ
 mark_kind true = 2
@@ -50,28 +51,28 @@ module _ (g : Global) (clients : List ClientEntry) (earlier : List (Line Op Step
   abbrev IsAt : Type 0
   IsAt = position (λ (e : ClientEntry). pointwise nat_eq (name_of c) e.name) clients ≡ Some i
 
-  op-read : (t : Kind) → IsSmall t → IsAt → is_raw clients i ≡ false → op_in (spec g) clients earlier n (data_of c t) ≡ Ok (record { number = n; client = i; act = act_of t })
+  op-read : (t : Kind) → IsSmall t → IsAt → is_raw clients i ≡ false → is_late clients i ≡ false → op_in Plain (spec g) clients earlier n (data_of c t) ≡ Ok (record { number = n; client = i; act = act_of t })
   unfolding op_in edit_in text_op delete_op split_op add_mark_op mark_of attrs_read given_at values_for
-  op-read (Text at letter) s f r = rw (f, r, counts at s.0) refl
-  op-read (Delete from to) s f r = rw (f, r, counts from s.0, counts to s.1) refl
-  op-read (Split at) s f r = rw (f, r, counts at s) refl
-  op-read (AddMark from to true) s f r = rw (f, r, counts from s.0, counts to s.1) refl
-  op-read (AddMark from to false) s f r = rw (f, r, counts from s.0, counts to s.1) refl
-  op-read Undo s f r = rw (f, r) refl
-  op-read Redo s f r = rw (f, r) refl
-  op-read (Push true) s f r = rw (f, r) refl
-  op-read (Push false) s f r = rw (f, r) refl
-  op-read Pull s f r = rw (f, r) refl
+  op-read (Text at letter) s f r late = rw (f, r, late, counts at s.0) refl
+  op-read (Delete from to) s f r late = rw (f, r, late, counts from s.0, counts to s.1) refl
+  op-read (Split at) s f r late = rw (f, r, late, counts at s) refl
+  op-read (AddMark from to true) s f r late = rw (f, r, late, counts from s.0, counts to s.1) refl
+  op-read (AddMark from to false) s f r late = rw (f, r, late, counts from s.0, counts to s.1) refl
+  op-read Undo s f r late = rw (f, r, late) refl
+  op-read Redo s f r late = rw (f, r, late) refl
+  op-read (Push true) s f r late = rw (f, r, late) refl
+  op-read (Push false) s f r late = rw (f, r, late) refl
+  op-read Pull s f r late = rw (f, r, late) refl
 
-  line-read : (t : Kind) → c < 64 → IsSmall t → n ≤ 100003 → IsAt → is_raw clients i ≡ false → op_line (spec g) clients earlier n (body c t) ≡ Ok (record { number = n; client = i; act = act_of t })
+  line-read : (t : Kind) → c < 64 → IsSmall t → n ≤ 100003 → IsAt → is_raw clients i ≡ false → is_late clients i ≡ false → op_line Plain (spec g) clients earlier n (body c t) ≡ Ok (record { number = n; client = i; act = act_of t })
   unfolding op_line
-  line-read t h s l f r =
-      ap (λ (b : Bool). if b then Err TooManyLines else (json_line (body c t) >>= (λ d. op_in (spec g) clients earlier n d))) (lt-false 100003 n l)
-      ∙ (ap (λ v. v >>= (λ d. op_in (spec g) clients earlier n d)) (body-reads c t h s) ∙ op-read t s f r)
+  line-read t h s l f r late =
+      ap (λ (b : Bool). if b then Err TooManyLines else (json_line (body c t) >>= (λ d. op_in Plain (spec g) clients earlier n d))) (lt-false 100003 n l)
+      ∙ (ap (λ v. v >>= (λ d. op_in Plain (spec g) clients earlier n d)) (body-reads c t h s) ∙ op-read t s f r late)
 
 -- the lines of n + 1 clients
 module _ (g : Global) (n : ℕ) (few : n < 32) where
-  pub lines-read : (count i x : ℕ) (earlier : List (Line Op Step)) (k : ℕ) → k + count ≤ 100004 → (ops : List (Line Op Step)) × (ops_of (spec g) (editors 1 (suc n)) earlier k (lines_of (turn_lines (suc n) i count x)) ≡ Ok ops)
+  pub lines-read : (count i x : ℕ) (earlier : List (Line Op Step)) (k : ℕ) → k + count ≤ 100004 → (ops : List (Line Op Step)) × (ops_of Plain (spec g) (editors 1 (suc n)) earlier k (lines_of (turn_lines (suc n) i count x)) ≡ Ok ops)
   unfolding turn_lines ops_of lines_of
   lines-read zero i x earlier k h = ([], refl)
   lines-read (suc m) i x earlier k h =
@@ -84,11 +85,11 @@ module _ (g : Global) (n : ℕ) (few : n < 32) where
       let rest = lines-read m (i + 1) (after_turn x) (earlier ++ one ∷ []) (k + 1) (omega (arith, h)) in
       let split : lines_of (turn_lines (suc n) i (suc m) x) ≡ body (i % suc n + 1) (kind_of (turn_at x)) ∷ lines_of more =
       ap (λ z. lines_of (z ++ more)) (line-of-kind (i % suc n + 1) (turn_at x) ∙ line-is (i % suc n + 1) (kind_of (turn_at x))) ∙ next-line (body (i % suc n + 1) (kind_of (turn_at x))) more (body-shown (i % suc n + 1) (kind_of (turn_at x)) (omega (arith, inside, few)) small) in
-      let read : op_line (spec g) (editors 1 (suc n)) earlier k (body (i % suc n + 1) (kind_of (turn_at x))) ≡ Ok one =
-      line-read g (editors 1 (suc n)) earlier k (i % suc n + 1) (i % suc n) (kind_of (turn_at x)) (omega (arith, inside, few)) small (omega (arith, h)) (found (suc n) (i % suc n) inside (omega (arith, few))) (not-raw (suc n) (i % suc n) 1 inside) in (
+      let read : op_line Plain (spec g) (editors 1 (suc n)) earlier k (body (i % suc n + 1) (kind_of (turn_at x))) ≡ Ok one =
+      line-read g (editors 1 (suc n)) earlier k (i % suc n + 1) (i % suc n) (kind_of (turn_at x)) (omega (arith, inside, few)) small (omega (arith, h)) (found (suc n) (i % suc n) inside (omega (arith, few))) (not-raw (suc n) (i % suc n) 1 inside) (not-late (suc n) (i % suc n) 1 inside) in (
         one ∷ rest.0,
-        ap (ops_of (spec g) (editors 1 (suc n)) earlier k) split
-            ∙ (ap (λ (r : Result (Line Op Step) Code). at_line k r >>= (λ o. ops_of (spec g) (editors 1 (suc n)) (earlier ++ o ∷ []) (k + 1) (lines_of more) >>= (λ later. Ok (o ∷ later)))) read
+        ap (ops_of Plain (spec g) (editors 1 (suc n)) earlier k) split
+            ∙ (ap (λ (r : Result (Line Op Step) Code). at_line k r >>= (λ o. ops_of Plain (spec g) (editors 1 (suc n)) (earlier ++ o ∷ []) (k + 1) (lines_of more) >>= (λ later. Ok (o ∷ later)))) read
             ∙ ap (λ r. r >>= (λ later. Ok (one ∷ later))) rest.1),
       )
 

@@ -6,6 +6,7 @@ use Rattle.serde_json.specs.Data.{Data}
 use Rattle.serde_json.specs.Find.{as_array}
 use Rattle.serde_json.specs.declared.value.Value.{Value}
 use Rattle.serde_json.specs.View.{items_view}
+use Rattle.pm_head.specs.declared.form.Form.{Form}
 use Rattle.pm_head.specs.Clients.{count_of, entries_of, clients_of}
 
 -- a list has as many items as its values
@@ -22,6 +23,6 @@ few : (n : ℕ) → n ≤ 32 → nat_le n 32 ≡ true
 few n h = grind (arith, nat_tests)
 
 -- a value that is a list of 1 to 32 values gives their entries
-pub some-clients : (d : Data) (vs : List Value) → as_array d ≡ Some (items_view vs) → 0 < length vs → length vs ≤ 32 → clients_of d ≡ entries_of [] (items_view vs)
+pub some-clients : (form : Form) (d : Data) (vs : List Value) → as_array d ≡ Some (items_view vs) → 0 < length vs → length vs ≤ 32 → clients_of form d ≡ entries_of form [] (items_view vs)
 unfolding clients_of
-some-clients d vs is some most = rw (is, count_of-items vs, filled (length vs) some, few (length vs) most) refl
+some-clients form d vs is some most = rw (is, count_of-items vs, filled (length vs) some, few (length vs) most) refl

@@ -6,6 +6,7 @@ use Rattle.pm_tokens.specs.Tokens.{Doc}
 use Rattle.pm_schema.specs.declared.schema.Schema.{Schema}
 use Rattle.pm_schema.specs.Built.{IsBuilt}
 use Rattle.pm_schemajson.specs.Views.{types_of_spec}
+use Rattle.pm_head.specs.declared.form.Form.{Form}
 use Rattle.pm_head.specs.declared.code.Code.{Code}
 use Rattle.pm_head.specs.declared.code.Code.TheVariants.{MissingLine}
 use Rattle.pm_head.specs.declared.fault.Refusal.{Refusal}
@@ -71,29 +72,30 @@ clients-agree : (s t : Schema) → types_of_spec s.spec ≡ types_of_spec t.spec
 clients-agree s t h x y e (Ok cs) = record { types = h; doc = e; clients = refl }
 clients-agree s t h x y e (Err code) = refl
 
-after-doc : (s t : Schema) → types_of_spec s.spec ≡ types_of_spec t.spec → (x y : Result Doc Code) → Docs x y → (lines : List (List ℕ)) (r q : Result Head Refusal) → AfterDoc s x lines r → AfterDoc t y lines q → Heads r q
-after-doc s t h (Ok x) (Ok y) e [] r q f g = these r (Err (refused 3 MissingLine)) q (Err (refused 3 MissingLine)) f g refl
-after-doc s t h (Ok x) (Ok y) e (line ∷ lines) r q f g = these r (with_clients s x (clients_line line)) q (with_clients t y (clients_line line)) f g (clients-agree s t h x y e (clients_line line))
-after-doc s t h (Ok x) (Err code) e lines r q f g = absurd e
-after-doc s t h (Err code) (Ok y) e lines r q f g = absurd e
-after-doc s t h (Err code) (Err other) e lines r q f g = these r (Err (refused 2 code)) q (Err (refused 2 other)) f g (ap (refused 2) e)
+module _ (form : Form) where
+  after-doc : (s t : Schema) → types_of_spec s.spec ≡ types_of_spec t.spec → (x y : Result Doc Code) → Docs x y → (lines : List (List ℕ)) (r q : Result Head Refusal) → AfterDoc form s x lines r → AfterDoc form t y lines q → Heads r q
+  after-doc s t h (Ok x) (Ok y) e [] r q f g = these r (Err (refused 3 MissingLine)) q (Err (refused 3 MissingLine)) f g refl
+  after-doc s t h (Ok x) (Ok y) e (line ∷ lines) r q f g = these r (with_clients s x (clients_line form line)) q (with_clients t y (clients_line form line)) f g (clients-agree s t h x y e (clients_line form line))
+  after-doc s t h (Ok x) (Err code) e lines r q f g = absurd e
+  after-doc s t h (Err code) (Ok y) e lines r q f g = absurd e
+  after-doc s t h (Err code) (Err other) e lines r q f g = these r (Err (refused 2 code)) q (Err (refused 2 other)) f g (ap (refused 2) e)
 
-after-schema : (x y : Result Schema Code) → Schemas x y → (lines : List (List ℕ)) (r q : Result Head Refusal) → AfterSchema x lines r → AfterSchema y lines q → Heads r q
-after-schema (Ok s) (Ok t) e [] r q f g = these r (Err (refused 2 MissingLine)) q (Err (refused 2 MissingLine)) f g refl
-after-schema (Ok s) (Ok t) e (line ∷ lines) r q f g = after-doc s t e.0 f.0 g.0 (docs s t e.0 e.1 e.2 line f.0 g.0 f.1 g.1) lines r q f.2 g.2
-after-schema (Ok s) (Err code) e lines r q f g = absurd e
-after-schema (Err code) (Ok t) e lines r q f g = absurd e
-after-schema (Err code) (Err other) e lines r q f g = these r (Err (refused 1 code)) q (Err (refused 1 other)) f g (ap (refused 1) e)
+  after-schema : (x y : Result Schema Code) → Schemas x y → (lines : List (List ℕ)) (r q : Result Head Refusal) → AfterSchema form x lines r → AfterSchema form y lines q → Heads r q
+  after-schema (Ok s) (Ok t) e [] r q f g = these r (Err (refused 2 MissingLine)) q (Err (refused 2 MissingLine)) f g refl
+  after-schema (Ok s) (Ok t) e (line ∷ lines) r q f g = after-doc s t e.0 f.0 g.0 (docs s t e.0 e.1 e.2 line f.0 g.0 f.1 g.1) lines r q f.2 g.2
+  after-schema (Ok s) (Err code) e lines r q f g = absurd e
+  after-schema (Err code) (Ok t) e lines r q f g = absurd e
+  after-schema (Err code) (Err other) e lines r q f g = these r (Err (refused 1 code)) q (Err (refused 1 other)) f g (ap (refused 1) e)
 
-heads : (lines : List (List ℕ)) (r q : Result Head Refusal) → HeadIs lines r → HeadIs lines q → Heads r q
-heads [] r q f g = these r (Err (refused 1 MissingLine)) q (Err (refused 1 MissingLine)) f g refl
-heads (line ∷ lines) r q f g = after-schema f.0 g.0 (schemas line f.0 g.0 f.1 g.1) lines r q f.2 g.2
+  heads : (lines : List (List ℕ)) (r q : Result Head Refusal) → HeadIs form lines r → HeadIs form lines q → Heads r q
+  heads [] r q f g = these r (Err (refused 1 MissingLine)) q (Err (refused 1 MissingLine)) f g refl
+  heads (line ∷ lines) r q f g = after-schema f.0 g.0 (schemas line f.0 g.0 f.1 g.1) lines r q f.2 g.2
 
-pub head-apart : (lines : List (List ℕ)) (head : Head) (refusal : Refusal) → HeadIs lines (Ok head) → HeadIs lines (Err refusal) → ⊥
-head-apart lines head refusal f g = heads lines (Ok head) (Err refusal) f g
+  pub head-apart : (lines : List (List ℕ)) (head : Head) (refusal : Refusal) → HeadIs form lines (Ok head) → HeadIs form lines (Err refusal) → ⊥
+  head-apart lines head refusal f g = heads lines (Ok head) (Err refusal) f g
 
-pub one-refusal : (lines : List (List ℕ)) (refusal other : Refusal) → HeadIs lines (Err refusal) → HeadIs lines (Err other) → refusal ≡ other
-one-refusal lines refusal other f g = heads lines (Err refusal) (Err other) f g
+  pub one-refusal : (lines : List (List ℕ)) (refusal other : Refusal) → HeadIs form lines (Err refusal) → HeadIs form lines (Err other) → refusal ≡ other
+  one-refusal lines refusal other f g = heads lines (Err refusal) (Err other) f g
 
-pub one-head : (lines : List (List ℕ)) (head other : Head) → HeadIs lines (Ok head) → HeadIs lines (Ok other) → SameHead head other
-one-head lines head other f g = heads lines (Ok head) (Ok other) f g
+  pub one-head : (lines : List (List ℕ)) (head other : Head) → HeadIs form lines (Ok head) → HeadIs form lines (Ok other) → SameHead head other
+  one-head lines head other f g = heads lines (Ok head) (Ok other) f g

@@ -23,3 +23,4 @@ number_of code.InvalidDocument = 16
 number_of code.NoSuchMessage = 17
 number_of code.OpNotAllowed = 18
 number_of code.BadClients = 19
+number_of code.WrongEnter = 25

@@ -1,7 +1,8 @@
--- What follows for two meanings of the first three lines.
+-- What follows for two meanings of the first three lines, in each form of files.
 use Rattle.std.specs.Prelude.{◌≡◌, ℕ, List, Ok, Err}
 use Rattle.pm_schema.specs.declared.spec.SchemaSpec.{SchemaSpec}
 use Rattle.pm_schemajson.specs.Views.{types_of_spec}
+use Rattle.pm_head.specs.declared.form.Form.{Form}
 use Rattle.pm_head.specs.declared.fault.Refusal.{Refusal}
 use Rattle.pm_head.specs.declared.reading.Head.{Head}
 use Rattle.pm_head.specs.Heads.{HeadIs}
@@ -18,12 +19,12 @@ pub record SameHead (g h : Head) : Type 0 where
 
 -- lines that are a head are not refused
 abbrev pub HeadExcludesRefusal : List (List ℕ) → Type 0
-HeadExcludesRefusal lines = (head : Head) (refusal : Refusal) → HeadIs lines (Ok head) → HeadIs lines (Err refusal) → ⊥
+HeadExcludesRefusal lines = (form : Form) (head : Head) (refusal : Refusal) → HeadIs form lines (Ok head) → HeadIs form lines (Err refusal) → ⊥
 
 -- their refusal, a line and a code, is one
 abbrev pub HasOneRefusal : List (List ℕ) → Type 0
-HasOneRefusal lines = (refusal other : Refusal) → HeadIs lines (Err refusal) → HeadIs lines (Err other) → refusal ≡ other
+HasOneRefusal lines = (form : Form) (refusal other : Refusal) → HeadIs form lines (Err refusal) → HeadIs form lines (Err other) → refusal ≡ other
 
 -- two heads of the lines are the same
 abbrev pub HasOneHead : List (List ℕ) → Type 0
-HasOneHead lines = (head other : Head) → HeadIs lines (Ok head) → HeadIs lines (Ok other) → SameHead head other
+HasOneHead lines = (form : Form) (head other : Head) → HeadIs form lines (Ok head) → HeadIs form lines (Ok other) → SameHead head other

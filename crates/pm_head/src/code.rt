@@ -43,10 +43,12 @@ pub enum Code {
     OpNotAllowed,
     /// There is no client or there are more than 32, or a client's name is ill-formed or repeated.
     BadClients,
+    /// A late client does not enter, or does not do so by its first line and by that alone; or another client enters.
+    WrongEnter,
 }
 
 impl Code {
-    /// The number by which a report tells the code, 1 to 19.
+    /// The number by which a report tells the code, 1 to 19 and 25.
     pub fn number(self) -> u32
         ensures { result ≡ number_of self }
     {
@@ -70,6 +72,7 @@ impl Code {
             Code::NoSuchMessage => 17,
             Code::OpNotAllowed => 18,
             Code::BadClients => 19,
+            Code::WrongEnter => 25,
         }
     }
 }

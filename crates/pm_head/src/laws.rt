@@ -14,8 +14,8 @@ pub fn schema_means_one(json: &Value)
     let _ = json;
 }
 
-/// The first three lines of an input are a head or are refused, and either is one: the refusal with its line and code, and
-/// the head with its types, its document and its clients.
+/// The first three lines of an input are, in each form of files, a head or are refused, and either is one: the refusal with its
+/// line and code, and the head with its types, its document and its clients.
 pub fn head_means_one(input: &[u8])
     ensures apart { HeadExcludesRefusal (lines_of input.now) }
     ensures one_refusal { HasOneRefusal (lines_of input.now) }

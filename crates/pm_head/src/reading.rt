@@ -10,6 +10,7 @@ use crate::clients::{ClientEntry, clients_line};
 use crate::code::Code;
 use crate::document::doc_line;
 use crate::fault::{LineError, Refusal, SessionError};
+use crate::form::Form;
 use crate::lines::first_line;
 use crate::schema::schema_line;
 use pm_list::Listed;
@@ -28,12 +29,12 @@ pub struct Head {
     pub clients: Listed<ClientEntry>,
 }
 
-/// What the first three lines of the input say, and the rest of the input behind them. A line ends at LF, and a last piece
-/// without one is a line where it isn't empty. Else the least faulty of the three with the code of its first fault; each
-/// code but `InputTooLong`, `TooManyLines`, `NoSuchMessage` and `OpNotAllowed` may come. The rest is part of the input, and
-/// takes no memory.
-pub fn read_head(alloc: Global, input: &[u8]) -> Result<(Head, &[u8]), SessionError>
-    ensures read { Reads (λ p. p.0) (HeadIs (lines_of input.now)) result }
+/// What the first three lines of the input say, in a file of this form, and the rest of the input behind them. A line ends at
+/// LF, and a last piece without one is a line where it isn't empty. Else the least faulty of the three with the code of its
+/// first fault; each code but `InputTooLong`, `TooManyLines`, `NoSuchMessage`, `OpNotAllowed` and `WrongEnter` may come. A late
+/// client's entry is `WrongShape` where the form is `Plain`. The rest is part of the input, and takes no memory.
+pub fn read_head(alloc: Global, form: Form, input: &[u8]) -> Result<(Head, &[u8]), SessionError>
+    ensures read { Reads (λ p. p.0) (HeadIs form (lines_of input.now)) result }
     ensures rest { IfOk result (λ p. lines_of p.1.now ≡ drop 3 (lines_of input.now)) }
     ensures valid { IfOk result (λ p. Valid (documents_of p.0.schema.spec) p.0.doc) }
     ensures few { IfOk result (λ p. length p.0.clients ≤ 32) }
@@ -45,15 +46,20 @@ pub fn read_head(alloc: Global, input: &[u8]) -> Result<(Head, &[u8]), SessionEr
         }));
     };
     match schema_line(alloc, line) {
-        Ok(schema) => after_schema(alloc, schema, rest),
+        Ok(schema) => after_schema(alloc, form, schema, rest),
         Err(LineError::Code(code)) => Err(SessionError::Refused(Refusal { line: 1, code })),
         Err(LineError::NoMemory) => Err(SessionError::NoMemory),
     }
 }
 
 /// The head behind line 1.
-fn after_schema(alloc: Global, schema: Schema, input: &[u8]) -> Result<(Head, &[u8]), SessionError>
-    ensures read { Reads (λ p. p.0) (AfterSchema (Ok schema) (lines_of input.now)) result }
+fn after_schema(
+    alloc: Global,
+    form: Form,
+    schema: Schema,
+    input: &[u8],
+) -> Result<(Head, &[u8]), SessionError>
+    ensures read { Reads (λ p. p.0) (AfterSchema form (Ok schema) (lines_of input.now)) result }
     ensures rest { IfOk result (λ p. lines_of p.1.now ≡ drop 2 (lines_of input.now)) }
     ensures valid { IfOk result (λ p. Valid (documents_of p.0.schema.spec) p.0.doc) }
     ensures few { IfOk result (λ p. length p.0.clients ≤ 32) }
@@ -65,7 +71,7 @@ fn after_schema(alloc: Global, schema: Schema, input: &[u8]) -> Result<(Head, &[
         }));
     };
     match doc_line(alloc, &schema, line) {
-        Ok(doc) => after_doc(alloc, schema, doc, rest),
+        Ok(doc) => after_doc(alloc, form, schema, doc, rest),
         Err(LineError::Code(code)) => Err(SessionError::Refused(Refusal { line: 2, code })),
         Err(LineError::NoMemory) => Err(SessionError::NoMemory),
     }
@@ -74,12 +80,13 @@ fn after_schema(alloc: Global, schema: Schema, input: &[u8]) -> Result<(Head, &[
 /// The head behind line 2.
 fn after_doc(
     alloc: Global,
+    form: Form,
     schema: Schema,
     doc: Document,
     input: &[u8],
 ) -> Result<(Head, &[u8]), SessionError>
     requires { Valid (documents_of schema.spec) doc }
-    ensures read { Reads (λ p. p.0) (AfterDoc schema (Ok doc) (lines_of input.now)) result }
+    ensures read { Reads (λ p. p.0) (AfterDoc form schema (Ok doc) (lines_of input.now)) result }
     ensures rest { IfOk result (λ p. lines_of p.1.now ≡ drop 1 (lines_of input.now)) }
     ensures valid { IfOk result (λ p. Valid (documents_of p.0.schema.spec) p.0.doc) }
     ensures few { IfOk result (λ p. length p.0.clients ≤ 32) }
@@ -90,7 +97,7 @@ fn after_doc(
             code: Code::MissingLine,
         }));
     };
-    match clients_line(alloc, line) {
+    match clients_line(alloc, form, line) {
         Ok(clients) => Ok((
             Head {
                 schema,

@@ -6,6 +6,7 @@ use Rattle.serde_json.specs.Find.{get, as_array}
 use Rattle.pm_list.specs.Readings.{◌>>=◌, or_fault}
 use Rattle.pm_schema.specs.declared.spec.SchemaSpec.{SchemaSpec}
 use Rattle.pm_schema.specs.Names.{place_of}
+use Rattle.pm_head.specs.declared.form.Form.{Form}
 use Rattle.pm_head.specs.declared.code.Code.TheVariants.{TooManyLines, WrongShape, UnknownName}
 use Rattle.pm_head.specs.OneMeaning.{HaveSameTypes}
 use Rattle.pm_docjson.specs.declared.leaves.LeafContent.TheVariants.{Refused}
@@ -29,7 +30,7 @@ use Rattle.pm_script.specs.Parts.{step_in, step_list, steps_in, slice_in, node_i
 use Rattle.pm_script.specs.Ops.{step_op, paste_op, insert_op, wrap_op, set_type_op, add_mark_op, remove_mark_op, op_of}
 use Rattle.pm_script.specs.Acts.{edit_in, forge_in, act_in}
 use Rattle.pm_script.specs.declared.lines.TheConstants.{LAST_LINE}
-use Rattle.pm_script.specs.Lines.{client_in, word_in, said, named, op_in, op_line}
+use Rattle.pm_script.specs.Lines.{client_in, word_in, said, turned, named, op_in, op_line}
 use Rattle.pm_script.specs.Sessions.{at_line, ops_of}
 use Rattle.pm_script.proofs.SameSteps.{slice-alike, step-alike}
 
@@ -133,16 +134,17 @@ module _ (s t : SchemaSpec) (h : HaveSameTypes s t) where
   act-alike word.Push d = refl
   act-alike word.Pull d = refl
   act-alike word.Forge d = forge-alike d
+  act-alike word.Enter d = refl
 
-  op-in-alike : (clients : List ClientEntry) (earlier : List (Line Op Step)) (n : ℕ) (d : Data) → op_in s clients earlier n d ≡ op_in t clients earlier n d
+  op-in-alike : (form : Form) (clients : List ClientEntry) (earlier : List (Line Op Step)) (n : ℕ) (d : Data) → op_in form s clients earlier n d ≡ op_in form t clients earlier n d
   unfolding op_in
-  op-in-alike clients earlier n d = λ i. client_in clients d >>= (λ client. word_in d >>= (λ found. said clients earlier client found >>= (λ w. act-alike w d i >>= (λ read. named earlier client read >>= (λ done. Ok (record { number = n; client = client; act = done }))))))
+  op-in-alike form clients earlier n d = λ i. client_in clients d >>= (λ client. word_in form d >>= (λ found. said clients earlier client found >>= (λ allowed. turned clients earlier client allowed >>= (λ w. act-alike w d i >>= (λ read. named earlier client read >>= (λ done. Ok (record { number = n; client = client; act = done })))))))
 
-  op-line-alike : (clients : List ClientEntry) (earlier : List (Line Op Step)) (n : ℕ) (line : List ℕ) → op_line s clients earlier n line ≡ op_line t clients earlier n line
+  op-line-alike : (form : Form) (clients : List ClientEntry) (earlier : List (Line Op Step)) (n : ℕ) (line : List ℕ) → op_line form s clients earlier n line ≡ op_line form t clients earlier n line
   unfolding op_line
-  op-line-alike clients earlier n line = λ i. if nat_lt LAST_LINE n then Err TooManyLines else (json_line line >>= (λ d. op-in-alike clients earlier n d i))
+  op-line-alike form clients earlier n line = λ i. if nat_lt LAST_LINE n then Err TooManyLines else (json_line line >>= (λ d. op-in-alike form clients earlier n d i))
 
-  pub ops-alike : (clients : List ClientEntry) (earlier : List (Line Op Step)) (n : ℕ) (lines : List (List ℕ)) → ops_of s clients earlier n lines ≡ ops_of t clients earlier n lines
+  pub ops-alike : (form : Form) (clients : List ClientEntry) (earlier : List (Line Op Step)) (n : ℕ) (lines : List (List ℕ)) → ops_of form s clients earlier n lines ≡ ops_of form t clients earlier n lines
   unfolding ops_of
-  ops-alike clients earlier n [] = refl
-  ops-alike clients earlier n (line ∷ rest) = λ i. at_line n (op-line-alike clients earlier n line i) >>= (λ done. ops-alike clients (earlier ++ done ∷ []) (n + 1) rest i >>= (λ later. Ok (done ∷ later)))
+  ops-alike form clients earlier n [] = refl
+  ops-alike form clients earlier n (line ∷ rest) = λ i. at_line n (op-line-alike form clients earlier n line i) >>= (λ done. ops-alike form clients (earlier ++ done ∷ []) (n + 1) rest i >>= (λ later. Ok (done ∷ later)))

@@ -7,7 +7,7 @@ use Rattle.pm_head.specs.declared.code.Code.{Code}
 use Rattle.pm_meaning.specs.Steps.{Step}
 use Rattle.pm_ops.specs.declared.op.Op.{Op}
 use Rattle.pm_session.specs.declared.line.Act.{Act}
-use Rattle.pm_session.specs.declared.line.Act.TheVariants.{Edit, Undo, Redo, UndoEvent, Cursor, Submit, Ask, Present, Take, Push, Pull, Forge}
+use Rattle.pm_session.specs.declared.line.Act.TheVariants.{Edit, Undo, Redo, UndoEvent, Cursor, Submit, Ask, Present, Take, Push, Pull, Forge, Enter}
 use Rattle.pm_script.specs.declared.kinds.EditKind.{EditKind}
 use Rattle.pm_script.specs.declared.word.Word.{Word}
 use Rattle.pm_script.specs.declared.word.Word.TheVariants as word
@@ -50,3 +50,4 @@ act_in s word.Take d = number_in (codes "answer") d >>= (λ n. Ok (Take n))
 act_in s word.Push d = lost_in d >>= (λ lost. Ok (Push lost))
 act_in s word.Pull d = lost_in d >>= (λ lost. Ok (Pull lost))
 act_in s word.Forge d = forge_in s d
+act_in s word.Enter d = Ok Enter

@@ -6,6 +6,8 @@ pub mod Parts
 pub mod Ops
 pub mod Acts
 pub mod Lines
+pub mod Entrants
+pub mod Entered
 pub mod Sessions
 pub mod Held
 pub mod Answers

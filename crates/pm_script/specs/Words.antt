@@ -1,11 +1,13 @@
 -- The words of op lines.
-use Rattle.std.specs.Prelude.{ℕ, nat_eq, nat_lt, Bool, not, ◌&&◌, List, codes, Option, Some, None, if◌then◌else◌}
+use Rattle.std.specs.Prelude.{ℕ, nat_eq, nat_lt, Bool, true, false, not, ◌&&◌, List, codes, Option, Some, None, if◌then◌else◌}
 use Rattle.std.specs.Cmp.Lexicographic.{pointwise}
+use Rattle.pm_head.specs.declared.form.Form.{Form}
+use Rattle.pm_head.specs.declared.form.Form.TheVariants.{Plain, Late}
 use Rattle.pm_script.specs.declared.kinds.EditKind.{EditKind}
 use Rattle.pm_script.specs.declared.kinds.EditKind.TheVariants as kind
 use Rattle.pm_script.specs.declared.word.TheConstants.{MAX_CURSORS}
 use Rattle.pm_script.specs.declared.word.Word.{Word}
-use Rattle.pm_script.specs.declared.word.Word.TheVariants.{Edit, Undo, Redo, UndoEvent, Cursor, Submit, Ask, Present, Take, Push, Pull, Forge}
+use Rattle.pm_script.specs.declared.word.Word.TheVariants.{Edit, Undo, Redo, UndoEvent, Cursor, Submit, Ask, Present, Take, Push, Pull, Forge, Enter}
 
 -- the text is this word
 abbrev pub says : List ℕ → List ℕ → Bool
@@ -47,17 +49,23 @@ abbrev pub or_word : Option EditKind → Option Word → Option Word
 or_word None other = other
 or_word (Some edit) other = Some (Edit edit)
 
-abbrev pub word_named : List ℕ → Option Word
-word_named text =
+-- `enter` is a word where clients may come late.
+abbrev pub says_enter : Form → List ℕ → Bool
+says_enter Plain text = false
+says_enter Late text = says text (codes "enter")
+
+abbrev pub word_named : Form → List ℕ → Option Word
+word_named form text =
     or_word (edit_named text)
     (if says text (codes "undo") then Some Undo
     else (if says text (codes "redo") then Some Redo
     else (if says text (codes "undoevent") then Some UndoEvent
     else (if says text (codes "cursor") then Some Cursor
-    else exchange_named text))))
+    else (if says_enter form text then Some Enter
+    else exchange_named text)))))
 
 -- A raw client's line may say `forge` alone. A line of an editor may say every other word, and `cursor` where fewer than 64
--- earlier lines of the client do.
+-- earlier lines of the client do. Who may say `enter` is decided after that.
 abbrev pub may_say : Bool → ℕ → Word → Bool
 may_say raw cursors (Edit edit) = not raw
 may_say raw cursors Undo = not raw
@@ -71,3 +79,20 @@ may_say raw cursors Take = not raw
 may_say raw cursors Push = not raw
 may_say raw cursors Pull = not raw
 may_say raw cursors Forge = raw
+may_say raw cursors Enter = true
+
+-- A line on which its client is due to enter says `enter`, and no other line does.
+abbrev pub in_turn : Bool → Word → Bool
+in_turn due Enter = due
+in_turn due (Edit edit) = not due
+in_turn due Undo = not due
+in_turn due Redo = not due
+in_turn due UndoEvent = not due
+in_turn due Cursor = not due
+in_turn due Submit = not due
+in_turn due Ask = not due
+in_turn due Present = not due
+in_turn due Take = not due
+in_turn due Push = not due
+in_turn due Pull = not due
+in_turn due Forge = not due

@@ -53,6 +53,7 @@ pub(crate) fn act_in(
             Ok(Act::Pull { lost })
         }
         Word::Forge => forge_in(alloc, schema, json),
+        Word::Enter => Ok(Act::Enter),
     }
 }
 

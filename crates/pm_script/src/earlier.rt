@@ -1,7 +1,8 @@
 //! The op lines read so far.
 ghost use Rattle.std.specs.Prelude.{◌≡◌, ◌<◌, ◌+◌, ◌^◌, ◌++◌, ◌∷◌, [], ℕ, length, vec_len, slice_index, slice_set, if◌then◌else◌, IfOk, OnOk};
 ghost use Rattle.pm_session.specs.Suits.{composed_by, answered_by};
-ghost use Rattle.pm_script.specs.Lines.{cursors_by};
+ghost use Rattle.pm_versions.specs.Suiting.{has_line};
+ghost use Rattle.pm_script.specs.Lines.{cursors_by, lines_by};
 
 use pm_apply::DocChange;
 use pm_ops::Op;
@@ -9,16 +10,18 @@ use pm_session::Line;
 use std::alloc::{AllocError, Global};
 
 /// The op lines read so far, with how many messages each client composed on them, how many answers it
-/// got and how many cursors it set.
+/// got, how many cursors it set, and how many of them are its own.
 #[derive(Drop)]
 pub struct Earlier {
     pub lines: Vec<Line<Op, DocChange>>,
     pub composed: Vec<u64>,
     pub answered: Vec<u64>,
     pub cursors: Vec<u64>,
+    pub own: Vec<u64>,
     ghost composed_is: { (k : ℕ) → k < vec_len composed → slice_index composed.items k ≡ composed_by k lines.items },
     ghost answered_is: { (k : ℕ) → k < vec_len answered → slice_index answered.items k ≡ answered_by k lines.items },
     ghost cursors_are: { (k : ℕ) → k < vec_len cursors → slice_index cursors.items k ≡ cursors_by k lines.items },
+    ghost own_are: { (k : ℕ) → k < vec_len own → slice_index own.items k ≡ lines_by k lines.items },
 }
 
 impl Earlier {
@@ -28,12 +31,14 @@ impl Earlier {
         ensures composed { IfOk result (λ e. vec_len e.composed ≡ clients) }
         ensures answered { IfOk result (λ e. vec_len e.answered ≡ clients) }
         ensures cursors { IfOk result (λ e. vec_len e.cursors ≡ clients) }
+        ensures own { IfOk result (λ e. vec_len e.own ≡ clients) }
     {
         Ok(Earlier {
             lines: Vec::new(alloc),
             composed: vec![in alloc; 0u64; clients]?,
             answered: vec![in alloc; 0u64; clients]?,
             cursors: vec![in alloc; 0u64; clients]?,
+            own: vec![in alloc; 0u64; clients]?,
         })
     }
 
@@ -61,17 +66,28 @@ impl Earlier {
         self.cursors[client]
     }
 
+    /// Whether a line is the client's.
+    #[tactic(auto, using(crate::proofs::Tallies::own_lines))]
+    pub fn has_line(&self, client: usize) -> bool
+        requires { client < vec_len self.now.own }
+        ensures { result ≡ has_line client self.now.lines.items }
+    {
+        self.own[client] > 0
+    }
+
     /// Adds the next line.
     pub fn add(&mut self, line: Line<Op, DocChange>) -> Result<(), AllocError>
         requires composed { line.client < vec_len self.old.composed }
         requires answered { line.client < vec_len self.old.answered }
         requires cursors { line.client < vec_len self.old.cursors }
+        requires own { line.client < vec_len self.old.own }
         requires few { vec_len self.old.lines < 2 ^ 32 }
         ensures ok { OnOk result (self.new.lines.items ≡ self.old.lines.items ++ line ∷ []) }
         ensures len { OnOk result (vec_len self.new.lines ≡ vec_len self.old.lines + 1) }
         ensures composed { vec_len self.new.composed ≡ vec_len self.old.composed }
         ensures answered { vec_len self.new.answered ≡ vec_len self.old.answered }
         ensures cursors { vec_len self.new.cursors ≡ vec_len self.old.cursors }
+        ensures own { vec_len self.new.own ≡ vec_len self.old.own }
     {
         let client = line.client as usize;
         let composes = line.act.composes();
@@ -81,6 +97,7 @@ impl Earlier {
         count(&mut self.composed, client, composes);
         count(&mut self.answered, client, answers);
         count(&mut self.cursors, client, sets);
+        count(&mut self.own, client, true);
         Ok(())
     }
 }

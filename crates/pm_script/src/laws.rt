@@ -1,8 +1,8 @@
 //! Laws of what an input is. The call does nothing; its contract is the law.
 ghost use Rattle.pm_script.specs.OneMeaning.{SessionExcludesRefusal, HasOneRefusal, HasOneSession};
 
-/// An input is a session or is refused, and either is one: the refusal with its line and code, and the session with its types,
-/// its first document, its clients and its op lines.
+/// In each form of files an input is a session or is refused, and either is one: the refusal with its line and code, and the
+/// session with its types, its first document, its clients and its op lines.
 pub fn input_means_one(input: &[u8])
     ensures apart { SessionExcludesRefusal input.now }
     ensures one_refusal { HasOneRefusal input.now }

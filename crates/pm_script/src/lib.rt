@@ -4,6 +4,7 @@
 mod acts;
 mod codes;
 mod earlier;
+mod entrants;
 mod fields;
 mod kinds;
 mod laws;
@@ -14,5 +15,5 @@ mod session;
 mod word;
 
 pub use laws::input_means_one;
-pub use pm_head::{Code, Refusal, SessionError};
-pub use session::{MAX_INPUT, Session, read_session};
+pub use pm_head::{Code, Form, Refusal, SessionError};
+pub use session::{MAX_INPUT, Session, read_late, read_session};

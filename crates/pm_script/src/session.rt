@@ -3,13 +3,16 @@ ghost use Rattle.std.specs.Prelude.{◌≡◌, ◌≤◌, [], length, IfOk};
 ghost use Rattle.pm_head.specs.Lines.{lines_of};
 ghost use Rattle.pm_head.specs.Answers.{Reads};
 ghost use Rattle.pm_script.specs.Answers.{Gives};
-ghost use Rattle.pm_script.specs.Held.{Holds};
+ghost use Rattle.pm_script.specs.Held.{Holds, HoldsLate};
 ghost use Rattle.pm_script.specs.Sessions.{at_line, ops_of, behind, SessionOf, SessionIs};
 
 use crate::earlier::Earlier;
+use crate::entrants::all_enter;
 use crate::lines::op_line;
 use pm_apply::DocChange;
-use pm_head::{ClientEntry, Code, Head, LineError, Refusal, SessionError, first_line, read_head};
+use pm_head::{
+    ClientEntry, Code, Form, Head, LineError, Refusal, SessionError, first_line, read_head,
+};
 use pm_list::Listed;
 use pm_ops::Op;
 use pm_schema::Schema;
@@ -29,12 +32,30 @@ pub struct Session {
 }
 
 /// The session that an input is; else its least faulty line with the code of that line's first fault. An input that passes
-/// `MAX_INPUT` bytes is refused on line 0, with `InputTooLong`. The first three lines are read by `read_head`. A line behind them
-/// is refused with `TooManyLines`, `LineTooLong`, `NotJson`, `WrongShape`, `UnknownName`, `BadAttribute`, `EmptyText`, `NotASet`,
-/// `OpenOrLarge`, `NoSuchMessage` or `OpNotAllowed`.
+/// `MAX_INPUT` bytes is refused on line 0, with `InputTooLong`. The first three lines are read by `read_head`, as those of a
+/// file in which every client is there from the first line on. A line behind them is refused with `TooManyLines`,
+/// `LineTooLong`, `NotJson`, `WrongShape`, `UnknownName`, `BadAttribute`, `EmptyText`, `NotASet`, `OpenOrLarge`,
+/// `NoSuchMessage` or `OpNotAllowed`.
 pub fn read_session(alloc: Global, input: &[u8]) -> Result<Session, SessionError>
-    ensures read { Reads (λ s. s) (SessionIs input.now) result }
+    ensures read { Reads (λ s. s) (SessionIs Form.Plain input.now) result }
     ensures holds { IfOk result Holds }
+{
+    read_in(alloc, Form::Plain, input)
+}
+
+/// The session that an input is in which clients may come late, each by an `enter` line of its own; else as `read_session`, with
+/// one code more, `WrongEnter`. It comes at line 3 where a late client has no `enter` line, whatever is wrong with the lines
+/// behind it. It comes at a later line where a late client has not entered and the line doesn't enter, where it enters again,
+/// and where another client enters; `OpNotAllowed` is decided before it, and the line's fields are read behind it.
+pub fn read_late(alloc: Global, input: &[u8]) -> Result<Session, SessionError>
+    ensures read { Reads (λ s. s) (SessionIs Form.Late input.now) result }
+    ensures holds { IfOk result HoldsLate }
+{
+    read_in(alloc, Form::Late, input)
+}
+
+fn read_in(alloc: Global, form: Form, input: &[u8]) -> Result<Session, SessionError>
+    ensures { Reads (λ s. s) (SessionIs form input.now) result }
 {
     if input.len() > MAX_INPUT {
         return Err(SessionError::Refused(Refusal {
@@ -42,24 +63,30 @@ pub fn read_session(alloc: Global, input: &[u8]) -> Result<Session, SessionError
             code: Code::InputTooLong,
         }));
     }
-    session_of(alloc, input)
+    session_of(alloc, form, input)
 }
 
-fn session_of(alloc: Global, input: &[u8]) -> Result<Session, SessionError>
-    ensures { Reads (λ s. s) (SessionOf (lines_of input.now)) result }
+fn session_of(alloc: Global, form: Form, input: &[u8]) -> Result<Session, SessionError>
+    ensures { Reads (λ s. s) (SessionOf form (lines_of input.now)) result }
 {
-    match read_head(alloc, input) {
-        Ok((head, rest)) => behind(alloc, head, rest),
+    match read_head(alloc, form, input) {
+        Ok((head, rest)) => behind(alloc, form, head, rest),
         Err(error) => Err(error),
     }
 }
 
 /// The session of a head and the op lines behind it.
-fn behind(alloc: Global, head: Head, input: &[u8]) -> Result<Session, SessionError>
+fn behind(alloc: Global, form: Form, head: Head, input: &[u8]) -> Result<Session, SessionError>
     requires { length head.clients ≤ 32 }
-    ensures { Gives (λ s. s) result (behind head (lines_of input.now)) }
+    ensures { Gives (λ s. s) result (behind form head (lines_of input.now)) }
 {
-    let lines = ops_from(alloc, &head.schema, head.clients.as_slice(), input)?;
+    if !all_enter(alloc, head.clients.as_slice(), input)? {
+        return Err(SessionError::Refused(Refusal {
+            line: 3,
+            code: Code::WrongEnter,
+        }));
+    }
+    let lines = ops_from(alloc, form, &head.schema, head.clients.as_slice(), input)?;
     Ok(Session {
         head,
         lines: Listed::from_vec(lines),
@@ -70,18 +97,19 @@ fn behind(alloc: Global, head: Head, input: &[u8]) -> Result<Session, SessionErr
 #[tactic(auto, using(pm_list::specs::Readings::fronts), unfolding(crate::specs::Sessions::ops_of, pm_head::specs::Lines::lines_of))]
 fn ops_from(
     alloc: Global,
+    form: Form,
     schema: &Schema,
     clients: &[ClientEntry],
     input: &[u8],
 ) -> Result<Vec<Line<Op, DocChange>>, SessionError>
     requires { length clients.now ≤ 32 }
-    ensures { Gives (λ v. v.items) result (ops_of schema.now.spec clients.now [] 4 (lines_of input.now)) }
+    ensures { Gives (λ v. v.items) result (ops_of form schema.now.spec clients.now [] 4 (lines_of input.now)) }
 {
     let mut earlier = Earlier::new(alloc, clients.len())?;
     let mut rest = input;
     let mut number = 4;
     while let Some((line, after)) = first_line(rest) {
-        let op = numbered(alloc, schema, clients, &earlier, number, line)?;
+        let op = numbered(alloc, form, schema, clients, &earlier, number, line)?;
         earlier.add(op)?;
         rest = after;
         number += 1;
@@ -91,10 +119,12 @@ fn ops_from(
         composed,
         answered,
         cursors,
+        own,
     } = earlier;
     drop(composed);
     drop(answered);
     drop(cursors);
+    drop(own);
     Ok(lines)
 }
 
@@ -105,6 +135,7 @@ ghost use Rattle.pm_script.specs.Lines.{op_line};
 /// An op line, whose fault tells its number.
 fn numbered(
     alloc: Global,
+    form: Form,
     schema: &Schema,
     clients: &[ClientEntry],
     earlier: &Earlier,
@@ -114,12 +145,13 @@ fn numbered(
     requires composed { vec_len earlier.now.composed ≡ length clients.now }
     requires answered { vec_len earlier.now.answered ≡ length clients.now }
     requires cursors { vec_len earlier.now.cursors ≡ length clients.now }
+    requires own { vec_len earlier.now.own ≡ length clients.now }
     requires few { length clients.now ≤ 32 }
-    ensures read { Gives (λ l. l) result (at_line number (op_line schema.now.spec clients.now earlier.now.lines.items number line.now)) }
+    ensures read { Gives (λ l. l) result (at_line number (op_line form schema.now.spec clients.now earlier.now.lines.items number line.now)) }
     ensures number { IfOk result (λ l. number ≤ LAST_LINE) }
     ensures within { IfOk result (λ l. l.client < length clients.now) }
 {
-    match op_line(alloc, schema, clients, earlier, number, line) {
+    match op_line(alloc, form, schema, clients, earlier, number, line) {
         Ok(op) => Ok(op),
         Err(LineError::Code(code)) => Err(SessionError::Refused(Refusal { line: number, code })),
         Err(LineError::NoMemory) => Err(SessionError::NoMemory),

@@ -11,4 +11,4 @@ returns-clause-read c =
     let is : as_array (view c.args.json.now) ≡ Some (items_view values) = search rules in
     let some : 0 < length values = search rules in
     let most : length values ≤ 32 = search rules in
-    rw (some-clients (view c.args.json.now) values is some most) c.entries_of.ensures.read
+    rw (some-clients c.args.form (view c.args.json.now) values is some most) c.entries_of.ensures.read

@@ -7,4 +7,4 @@ use Rattle.pm_head.proofs.clients.entries_of.Given as goal
 abbrev pub invariant-loop-item : goal.invariant-loop-item
 invariant-loop-item l =
     (length l.clients ≡ l.item-index)
-    × (with_front l.clients (entries_of l.clients (items_view (drop l.item-index l.items))) ≡ entries_of [] (items_view l.items))
+    × (with_front l.clients (entries_of l.form l.clients (items_view (drop l.item-index l.items))) ≡ entries_of l.form [] (items_view l.items))

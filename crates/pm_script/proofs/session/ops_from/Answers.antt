@@ -18,5 +18,6 @@ loop-line-preserved c =
       composed = search rules;
       answered = search rules;
       cursors = search rules;
-      read = rw (c.in_ok-add.ensures.ok) (ops-step s clients e.lines.items n op c.in-Some.line.now (lines_of c.loop-line.rest.now) (lines_of c.in-Some.after.now) (ops_of s clients [] 4 (lines_of c.args.input.now)) c.in-Some.ensures.lines c.in_ok-op.ensures.read inv.read);
+      own = search rules;
+      read = rw (c.in_ok-add.ensures.ok) (ops-step c.args.form s clients e.lines.items n op c.in-Some.line.now (lines_of c.loop-line.rest.now) (lines_of c.in-Some.after.now) (ops_of c.args.form s clients [] 4 (lines_of c.args.input.now)) c.in-Some.ensures.lines c.in_ok-op.ensures.read inv.read);
     }

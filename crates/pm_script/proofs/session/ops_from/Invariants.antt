@@ -11,7 +11,8 @@ invariant-loop-line l = record {
   composed : vec_len l.earlier.composed ≡ length l.clients;
   answered : vec_len l.earlier.answered ≡ length l.clients;
   cursors : vec_len l.earlier.cursors ≡ length l.clients;
-  read : with_front l.earlier.lines.items (ops_of l.schema.spec l.clients l.earlier.lines.items l.number (lines_of l.rest)) ≡ ops_of l.schema.spec l.clients [] 4 (lines_of l.input);
+  own : vec_len l.earlier.own ≡ length l.clients;
+  read : with_front l.earlier.lines.items (ops_of l.form l.schema.spec l.clients l.earlier.lines.items l.number (lines_of l.rest)) ≡ ops_of l.form l.schema.spec l.clients [] 4 (lines_of l.input);
 }
 
 abbrev pub decreases-loop-line : goal.decreases-loop-line

@@ -1,5 +1,6 @@
-use Rattle.pm_script.proofs.SessionLaws.{read-holds}
+use Rattle.pm_head.specs.declared.form.Form.TheVariants.{Plain}
+use Rattle.pm_script.proofs.SessionLaws.{reads-hold}
 use Rattle.pm_script.proofs.session.read_session.Goals as goal
 
 pub returns-clause-holds : goal.returns-clause-holds
-returns-clause-holds c = read-holds c.args.input.now c.session_of.result c.if-input-gt-MAX_INPUT.false c.session_of.ensures
+returns-clause-holds c = reads-hold Plain c.args.input.now c.read_in.result c.read_in.ensures

@@ -1,4 +1,4 @@
-use Rattle.std.proofs.Common.{rules}
+use Rattle.std.proofs.Common.{rules, true, refl}
 use Rattle.pm_session.specs.Suits.{composes_one, gets_one, sets_one}
 use Rattle.pm_script.proofs.Tallies.{counted-more}
 use Rattle.pm_script.proofs.earlier.Earlier.add.Goals as goal
@@ -17,4 +17,7 @@ invariant_of-self-2 c =
       cursors_are = λ k h. rw c.in_ok-push.ensures.items
           (counted-more sets_one s.cursors.items c.count-3.new.counts.items s.lines.items line c.sets_cursor-sets.result
           c.sets_cursor-sets.ensures (search rules) (search rules) c.count-3.ensures.counted (λ j l. s.cursors_are j (search rules)) k (search rules));
+      own_are = λ k h. rw c.in_ok-push.ensures.items
+          (counted-more (λ act. true) s.own.items c.count-4.new.counts.items s.lines.items line true
+          refl (search rules) (search rules) c.count-4.ensures.counted (λ j l. s.own_are j (search rules)) k (search rules));
     }
