@@ -23,6 +23,8 @@ words
   select      play the session as `replay` does, and write which of its lines undid an event that lies apart, and the
               report
   run         play the session with a thread for each client, and write the order of its lines and its report
+  late        play the session, which clients may enter late, with its lines in file order, and write its report
+  at VERSION  play the session as `late` does, and write the document after the first VERSION steps of its log
   gen CLIENTS LINES NUMBER
               make a session from the number, play it as `replay` does, and write a summary; nothing is read
 

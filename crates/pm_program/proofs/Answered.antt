@@ -5,7 +5,7 @@ use Rattle.std.specs.Io.KnownBytes.{Consumes}
 use Rattle.pm_program.specs.declared.call.Status.{Status}
 use Rattle.pm_program.specs.declared.call.Status.TheVariants.{Done, SessionRefused, Usage, ReadFault, WriteFault, NoMemory}
 use Rattle.pm_program.specs.declared.words.Command.{Command}
-use Rattle.pm_program.specs.Files.{file_of}
+use Rattle.pm_program.specs.Files.{file_of, form_of}
 use Rattle.pm_program.specs.Headline.{Writes, Agrees}
 use Rattle.pm_head.specs.declared.fault.Refusal.{Refusal}
 use Rattle.pm_script.specs.declared.session.Session.{Session}
@@ -22,7 +22,7 @@ answered asked input text right NoMemory old new o w a = w
 
 -- the answer to what the file is belongs to the command that was asked for
 pub answered-found : (command asked : Command) (input text : List ℕ) (found : Result Session Refusal) (right status : Status) (old new : Option (List ℕ))
-    → command ≡ asked → SessionIs (file_of command input) found → IsTextOf command found text → right ≡ status_for found
+    → command ≡ asked → SessionIs (form_of command) (file_of command input) found → IsTextOf command found text → right ≡ status_for found
     → Writes status old new text → Agrees status right → Answered asked input status old new
 answered-found command asked input text found right status old new same is written says w a =
     subst (λ (c : Command). Answered c input status old new) same

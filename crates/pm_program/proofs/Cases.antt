@@ -2,6 +2,7 @@
 use Rattle.std.proofs.Common.{◌≡◌, ℕ, List, length, inl, inr, refl, ap, ◌∙◌, sym}
 use Rattle.std.specs.Prelude.{◌⊎◌, codes, decimal, Option, Result, Ok, Err}
 use Rattle.pm_head.specs.declared.fault.Refusal.{Refusal}
+use Rattle.pm_head.specs.declared.form.Form.TheVariants as form
 use Rattle.pm_script.specs.declared.session.Session.{Session}
 use Rattle.pm_script.specs.Sessions.{SessionIs}
 use Rattle.pm_script.specs.OneMeaning.{SameSession}
@@ -11,28 +12,28 @@ use Rattle.pm_program.specs.declared.call.Status.{Status}
 use Rattle.pm_program.specs.declared.call.Status.TheVariants.{Done, SessionRefused, Usage, ReadFault, WriteFault, NoMemory}
 use Rattle.pm_program.specs.declared.words.Command.{Command}
 use Rattle.pm_program.specs.declared.words.Command.TheVariants.{Check}
-use Rattle.pm_program.specs.Files.{file_of}
+use Rattle.pm_program.specs.Files.{file_of, form_of}
 use Rattle.pm_program.specs.Output.{refusal, counts_of, IsTextOf, status_for, IsOutput, Answered, IsAnswer}
 use Rattle.pm_program.specs.Cases.{IsByCase, Tells}
 
 -- ---- the status
 
-of-session : (command : Command) (input text : List ℕ) (s : Session) → SessionIs (file_of command input) (Ok s) → IsOutput command input text SessionRefused → ⊥
+of-session : (command : Command) (input text : List ℕ) (s : Session) → SessionIs (form_of command) (file_of command input) (Ok s) → IsOutput command input text SessionRefused → ⊥
 of-session command input text s is o = at o.found o.is o.says
   where
-    at : (found : Result Session Refusal) → SessionIs (file_of command input) found → SessionRefused ≡ status_for found → ⊥
+    at : (found : Result Session Refusal) → SessionIs (form_of command) (file_of command input) found → SessionRefused ≡ status_for found → ⊥
     at (Ok t) h e = absurd (cc)
-    at (Err fault) h e = session-apart (file_of command input) s fault is h
+    at (Err fault) h e = session-apart (form_of command) (file_of command input) s fault is h
 
-of-refused : (command : Command) (input text : List ℕ) (fault : Refusal) → SessionIs (file_of command input) (Err fault) → IsOutput command input text Done → ⊥
+of-refused : (command : Command) (input text : List ℕ) (fault : Refusal) → SessionIs (form_of command) (file_of command input) (Err fault) → IsOutput command input text Done → ⊥
 of-refused command input text fault is o = at o.found o.is o.says
   where
-    at : (found : Result Session Refusal) → SessionIs (file_of command input) found → Done ≡ status_for found → ⊥
-    at (Ok s) h e = session-apart (file_of command input) s fault h is
+    at : (found : Result Session Refusal) → SessionIs (form_of command) (file_of command input) found → Done ≡ status_for found → ⊥
+    at (Ok s) h e = session-apart (form_of command) (file_of command input) s fault h is
     at (Err other) h e = absurd (cc)
 
 -- what was written tells what the file is
-pub tells : (asked : Command) (input : List ℕ) (status : Status) (old new : Option (List ℕ)) → Answered asked input status old new → Tells (file_of asked input) status
+pub tells : (asked : Command) (input : List ℕ) (status : Status) (old new : Option (List ℕ)) → Answered asked input status old new → Tells (form_of asked) (file_of asked input) status
 tells asked input Done old new a = record { session = λ s is e. absurd (cc); refused = λ fault is e. of-refused asked input a.text fault is a.output }
 tells asked input SessionRefused old new a = record { session = λ s is e. of-session asked input a.text s is a.output; refused = λ fault is e. absurd (cc) }
 tells asked input Usage old new a = absurd a
@@ -41,7 +42,7 @@ tells asked input WriteFault old new a = record { session = λ s is e. absurd (c
 tells asked input NoMemory old new a = record { session = λ s is e. absurd (cc); refused = λ fault is e. absurd (cc) }
 
 -- an answer, or want of memory, is by case
-pub by-case : (asked : Command) (input : List ℕ) (status : Status) (old new : Option (List ℕ)) → Answered asked input status old new → IsAnswer status ⊎ (status ≡ NoMemory) → IsByCase (file_of asked input) status
+pub by-case : (asked : Command) (input : List ℕ) (status : Status) (old new : Option (List ℕ)) → Answered asked input status old new → IsAnswer status ⊎ (status ≡ NoMemory) → IsByCase (form_of asked) (file_of asked input) status
 by-case asked input status old new a (inl (inl e)) =
     let t = tells asked input status old new a in
     record { session = λ s is. inl e; refused = λ fault is. absurd (t.refused fault is e) }
@@ -59,18 +60,18 @@ counts-same s t e = λ i. line (codes "ok" & decimal (length (e.lines i)) & deci
 pub one-status : (command : Command) (input text other : List ℕ) (a b : Status) → IsOutput command input text a → IsOutput command input other b → a ≡ b
 one-status command input text other a b x y = x.says ∙ at x.found y.found x.is y.is ∙ sym y.says
   where
-    at : (f g : Result Session Refusal) → SessionIs (file_of command input) f → SessionIs (file_of command input) g → status_for f ≡ status_for g
+    at : (f g : Result Session Refusal) → SessionIs (form_of command) (file_of command input) f → SessionIs (form_of command) (file_of command input) g → status_for f ≡ status_for g
     at (Ok s) (Ok t) h k = refl
-    at (Ok s) (Err fault) h k = absurd (session-apart (file_of command input) s fault h k)
-    at (Err fault) (Ok t) h k = absurd (session-apart (file_of command input) t fault k h)
+    at (Ok s) (Err fault) h k = absurd (session-apart (form_of command) (file_of command input) s fault h k)
+    at (Err fault) (Ok t) h k = absurd (session-apart (form_of command) (file_of command input) t fault k h)
     at (Err fault) (Err g) h k = refl
 
 -- what `check` writes is one
 pub one-check : (input text other : List ℕ) (a b : Status) → IsOutput Check input text a → IsOutput Check input other b → text ≡ other
 one-check input text other a b x y = at x.found y.found x.is y.is x.written y.written
   where
-    at : (f g : Result Session Refusal) → SessionIs input f → SessionIs input g → IsTextOf Check f text → IsTextOf Check g other → text ≡ other
-    at (Ok s) (Ok t) h k v w = v ∙ counts-same s t (one-session input s t h k) ∙ sym w
-    at (Ok s) (Err fault) h k v w = absurd (session-apart input s fault h k)
-    at (Err fault) (Ok t) h k v w = absurd (session-apart input t fault k h)
-    at (Err fault) (Err g) h k v w = v ∙ ap refusal (one-refusal input fault g h k) ∙ sym w
+    at : (f g : Result Session Refusal) → SessionIs form.Plain input f → SessionIs form.Plain input g → IsTextOf Check f text → IsTextOf Check g other → text ≡ other
+    at (Ok s) (Ok t) h k v w = v ∙ counts-same s t (one-session form.Plain input s t h k) ∙ sym w
+    at (Ok s) (Err fault) h k v w = absurd (session-apart form.Plain input s fault h k)
+    at (Err fault) (Ok t) h k v w = absurd (session-apart form.Plain input t fault k h)
+    at (Err fault) (Err g) h k v w = v ∙ ap refusal (one-refusal form.Plain input fault g h k) ∙ sym w

@@ -2,7 +2,7 @@
 use Rattle.std.proofs.Common.{◌≡◌, refl}
 use Rattle.std.specs.Prelude.{Option, None, Some}
 use Rattle.pm_program.specs.declared.words.Command.{Command}
-use Rattle.pm_program.specs.declared.words.Command.TheVariants.{Check, Replay, Select, Run, Gen}
+use Rattle.pm_program.specs.declared.words.Command.TheVariants.{Check, Replay, Select, Run, Gen, Late, At}
 use Rattle.pm_program.specs.Words.{without_threads}
 
 -- a command that is known without threads is not `run`
@@ -13,6 +13,8 @@ no-threads (Some Replay) command e r = absurd (cc)
 no-threads (Some Select) command e r = absurd (cc)
 no-threads (Some Run) command e r = absurd (cc)
 no-threads (Some (Gen asked)) command e r = absurd (cc)
+no-threads (Some Late) command e r = absurd (cc)
+no-threads (Some (At n)) command e r = absurd (cc)
 
 -- every other command is
 pub same-command : (o : Option Command) → (o ≡ Some Run → ⊥) → without_threads o ≡ o
@@ -22,3 +24,5 @@ same-command (Some Replay) h = refl
 same-command (Some Select) h = refl
 same-command (Some Run) h = absurd (h refl)
 same-command (Some (Gen asked)) h = refl
+same-command (Some Late) h = refl
+same-command (Some (At n)) h = refl

@@ -1,6 +1,7 @@
 pub mod Crossing
 pub mod Commands
 pub mod Reports
+pub mod LateReports
 pub mod Runs
 pub mod TooLong
 pub mod Answered

@@ -13,7 +13,7 @@ use Rattle.pm_program.specs.declared.call.Status.{Status}
 use Rattle.pm_program.specs.declared.call.Status.TheVariants.{Done, SessionRefused, Usage, ReadFault, WriteFault, NoMemory}
 use Rattle.pm_program.specs.declared.finding.Found.{Found}
 use Rattle.pm_program.specs.declared.words.Command.{Command}
-use Rattle.pm_program.specs.Files.{file_of, ReadsInput}
+use Rattle.pm_program.specs.Files.{file_of, form_of, ReadsInput}
 use Rattle.pm_program.specs.Headline.{Writes, Agrees, Silent}
 use Rattle.pm_program.specs.Obeyed.{Obeyed}
 use Rattle.pm_program.specs.Output.{IsTextOf, status_for, IsAnswer, IsPastLimit}
@@ -67,8 +67,8 @@ out-of-memory asked left rest f g old w same made = record {
 
 -- what is known of the file: of a source that tells its bytes, of the bytes that were taken, and how far it was read
 pub record IsFound (asked : Command) (found : Result Session Refusal) (left rest : Option (List ℕ)) : Type 0 where
-  pub is : (input : List ℕ) → left ≡ Some input → SessionIs (file_of asked input) found
-  pub took : (input : List ℕ) × Consumes left rest input × SessionIs (file_of asked input) found
+  pub is : (input : List ℕ) → left ≡ Some input → SessionIs (form_of asked) (file_of asked input) found
+  pub took : (input : List ℕ) × Consumes left rest input × SessionIs (form_of asked) (file_of asked input) found
   pub to_end : ReadsInput asked → IsAtEnd rest ⊎ ((found ≡ Err (refused 0 InputTooLong)) × IsPastLimit left rest)
 
 silent : (status : Status) (old new : Option (List ℕ)) (text : List ℕ) → Writes status old new text
@@ -109,7 +109,7 @@ pub delivered : (asked : Command) (text : List ℕ) (found : Result Session Refu
     → Obeyed asked status left rest f g old new w v
 delivered asked text found right status left rest f g old new w v file same made written says writes agrees fault no_fault usage read memory =
     let took = file.took in
-    let answered = λ (input : List ℕ) (is : SessionIs (file_of asked input) found). answered-found asked asked input text found right status old new refl is written says writes agrees in
+    let answered = λ (input : List ℕ) (is : SessionIs (form_of asked) (file_of asked input) found). answered-found asked asked input text found right status old new refl is written says writes agrees in
     record {
       no_usage = usage;
       silent = silent status old new text writes usage read memory;
@@ -131,11 +131,11 @@ pub as-asked : (command asked : Command) (status : Status) (left rest : Option (
 as-asked command asked status left rest f g old new w v same h = subst (λ (k : Command). Obeyed k status left rest f g old new w v) same h
 
 pub tells-of : (asked : Command) (status : Status) (left rest : Option (List ℕ)) (f g : ℕ) (old new : Option (List ℕ)) (w v : ℕ)
-    → Obeyed asked status left rest f g old new w v → (input : List ℕ) → left ≡ Some input → Tells (file_of asked input) status
+    → Obeyed asked status left rest f g old new w v → (input : List ℕ) → left ≡ Some input → Tells (form_of asked) (file_of asked input) status
 tells-of asked status left rest f g old new w v h input is = tells asked input status old new (h.output input is)
 
 pub by-case-of : (asked : Command) (status : Status) (left rest : Option (List ℕ)) (f g : ℕ) (old new : Option (List ℕ)) (w v : ℕ)
     → Obeyed asked status left rest f g old new w v → (input : List ℕ) → left ≡ Some input
-    → (Rose f g → ⊥) → (Rose w v → ⊥) → IsByCase (file_of asked input) status
+    → (Rose f g → ⊥) → (Rose w v → ⊥) → IsByCase (form_of asked) (file_of asked input) status
 by-case-of asked status left rest f g old new w v h input is no_read no_write =
     by-case asked input status old new (h.output input is) (h.complete no_read no_write)

@@ -1,47 +1,68 @@
--- What `check` and `replay` write for an input is one text, with one status, and so is what `gen` writes.
+-- What `check`, `replay`, `late` and `at` write for an input is one text, with one status, and so is what `gen` writes.
 use Rattle.std.proofs.Common.{◌≡◌, ℕ, List, refl, ap, ◌∙◌, sym}
 use Rattle.std.specs.Prelude.{Result, Ok, Err}
 use Rattle.pm_gen.specs.declared.asking.Asked.{Asked}
 use Rattle.pm_head.specs.declared.fault.Refusal.{Refusal}
+use Rattle.pm_head.specs.declared.form.Form.TheVariants as form
 use Rattle.pm_script.specs.declared.session.Session.{Session}
 use Rattle.pm_script.specs.Sessions.{SessionIs}
 use Rattle.pm_script.proofs.OneSession.{session-apart, one-refusal}
 use Rattle.pm_program.specs.declared.call.Status.{Status}
 use Rattle.pm_program.specs.declared.call.Status.TheVariants.{Done}
-use Rattle.pm_program.specs.declared.words.Command.TheVariants.{Check, Replay, Gen}
+use Rattle.pm_program.specs.declared.words.Command.TheVariants.{Check, Replay, Gen, Late, At}
 use Rattle.pm_program.specs.Files.{file_of}
 use Rattle.pm_program.specs.Output.{refusal, counts_of, IsTextOf, IsOutput}
 use Rattle.pm_program.specs.Summing.{summary_in}
 use Rattle.pm_program.specs.OneOutput.{HasOneOutput}
 use Rattle.pm_program.proofs.Cases.{one-status, one-check}
-use Rattle.pm_program.proofs.SameReports.{one-report, one-room}
+use Rattle.pm_program.proofs.SameReports.{one-report, one-room, one-late-report, one-version}
 
 -- what `check` writes of a session that the input is
-counted : (input : List ℕ) (s : Session) → SessionIs input (Ok s) → IsOutput Check input (counts_of s) Done
+counted : (input : List ℕ) (s : Session) → SessionIs form.Plain input (Ok s) → IsOutput Check input (counts_of s) Done
 counted input s is = record { found = Ok s; is = is; written = refl; says = refl }
 
-pub one-count : (input : List ℕ) (s t : Session) → SessionIs input (Ok s) → SessionIs input (Ok t) → counts_of s ≡ counts_of t
+pub one-count : (input : List ℕ) (s t : Session) → SessionIs form.Plain input (Ok s) → SessionIs form.Plain input (Ok t) → counts_of s ≡ counts_of t
 one-count input s t h k = one-check input (counts_of s) (counts_of t) Done Done (counted input s h) (counted input t k)
 
 -- what `replay` writes is one
 one-replay : (input text other : List ℕ) (a b : Status) → IsOutput Replay input text a → IsOutput Replay input other b → text ≡ other
 one-replay input text other a b x y = at x.found y.found x.is y.is x.written y.written
   where
-    at : (f g : Result Session Refusal) → SessionIs input f → SessionIs input g → IsTextOf Replay f text → IsTextOf Replay g other → text ≡ other
+    at : (f g : Result Session Refusal) → SessionIs form.Plain input f → SessionIs form.Plain input g → IsTextOf Replay f text → IsTextOf Replay g other → text ≡ other
     at (Ok s) (Ok t) h k v w = v ∙ one-report input s t h k ∙ sym w
-    at (Ok s) (Err refused) h k v w = absurd (session-apart input s refused h k)
-    at (Err refused) (Ok t) h k v w = absurd (session-apart input t refused k h)
-    at (Err refused) (Err g) h k v w = v ∙ ap refusal (one-refusal input refused g h k) ∙ sym w
+    at (Ok s) (Err refused) h k v w = absurd (session-apart form.Plain input s refused h k)
+    at (Err refused) (Ok t) h k v w = absurd (session-apart form.Plain input t refused k h)
+    at (Err refused) (Err g) h k v w = v ∙ ap refusal (one-refusal form.Plain input refused g h k) ∙ sym w
 
 -- what `gen` writes is one
 one-gen : (asked : Asked) (input text other : List ℕ) (a b : Status) → IsOutput (Gen asked) input text a → IsOutput (Gen asked) input other b → text ≡ other
 one-gen asked input text other a b x y = at x.found y.found x.is y.is x.written y.written
   where
-    at : (f g : Result Session Refusal) → SessionIs (file_of (Gen asked) input) f → SessionIs (file_of (Gen asked) input) g → IsTextOf (Gen asked) f text → IsTextOf (Gen asked) g other → text ≡ other
+    at : (f g : Result Session Refusal) → SessionIs form.Plain (file_of (Gen asked) input) f → SessionIs form.Plain (file_of (Gen asked) input) g → IsTextOf (Gen asked) f text → IsTextOf (Gen asked) g other → text ≡ other
     at (Ok s) (Ok t) h k v w = v ∙ ap (summary_in asked) (one-room (file_of (Gen asked) input) s t h k) ∙ sym w
-    at (Ok s) (Err refused) h k v w = absurd (session-apart (file_of (Gen asked) input) s refused h k)
-    at (Err refused) (Ok t) h k v w = absurd (session-apart (file_of (Gen asked) input) t refused k h)
-    at (Err refused) (Err g) h k v w = v ∙ ap refusal (one-refusal (file_of (Gen asked) input) refused g h k) ∙ sym w
+    at (Ok s) (Err refused) h k v w = absurd (session-apart form.Plain (file_of (Gen asked) input) s refused h k)
+    at (Err refused) (Ok t) h k v w = absurd (session-apart form.Plain (file_of (Gen asked) input) t refused k h)
+    at (Err refused) (Err g) h k v w = v ∙ ap refusal (one-refusal form.Plain (file_of (Gen asked) input) refused g h k) ∙ sym w
+
+-- what `late` writes is one
+one-late : (input text other : List ℕ) (a b : Status) → IsOutput Late input text a → IsOutput Late input other b → text ≡ other
+one-late input text other a b x y = at x.found y.found x.is y.is x.written y.written
+  where
+    at : (f g : Result Session Refusal) → SessionIs form.Late input f → SessionIs form.Late input g → IsTextOf Late f text → IsTextOf Late g other → text ≡ other
+    at (Ok s) (Ok t) h k v w = v ∙ one-late-report input s t h k ∙ sym w
+    at (Ok s) (Err refused) h k v w = absurd (session-apart form.Late input s refused h k)
+    at (Err refused) (Ok t) h k v w = absurd (session-apart form.Late input t refused k h)
+    at (Err refused) (Err g) h k v w = v ∙ ap refusal (one-refusal form.Late input refused g h k) ∙ sym w
+
+-- what `at` writes is one
+one-at : (n : ℕ) (input text other : List ℕ) (a b : Status) → IsOutput (At n) input text a → IsOutput (At n) input other b → text ≡ other
+one-at n input text other a b x y = at x.found y.found x.is y.is x.written y.written
+  where
+    at : (f g : Result Session Refusal) → SessionIs form.Late input f → SessionIs form.Late input g → IsTextOf (At n) f text → IsTextOf (At n) g other → text ≡ other
+    at (Ok s) (Ok t) h k v w = one-version input s t h k n text other v w
+    at (Ok s) (Err refused) h k v w = absurd (session-apart form.Late input s refused h k)
+    at (Err refused) (Ok t) h k v w = absurd (session-apart form.Late input t refused k h)
+    at (Err refused) (Err g) h k v w = v ∙ ap refusal (one-refusal form.Late input refused g h k) ∙ sym w
 
 pub check-output : (input : List ℕ) → HasOneOutput Check input
 check-output input text other a b x y = (one-check input text other a b x y, one-status Check input text other a b x y)
@@ -51,3 +72,9 @@ replay-output input text other a b x y = (one-replay input text other a b x y, o
 
 pub gen-output : (asked : Asked) (input : List ℕ) → HasOneOutput (Gen asked) input
 gen-output asked input text other a b x y = (one-gen asked input text other a b x y, one-status (Gen asked) input text other a b x y)
+
+pub late-output : (input : List ℕ) → HasOneOutput Late input
+late-output input text other a b x y = (one-late input text other a b x y, one-status Late input text other a b x y)
+
+pub at-output : (n : ℕ) (input : List ℕ) → HasOneOutput (At n) input
+at-output n input text other a b x y = (one-at n input text other a b x y, one-status (At n) input text other a b x y)

@@ -11,6 +11,7 @@ use Rattle.pm_meaning.specs.Steps.{Step}
 use Rattle.pm_meaning.specs.declared.reason.Reason.{Reason}
 use Rattle.pm_apply.specs.Changes.{meaning}
 use Rattle.pm_apply.specs.Laws.{laws}
+use Rattle.pm_head.specs.declared.form.Form.TheVariants as form
 use Rattle.pm_head.specs.Clients.{raw_flags}
 use Rattle.pm_session.specs.Sessions.{settled}
 use Rattle.pm_session.specs.Sounds.{Sound}
@@ -79,5 +80,5 @@ lines-suit s held = opened-suits Schema Doc Reason Step s.head.doc (raw_flags s.
 -- the rooms of every session
 pub all_sound : (input : List ℕ) → AllSound input
 all_sound input s is =
-    let held = session-holds input s is in
+    let held = session-holds form.Plain input s is in
     rooms-sound s held.valid (lines-suit s held)

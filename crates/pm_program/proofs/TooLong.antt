@@ -4,6 +4,7 @@ use Rattle.std.specs.Prelude.{nat_lt, Option, None, Some, Err}
 use Rattle.std.specs.Io.KnownBytes.{Consumes, IsAtEnd}
 use Rattle.std.proofs.lemmas.List.{append-nil}
 use Rattle.std.proofs.lemmas.Bool.Decides.{nat_tests}
+use Rattle.pm_head.specs.declared.form.Form.{Form}
 use Rattle.pm_head.specs.declared.code.Code.TheVariants.{InputTooLong}
 use Rattle.pm_head.specs.Refusals.{refused}
 use Rattle.pm_script.specs.declared.session.TheConstants.{MAX_INPUT}
@@ -35,5 +36,5 @@ nothing-read None = tt
 nothing-read (Some bytes) = refl
 
 -- it is no session
-pub no_session : (input : List ℕ) → nat_lt MAX_INPUT (length input) ≡ true → SessionIs input (Err (refused 0 InputTooLong))
-no_session input h = rw h refl
+pub no_session : (f : Form) (input : List ℕ) → nat_lt MAX_INPUT (length input) ≡ true → SessionIs f input (Err (refused 0 InputTooLong))
+no_session f input h = rw h refl

@@ -4,6 +4,8 @@ pub mod Making
 pub mod Makers
 pub mod Playing
 pub mod Sounds
+pub mod LatePlaying
+pub mod LateSounds
 pub mod Summing
 pub mod Running
 pub mod Selecting

@@ -11,9 +11,10 @@ use Rattle.pm_report.specs.Words.{◌&◌, line}
 use Rattle.pm_program.specs.declared.call.Status.{Status}
 use Rattle.pm_program.specs.declared.call.Status.TheVariants.{Done, SessionRefused, Usage, ReadFault, WriteFault, NoMemory}
 use Rattle.pm_program.specs.declared.words.Command.{Command}
-use Rattle.pm_program.specs.declared.words.Command.TheVariants.{Check, Replay, Select, Run, Gen}
-use Rattle.pm_program.specs.Files.{file_of}
+use Rattle.pm_program.specs.declared.words.Command.TheVariants.{Check, Replay, Select, Run, Gen, Late, At}
+use Rattle.pm_program.specs.Files.{file_of, form_of}
 use Rattle.pm_program.specs.Playing.{report_of}
+use Rattle.pm_program.specs.LatePlaying.{late_report_of, IsVersionText}
 use Rattle.pm_program.specs.Selecting.{IsSelected}
 use Rattle.pm_program.specs.Summing.{summary_of}
 use Rattle.pm_program.specs.Running.{IsRun}
@@ -26,14 +27,16 @@ refusal r = line (codes "refused" & decimal r.line & decimal (number_of r.code))
 abbrev pub counts_of : Session → List ℕ
 counts_of s = line (codes "ok" & decimal (length s.lines) & decimal (length s.head.doc.tokens))
 
--- What a command may write of what its file is found to be. Of `check`, `replay` and `gen` it is one text; what `select`
--- writes tells lines, and what `run` writes is of an order.
+-- What a command may write of what its file is found to be. Of `check`, `replay`, `gen`, `late` and `at` it is one text; what
+-- `select` writes tells lines, and what `run` writes is of an order.
 abbrev pub IsTextOf : Command → Result Session Refusal → List ℕ → Type 0
 IsTextOf Check (Ok s) text = text ≡ counts_of s
 IsTextOf Replay (Ok s) text = text ≡ report_of s
 IsTextOf Select (Ok s) text = IsSelected s text
 IsTextOf Run (Ok s) text = IsRun s text
 IsTextOf (Gen asked) (Ok s) text = text ≡ summary_of asked s
+IsTextOf Late (Ok s) text = text ≡ late_report_of s
+IsTextOf (At n) (Ok s) text = IsVersionText s n text
 IsTextOf command (Err r) text = text ≡ refusal r
 
 -- Done for a session, SessionRefused for any other input
@@ -44,7 +47,7 @@ status_for (Err r) = SessionRefused
 -- what a command writes for an input, and the status that says so: its file is a session, or it is refused
 pub record IsOutput (command : Command) (input text : List ℕ) (status : Status) : Type 0 where
   pub found : Result Session Refusal
-  pub is : SessionIs (file_of command input) found
+  pub is : SessionIs (form_of command) (file_of command input) found
   pub written : IsTextOf command found text
   pub says : status ≡ status_for found
 

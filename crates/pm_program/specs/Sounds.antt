@@ -4,6 +4,7 @@ use Rattle.pm_apply.specs.Changes.{meaning}
 use Rattle.pm_meaning.specs.Steps.{Step}
 use Rattle.pm_ops.specs.declared.op.Op.{Op}
 use Rattle.pm_session.specs.declared.line.Line.{Line}
+use Rattle.pm_head.specs.declared.form.Form.TheVariants as form
 use Rattle.pm_session.specs.Answers.{LineHolds, SettlingHolds}
 use Rattle.pm_session.specs.Holding.{RoomHolds}
 use Rattle.pm_session.specs.Sounds.{AllCaughtUp}
@@ -34,6 +35,6 @@ pub record RoomsSound (s : Session) : Type 0 where
   pub settled : RoomHolds meaning s.head.schema (room_settled s)
   pub caught_up : AllCaughtUp (room_settled s)
 
--- each session that the input is has sound rooms alone
+-- each session that the input is has sound rooms alone, where every client is there from the first line on
 abbrev pub AllSound : List ℕ → Type 0
-AllSound input = (s : Session) → SessionIs input (Ok s) → RoomsSound s
+AllSound input = (s : Session) → SessionIs form.Plain input (Ok s) → RoomsSound s

@@ -1,10 +1,10 @@
 -- The words of the command line.
 use Rattle.std.specs.Prelude.{ℕ, List, [], ◌∷◌, codes, Option, Some, None, option_map, nat_eq, if◌then◌else◌, ⊤}
 use Rattle.std.specs.Cmp.Lexicographic.{pointwise}
-use Rattle.pm_gen.specs.Asking.{asked_of}
+use Rattle.pm_gen.specs.Asking.{number_of, asked_of}
 use Rattle.pm_gen.specs.Bounds.{InBounds}
 use Rattle.pm_program.specs.declared.words.Command.{Command}
-use Rattle.pm_program.specs.declared.words.Command.TheVariants.{Check, Replay, Select, Run, Gen}
+use Rattle.pm_program.specs.declared.words.Command.TheVariants.{Check, Replay, Select, Run, Gen, Late, At}
 
 -- what a word asks for
 abbrev pub command_named : List ℕ → Option Command
@@ -12,7 +12,12 @@ command_named word =
     if pointwise nat_eq word (codes "check") then Some Check
     else (if pointwise nat_eq word (codes "replay") then Some Replay
     else (if pointwise nat_eq word (codes "select") then Some Select
-    else (if pointwise nat_eq word (codes "run") then Some Run else None)))
+    else (if pointwise nat_eq word (codes "run") then Some Run
+    else (if pointwise nat_eq word (codes "late") then Some Late else None))))
+
+-- what a word with one number asks for, which is one to twenty decimal digits and below 2^64
+abbrev pub at_named : (word version : List ℕ) → Option Command
+at_named word version = if pointwise nat_eq word (codes "at") then option_map At (number_of version) else None
 
 -- what a word with three numbers asks for
 abbrev pub gen_named : (word clients rounds number : List ℕ) → Option Command
@@ -22,7 +27,7 @@ gen_named word clients rounds number = if pointwise nat_eq word (codes "gen") th
 abbrev pub command_of : List (List ℕ) → Option Command
 command_of [] = None
 command_of (word ∷ []) = command_named word
-command_of (word ∷ a ∷ []) = None
+command_of (word ∷ version ∷ []) = at_named word version
 command_of (word ∷ a ∷ b ∷ []) = None
 command_of (word ∷ clients ∷ rounds ∷ number ∷ []) = gen_named word clients rounds number
 command_of (word ∷ a ∷ b ∷ c ∷ next ∷ more) = None
@@ -34,6 +39,8 @@ without_threads (Some Check) = Some Check
 without_threads (Some Replay) = Some Replay
 without_threads (Some Select) = Some Select
 without_threads (Some Run) = None
+without_threads (Some Late) = Some Late
+without_threads (Some (At n)) = Some (At n)
 without_threads (Some (Gen asked)) = Some (Gen asked)
 
 -- what the words ask for where there are no threads: the word `run` is then none of the forms
@@ -46,4 +53,6 @@ IsBounded Check = ⊤
 IsBounded Replay = ⊤
 IsBounded Select = ⊤
 IsBounded Run = ⊤
+IsBounded Late = ⊤
+IsBounded (At n) = ⊤
 IsBounded (Gen asked) = InBounds asked.clients asked.rounds

@@ -1,11 +1,13 @@
 //! What is written for an input.
 ghost use Rattle.std.specs.Prelude.{◌≡◌, codes, decimal, string_bytes, IfOk};
 ghost use Rattle.pm_report.specs.Words.{◌&◌, line};
+ghost use Rattle.pm_program.specs.Files.{form_of};
 ghost use Rattle.pm_program.specs.Finding.{found_of, FoundHolds};
 ghost use Rattle.pm_program.specs.Output.{IsTextOf, status_for, refusal};
 
 use crate::call::Status;
 use crate::finding::Found;
+use crate::late::{replay_late, tell_version};
 use crate::replaying::replay;
 use crate::selecting::select;
 use crate::summing::summarize;
@@ -23,7 +25,7 @@ pub struct Answer {
 /// The answer of a command that takes no threads to what an input was found to be.
 pub fn answer_to(alloc: Global, command: Command, found: &Found) -> Result<Answer, AllocError>
     requires alone { command ≡ Command.Run → ⊥ }
-    requires holds { FoundHolds found.now }
+    requires holds { FoundHolds (form_of command) found.now }
     ensures text { IfOk result (λ a. IsTextOf command (found_of found.now) (string_bytes a.text)) }
     ensures says { IfOk result (λ a. a.status ≡ status_for (found_of found.now)) }
 {
@@ -36,13 +38,13 @@ pub fn answer_to(alloc: Global, command: Command, found: &Found) -> Result<Answe
     }
 }
 
-ghost use Rattle.pm_script.specs.Held.{Holds};
 ghost use Rattle.std.specs.Prelude.{Ok, length};
+ghost use Rattle.pm_program.specs.Finding.{HoldsIn};
 
 /// What the command writes of a session.
 fn told(alloc: Global, command: Command, session: &Session) -> Result<String, AllocError>
     requires alone { command ≡ Command.Run → ⊥ }
-    requires holds { Holds session.now }
+    requires holds { HoldsIn (form_of command) session.now }
     ensures { IfOk result (λ s. IsTextOf command (Ok session.now) (string_bytes s)) }
 {
     match command {
@@ -50,6 +52,8 @@ fn told(alloc: Global, command: Command, session: &Session) -> Result<String, Al
         Command::Replay => replay(alloc, session),
         Command::Select => select(alloc, session),
         Command::Gen(asked) => summarize(alloc, asked, session),
+        Command::Late => replay_late(alloc, session),
+        Command::At(version) => tell_version(alloc, version, session),
         Command::Run => unreachable!(),
     }
 }

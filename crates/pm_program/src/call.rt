@@ -4,10 +4,11 @@ ghost use Rattle.std.specs.Io.KnownBytes.{IsAtEnd};
 ghost use Rattle.pm_io.specs.Faults.{Rose};
 ghost use Rattle.pm_gen.specs.declared.asking.Asked.{Asked};
 ghost use Rattle.pm_program.specs.Words.{command_of, plain_command_of};
-ghost use Rattle.pm_program.specs.Files.{file_of, ReadsInput};
+ghost use Rattle.pm_program.specs.Files.{file_of, form_of, ReadsInput};
 ghost use Rattle.pm_program.specs.Output.{IsAnswer, Answered, AnswersRead, IsPastLimit};
 ghost use Rattle.pm_program.specs.Cases.{Tells, IsByCase};
 ghost use Rattle.pm_program.specs.Sounds.{AllSound};
+ghost use Rattle.pm_program.specs.LateSounds.{AllLateSound};
 ghost use Rattle.pm_program.specs.Headline.{Silent, number_of};
 
 use crate::making::EditMaker;
@@ -55,7 +56,7 @@ impl Status {
 /// Does what the words say. A session that `run` names is played with a thread for each client, raw clients too, and the gate
 /// is asked before each message that a line presents. All other words are handed to `plain`. Under `run` it may wait, and
 /// returns if the threads do.
-#[tactic(auto, using(crate::proofs::Reports::all_sound))]
+#[tactic(auto, using(crate::proofs::Reports::all_sound, crate::proofs::LateReports::all_late_sound))]
 pub fn run<R: Source, W: Sink, G: Gate + Sync, T: Threads + Wait + Sync>(
     alloc: Global,
     rt: &T,
@@ -76,6 +77,8 @@ pub fn run<R: Source, W: Sink, G: Gate + Sync, T: Threads + Wait + Sync>(
         → Answered asked input result (W.written sink.old) (W.written sink.new) }
     // A theorem on what a session is: every room of every session is sound. With `output` it speaks of what was written.
     ensures sound { (input : List ℕ) → AllSound input }
+    // The same of every session that clients may enter late, and that a late client is as one that pulled all.
+    ensures late_sound { (input : List ℕ) → AllLateSound input }
     // Faults only where they rose.
     ensures read_fault { result ≡ Status.ReadFault → Rose (R.faults source.old) (R.faults source.new) }
     ensures write_fault { result ≡ Status.WriteFault → Rose (W.faults sink.old) (W.faults sink.new) }
@@ -99,13 +102,13 @@ pub fn run<R: Source, W: Sink, G: Gate + Sync, T: Threads + Wait + Sync>(
     // The status tells what the file is that is played, also where a fault rose: 1 is never that of a session, 0 never that of
     // any other.
     ensures tells { (asked : Command) (input : List ℕ) → command_of (map string_bytes words.now) ≡ Some asked
-        → R.left source.old ≡ Some input → Tells (file_of asked input) result }
+        → R.left source.old ≡ Some input → Tells (form_of asked) (file_of asked input) result }
     // By case, where no fault rose: for a session the whole output, for any other file its refusal, or want of memory.
     ensures by_case { (asked : Command) (input : List ℕ) → command_of (map string_bytes words.now) ≡ Some asked
         → R.left source.old ≡ Some input
         → ¬ Rose (R.faults source.old) (R.faults source.new)
         → ¬ Rose (W.faults sink.old) (W.faults sink.new)
-        → IsByCase (file_of asked input) result }
+        → IsByCase (form_of asked) (file_of asked input) result }
     // With an answer, what was written is the output for the bytes that were read, also of a source that does not tell them.
     ensures answers { (asked : Command) → command_of (map string_bytes words.now) ≡ Some asked → IsAnswer result
         → AnswersRead asked result (R.left source.old) (R.left source.new) (W.written sink.old) (W.written sink.new) }
@@ -127,7 +130,7 @@ pub fn run<R: Source, W: Sink, G: Gate + Sync, T: Threads + Wait + Sync>(
 }
 
 /// Does what the words say, without threads: to it the word `run` is none of the forms. It returns for every input.
-#[tactic(auto, using(crate::proofs::Reports::all_sound))]
+#[tactic(auto, using(crate::proofs::Reports::all_sound, crate::proofs::LateReports::all_late_sound))]
 pub fn plain<R: Source, W: Sink>(
     alloc: Global,
     words: &[String],
@@ -146,6 +149,8 @@ pub fn plain<R: Source, W: Sink>(
         → Answered asked input result (W.written sink.old) (W.written sink.new) }
     // A theorem on what a session is: every room of every session is sound. With `output` it speaks of what was written.
     ensures sound { (input : List ℕ) → AllSound input }
+    // The same of every session that clients may enter late, and that a late client is as one that pulled all.
+    ensures late_sound { (input : List ℕ) → AllLateSound input }
     // Faults only where they rose.
     ensures read_fault { result ≡ Status.ReadFault → Rose (R.faults source.old) (R.faults source.new) }
     ensures write_fault { result ≡ Status.WriteFault → Rose (W.faults sink.old) (W.faults sink.new) }
@@ -169,13 +174,13 @@ pub fn plain<R: Source, W: Sink>(
     // The status tells what the file is that is played, also where a fault rose: 1 is never that of a session, 0 never that of
     // any other.
     ensures tells { (asked : Command) (input : List ℕ) → plain_command_of (map string_bytes words.now) ≡ Some asked
-        → R.left source.old ≡ Some input → Tells (file_of asked input) result }
+        → R.left source.old ≡ Some input → Tells (form_of asked) (file_of asked input) result }
     // By case, where no fault rose: for a session the whole output, for any other file its refusal, or want of memory.
     ensures by_case { (asked : Command) (input : List ℕ) → plain_command_of (map string_bytes words.now) ≡ Some asked
         → R.left source.old ≡ Some input
         → ¬ Rose (R.faults source.old) (R.faults source.new)
         → ¬ Rose (W.faults sink.old) (W.faults sink.new)
-        → IsByCase (file_of asked input) result }
+        → IsByCase (form_of asked) (file_of asked input) result }
     // With an answer, what was written is the output for the bytes that were read, also of a source that does not tell them.
     ensures answers { (asked : Command) → plain_command_of (map string_bytes words.now) ≡ Some asked → IsAnswer result
         → AnswersRead asked result (R.left source.old) (R.left source.new) (W.written sink.old) (W.written sink.new) }

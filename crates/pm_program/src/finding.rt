@@ -5,17 +5,19 @@ ghost use Rattle.pm_gen.specs.Session.{generated};
 ghost use Rattle.std.specs.Io.KnownBytes.{Consumes, IsAtEnd};
 ghost use Rattle.pm_io.specs.Faults.{Rose};
 ghost use Rattle.pm_head.specs.declared.code.Code.TheVariants.{InputTooLong};
+ghost use Rattle.pm_head.specs.Answers.{Reads};
 ghost use Rattle.pm_head.specs.Refusals.{refused};
 ghost use Rattle.pm_script.specs.Sessions.{SessionIs};
-ghost use Rattle.pm_program.specs.Finding.{found_of, FoundHolds};
-ghost use Rattle.pm_program.specs.Files.{file_of, ReadsInput};
+ghost use Rattle.pm_program.specs.Finding.{found_of, HoldsIn, FoundHolds};
+ghost use Rattle.pm_program.specs.Files.{file_of, form_of, ReadsInput};
 ghost use Rattle.pm_program.specs.Output.{IsPastLimit};
 ghost use Rattle.pm_program.specs.Words.{IsBounded};
 
 use crate::words::Command;
 use pm_gen::{Asked, generate};
+use pm_head::Form;
 use pm_io::{ReadError, Source, read_all};
-use pm_script::{Code, MAX_INPUT, Refusal, Session, SessionError, read_session};
+use pm_script::{Code, MAX_INPUT, Refusal, Session, SessionError, read_late, read_session};
 use std::alloc::{AllocError, Global};
 
 /// What an input was found to be.
@@ -34,10 +36,10 @@ pub fn found_for<R: Source>(
     source: &mut R,
 ) -> Result<Found, ReadError>
     requires { IsBounded command }
-    ensures is { IfOk result (λ f. (input : List ℕ) → R.left source.old ≡ Some input → SessionIs (file_of command input) (found_of f)) }
+    ensures is { IfOk result (λ f. (input : List ℕ) → R.left source.old ≡ Some input → SessionIs (form_of command) (file_of command input) (found_of f)) }
     ensures took { IfOk result (λ f. (input : List ℕ) × Consumes (R.left source.old) (R.left source.new) input
-        × SessionIs (file_of command input) (found_of f)) }
-    ensures holds { IfOk result FoundHolds }
+        × SessionIs (form_of command) (file_of command input) (found_of f)) }
+    ensures holds { IfOk result (FoundHolds (form_of command)) }
     ensures fault { IsErrOf result ReadError.ReadFault → Rose (R.faults source.old) (R.faults source.new) }
     ensures no_fault { IsErrOf result ReadError.ReadFault ⊎ (R.faults source.new ≡ R.faults source.old) }
     ensures read { IsErrOf result ReadError.TooLong → ⊥ }
@@ -48,28 +50,31 @@ pub fn found_for<R: Source>(
 {
     match command {
         Command::Gen(asked) => Ok(found_made(alloc, asked)?),
-        Command::Check | Command::Replay | Command::Select | Command::Run => {
-            found_in(alloc, source)
-        }
+        Command::Check
+        | Command::Replay
+        | Command::Select
+        | Command::Run
+        | Command::Late
+        | Command::At(_) => found_in(alloc, command.form(), source),
     }
 }
 
 /// What the session file made from these numbers is found to be.
 fn found_made(alloc: Global, asked: Asked) -> Result<Found, AllocError>
     requires { InBounds asked.clients asked.rounds }
-    ensures is { IfOk result (λ f. SessionIs (generated asked.clients asked.rounds asked.number) (found_of f)) }
-    ensures holds { IfOk result FoundHolds }
+    ensures is { IfOk result (λ f. SessionIs Form.Plain (generated asked.clients asked.rounds asked.number) (found_of f)) }
+    ensures holds { IfOk result (FoundHolds Form.Plain) }
 {
     let file = generate(alloc, asked.clients, asked.rounds, asked.number)?;
-    found_of(alloc, file.as_bytes())
+    found_of(alloc, Form::Plain, file.as_bytes())
 }
 
-/// Reads a source to its end, and says what its bytes are. Of an input past the limit one byte more than the limit is read.
-pub fn found_in<R: Source>(alloc: Global, source: &mut R) -> Result<Found, ReadError>
-    ensures is { IfOk result (λ f. (input : List ℕ) → R.left source.old ≡ Some input → SessionIs input (found_of f)) }
+/// Reads a source to its end, and says what its bytes are in files of this form. Of an input past the limit one byte more than the limit is read.
+pub fn found_in<R: Source>(alloc: Global, form: Form, source: &mut R) -> Result<Found, ReadError>
+    ensures is { IfOk result (λ f. (input : List ℕ) → R.left source.old ≡ Some input → SessionIs form input (found_of f)) }
     ensures took { IfOk result (λ f. (input : List ℕ) × Consumes (R.left source.old) (R.left source.new) input
-        × SessionIs input (found_of f)) }
-    ensures holds { IfOk result FoundHolds }
+        × SessionIs form input (found_of f)) }
+    ensures holds { IfOk result (FoundHolds form) }
     ensures fault { IsErrOf result ReadError.ReadFault → Rose (R.faults source.old) (R.faults source.new) }
     ensures no_fault { IsErrOf result ReadError.ReadFault ⊎ (R.faults source.new ≡ R.faults source.old) }
     ensures read { IsErrOf result ReadError.TooLong → ⊥ }
@@ -77,7 +82,7 @@ pub fn found_in<R: Source>(alloc: Global, source: &mut R) -> Result<Found, ReadE
         ⊎ ((found_of f ≡ Err (refused 0 InputTooLong)) × IsPastLimit (R.left source.old) (R.left source.new))) }
 {
     match read_all(alloc, source, MAX_INPUT) {
-        Ok(input) => Ok(found_of(alloc, &input)?),
+        Ok(input) => Ok(found_of(alloc, form, &input)?),
         Err(ReadError::TooLong) => Ok(Found::Refused(Refusal {
             line: 0,
             code: Code::InputTooLong,
@@ -86,14 +91,25 @@ pub fn found_in<R: Source>(alloc: Global, source: &mut R) -> Result<Found, ReadE
     }
 }
 
-/// What an input is.
-fn found_of(alloc: Global, input: &[u8]) -> Result<Found, AllocError>
-    ensures is { IfOk result (λ f. SessionIs input.now (found_of f)) }
-    ensures holds { IfOk result FoundHolds }
+/// What an input is in files of this form.
+fn found_of(alloc: Global, form: Form, input: &[u8]) -> Result<Found, AllocError>
+    ensures is { IfOk result (λ f. SessionIs form input.now (found_of f)) }
+    ensures holds { IfOk result (FoundHolds form) }
 {
-    match read_session(alloc, input) {
+    match read(alloc, form, input) {
         Ok(session) => Ok(Found::IsSession(session)),
         Err(SessionError::Refused(refusal)) => Ok(Found::Refused(refusal)),
         Err(SessionError::NoMemory) => Err(AllocError),
+    }
+}
+
+/// The session that an input is in files of this form.
+fn read(alloc: Global, form: Form, input: &[u8]) -> Result<Session, SessionError>
+    ensures read { Reads (λ s. s) (SessionIs form input.now) result }
+    ensures holds { IfOk result (HoldsIn form) }
+{
+    match form {
+        Form::Plain => read_session(alloc, input),
+        Form::Late => read_late(alloc, input),
     }
 }

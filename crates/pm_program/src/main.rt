@@ -4,6 +4,7 @@
 mod answer;
 mod call;
 mod finding;
+mod late;
 mod making;
 mod obeying;
 mod one_output;
@@ -13,6 +14,7 @@ mod selecting;
 mod summing;
 #[cfg(test)]
 mod tests;
+mod version;
 mod words;
 
 use call::{Status, run};
@@ -38,7 +40,7 @@ fn main(rt: HostRuntime) -> io::Result<ExitCode> {
     let _told = match status {
         Status::Done | Status::SessionRefused => Ok(()),
         Status::Usage => eprintln!(rt;
-            "usage: check | replay | run | gen CLIENTS LINES NUMBER | select"
+            "usage: check | replay | run | gen CLIENTS LINES NUMBER | select | late | at VERSION"
         ),
         Status::ReadFault => eprintln!(rt; "read fault"),
         Status::WriteFault => eprintln!(rt; "write fault"),

@@ -12,6 +12,7 @@ use crate::finding::{found_for, found_in};
 use crate::making::EditMaker;
 use crate::running::answer_on_threads;
 use crate::words::Command;
+use pm_head::Form;
 use pm_io::{Gate, ReadError, Sink, Source, write_all};
 use pm_workers::Crew;
 use std::alloc::{AllocError, Global};
@@ -51,7 +52,7 @@ pub fn obey_on_threads<R: Source, W: Sink, G: Gate + Sync, T: Threads + Wait + S
     ensures { Obeyed Command.Run result (R.left source.old) (R.left source.new) (R.faults source.old) (R.faults source.new)
         (W.written sink.old) (W.written sink.new) (W.faults sink.old) (W.faults sink.new) }
 {
-    let found = match found_in(alloc, source) {
+    let found = match found_in(alloc, Form::Plain, source) {
         Ok(found) => found,
         Err(ReadError::ReadFault) => return Status::ReadFault,
         Err(_) => return Status::NoMemory,

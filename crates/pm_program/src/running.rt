@@ -11,7 +11,7 @@ use crate::call::Status;
 use crate::finding::Found;
 use crate::making::EditMaker;
 use pm_apply::DocChange;
-use pm_head::{ClientEntry, Head, raw_flags};
+use pm_head::{ClientEntry, Form, Head, raw_flags};
 use pm_io::Gate;
 use pm_ops::Op;
 use pm_report::{Numbered, client_lines, report, with_numbers};
@@ -31,7 +31,7 @@ pub fn answer_on_threads<G, T>(
 where
     G: Gate + Sync,
     T: Threads + Wait + Sync,
-    requires { FoundHolds found }
+    requires { FoundHolds Form.Plain found }
     ensures text { IfOk result (λ a. IsTextOf Command.Run (found_of found) (string_bytes a.text)) }
     ensures says { IfOk result (λ a. a.status ≡ status_for (found_of found)) }
 {

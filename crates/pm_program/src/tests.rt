@@ -56,7 +56,7 @@ final {"content":[{"content":[{"text":"xab","type":"text"}],"type":"paragraph"}]
 
 // The words, the number of the read that fails, the status, how many bytes are written, and with what they begin. The second
 // read is the last, which finds the end. Wrong words are told before anything is read, and `gen` reads nothing.
-const ENDS: [(&str, u64, Status, usize, &str); 19] = [
+const ENDS: [(&str, u64, Status, usize, &str); 28] = [
     ("", 1, Status::Usage, 0, ""),
     ("replay x", 1, Status::Usage, 0, ""),
     ("run x", 1, Status::Usage, 0, ""),
@@ -64,6 +64,10 @@ const ENDS: [(&str, u64, Status, usize, &str); 19] = [
     ("gen 1 1", 1, Status::Usage, 0, ""),
     ("gen 1 1 1 1", 1, Status::Usage, 0, ""),
     ("--help", 1, Status::Usage, 0, ""),
+    ("late 1", 1, Status::Usage, 0, ""),
+    ("at", 1, Status::Usage, 0, ""),
+    ("at x", 1, Status::Usage, 0, ""),
+    ("at 18446744073709551616", 1, Status::Usage, 0, ""),
     (
         "gen 1 0 7",
         1,
@@ -79,6 +83,17 @@ const ENDS: [(&str, u64, Status, usize, &str); 19] = [
     ("replay", 3, Status::Done, 359, REPORT),
     ("select", 2, Status::ReadFault, 0, ""),
     ("select", 3, Status::Done, 365, "apart\n4 made 1\n"),
+    ("late", 2, Status::ReadFault, 0, ""),
+    ("late", 3, Status::Done, 359, REPORT),
+    ("at 0", 2, Status::ReadFault, 0, ""),
+    (
+        "at 00",
+        3,
+        Status::Done,
+        93,
+        "at 0 {\"content\":[{\"content\":[{\"text\":\"ab\",",
+    ),
+    ("at 2", 3, Status::Done, 7, "past 1\n"),
     ("run", 1, Status::ReadFault, 0, ""),
     ("run", 2, Status::ReadFault, 0, ""),
     ("run", 3, Status::Done, 369, "order 4 5\n4 made 1\n"),

@@ -1,8 +1,11 @@
 //! The words of the command line.
 ghost use Rattle.std.specs.Prelude.{◌≡◌, map, string_bytes, IfSome};
-ghost use Rattle.pm_program.specs.Words.{command_named, gen_named, command_of, without_threads, plain_command_of, IsBounded};
+ghost use Rattle.pm_program.specs.Files.{form_of};
+ghost use Rattle.pm_program.specs.Words.{command_named, at_named, gen_named, command_of, without_threads, plain_command_of, IsBounded};
 
+use crate::version::version_of;
 use pm_gen::{Asked, asked_of};
+use pm_head::Form;
 
 /// What the words ask for.
 #[derive(Clone, Copy, Debug, PartialEq, Eq)]
@@ -17,16 +20,35 @@ pub enum Command {
     Run,
     /// Makes a session from a number, plays it with its lines in file order, and writes a summary. Nothing is read.
     Gen(Asked),
+    /// Plays a session that clients may enter late, as `replay` does, and writes the report.
+    Late,
+    /// Plays such a session, and writes the document after the first steps of the log, so many.
+    At(u64),
 }
 
-/// The one word `check`, `replay`, `select` or `run`, or `gen` with three numbers that a session may be made from. All other words are
-/// none of the forms.
+impl Command {
+    /// The form of the session file that the command plays.
+    pub fn form(self) -> Form
+        ensures { result ≡ form_of self }
+    {
+        match self {
+            Command::Late | Command::At(_) => Form::Late,
+            Command::Check | Command::Replay | Command::Select | Command::Run | Command::Gen(_) => {
+                Form::Plain
+            }
+        }
+    }
+}
+
+/// The one word `check`, `replay`, `select`, `run` or `late`, `at` with a number below 2^64 of one to twenty decimal digits, or
+/// `gen` with three numbers that a session may be made from. All other words are none of the forms.
 pub fn command_of(words: &[String]) -> Option<Command>
     ensures named { result ≡ command_of (map string_bytes words.now) }
     ensures bounds { IfSome result IsBounded }
 {
     match words {
         [word] => command_named(word.as_str()),
+        [word, version] => at_named(word.as_str(), version.as_str()),
         [word, clients, rounds, number] => gen_named(
             word.as_str(),
             clients.as_str(),
@@ -69,6 +91,18 @@ fn gen_named(word: &str, clients: &str, rounds: &str, number: &str) -> Option<Co
     }
 }
 
+/// The word `at` with a number.
+fn at_named(word: &str, version: &str) -> Option<Command>
+    ensures named { result ≡ at_named word.now version.now }
+    ensures bounds { IfSome result IsBounded }
+{
+    if word == "at" {
+        Some(Command::At(version_of(version)?))
+    } else {
+        None
+    }
+}
+
 fn command_named(word: &str) -> Option<Command>
     ensures named { result ≡ command_named word.now }
     ensures bounds { IfSome result IsBounded }
@@ -81,6 +115,8 @@ fn command_named(word: &str) -> Option<Command>
         Some(Command::Select)
     } else if word == "run" {
         Some(Command::Run)
+    } else if word == "late" {
+        Some(Command::Late)
     } else {
         None
     }

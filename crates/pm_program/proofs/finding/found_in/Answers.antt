@@ -10,10 +10,10 @@ pub returns-in-Err-TooLong-clause-is : goal.returns-in-Err-TooLong-clause-is
 returns-in-Err-TooLong-clause-is g c input is =
     let more = c.in-Err-TooLong.ensures.too_long (ap Err c.in-Err-TooLong.field-0-is) in
     let past : nat_lt MAX_INPUT (length input) ≡ true = past_limit _ (g.R.Source.left c.read_all.new.source) more.0 input more.1 more.2 is in
-    no_session input past
+    no_session c.args.form input past
 
 pub returns-in_ok-found_of-in-Ok-clause-is : goal.returns-in_ok-found_of-in-Ok-clause-is
 returns-in_ok-found_of-in-Ok-clause-is g c input is =
     let all = c.in-Ok.ensures.all in
     let same : c.in-Ok.input.items ≡ input = whole_input _ (g.R.Source.left c.read_all.new.source) c.in-Ok.input.items input all.0 all.1 is in
-    subst (λ i. SessionIs i (found_of c.in_ok-found_of-in-Ok.field-0)) (c.deref.ensures.value ∙ same) c.in_ok-found_of-in-Ok.ensures.is
+    subst (λ i. SessionIs c.args.form i (found_of c.in_ok-found_of-in-Ok.field-0)) (c.deref.ensures.value ∙ same) c.in_ok-found_of-in-Ok.ensures.is

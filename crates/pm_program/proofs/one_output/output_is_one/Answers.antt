@@ -1,5 +1,5 @@
 use Rattle.pm_program.proofs.SameReports.{one-report}
-use Rattle.pm_program.proofs.OneOutput.{one-count, check-output, replay-output, gen-output}
+use Rattle.pm_program.proofs.OneOutput.{one-count, check-output, replay-output, gen-output, late-output, at-output}
 use Rattle.pm_program.proofs.one_output.output_is_one.Goals as goal
 
 pub returns-clause-one_report : goal.returns-clause-one_report
@@ -16,3 +16,9 @@ returns-clause-replay c = λ text other a b x y. replay-output c.args.input.now 
 
 pub returns-clause-made : goal.returns-clause-made
 returns-clause-made c = λ asked text other a b x y. gen-output asked c.args.input.now text other a b x y
+
+pub returns-clause-late : goal.returns-clause-late
+returns-clause-late c = λ text other a b x y. late-output c.args.input.now text other a b x y
+
+pub returns-clause-version : goal.returns-clause-version
+returns-clause-version c = λ n text other a b x y. at-output n c.args.input.now text other a b x y
