@@ -261,13 +261,13 @@ module _ {Rules Doc Reason C : Type 0} (m : Meaning Rules Doc Reason C) {Op : Ty
 
   -- an act at the host of a desk's seat
   pub ok-acts : (d : DeskValue (Authority C Rules Doc Reason) Rules) (s t : SeatValue (Authority C Rules Doc Reason) Rules (Request C)) {E : Type 0} (r : Result (Outcome C Rules Doc Reason) E)
-      (rules : Rules) → rules ≡ d.opening.rules → (client : ℕ) → s.number ≡ client → (same : Type 0) → (same → t ≡ s)
+      (rules : Rules) → rules ≡ d.opening.rules → (client : ℕ) → s.number ≡ client → (same counts : Type 0) → (same → t ≡ s)
       → (act : Act Op C) (x y : Member C Rules Doc Reason)
-      → IfOk r (λ o. Acts m rules (makes rules) same (λ message answer. Answers m d s client message answer t) act x o y)
+      → IfOk r (λ o. Acts m rules (makes rules) same (λ message answer. Answers m d s client message answer t × counts) act x o y)
       → IfOk r (λ o. ActedAt m (makes d.opening.rules) d act x s o y t)
-  ok-acts d s t r rules is client mine same f act x y acts =
-      IfOk-weaker r (λ o. Acts m rules (makes rules) same (λ message answer. Answers m d s client message answer t) act x o y) (λ o. ActedAt m (makes d.opening.rules) d act x s o y t)
+  ok-acts d s t r rules is client mine same counts f act x y acts =
+      IfOk-weaker r (λ o. Acts m rules (makes rules) same (λ message answer. Answers m d s client message answer t × counts) act x o y) (λ o. ActedAt m (makes d.opening.rules) d act x s o y t)
       (λ o a. record {
-        acts = acts-at rules d.opening.rules is same (t ≡ s) (λ message answer. Answers m d s client message answer t) (λ message answer. Answers m d s s.number message answer t) f
-            (λ message answer told. subst (λ (k : ℕ). Answers m d s k message answer t) (sym mine) told) act x o y a;
+        acts = acts-at rules d.opening.rules is same (t ≡ s) (λ message answer. Answers m d s client message answer t × counts) (λ message answer. Answers m d s s.number message answer t) f
+            (λ message answer told. subst (λ (k : ℕ). Answers m d s k message answer t) (sym mine) told.0) act x o y a;
       }) acts

@@ -1,5 +1,5 @@
 -- A seat of a desk over an authority, which serves one client.
-use Rattle.std.specs.Prelude.{◌≡◌, ℕ, ◌<◌, ◌^◌, List, length}
+use Rattle.std.specs.Prelude.{◌≡◌, ℕ, ◌+◌, ◌-◌, ◌<◌, ◌^◌, List, length, min}
 use Rattle.pm_change.specs.Changes.{Meaning}
 use Rattle.pm_authority.specs.declared.authority.Authority.{Authority}
 use Rattle.pm_authority.specs.declared.machine.Request.{Request}
@@ -16,6 +16,10 @@ use Rattle.pm_workers.specs.Threads.{after_request, reply_to}
 -- what a client asks by a message
 abbrev pub request_of : {C : Type 0} → ℕ → Message C → Request C
 request_of client message = record { client = client; message = message }
+
+-- one call more than so many, in a count of 32 bits, which stands still at its end
+abbrev pub one_more : ℕ → ℕ
+one_more calls = min (calls + 1) (2 ^ 32 - 1)
 
 -- the seat t is the seat s that has seen more, or as much
 abbrev pub SeesMore : {M R Q : Type 0} → SeatValue M R Q → SeatValue M R Q → Type 0

@@ -69,13 +69,14 @@ where
         ensures serves { Serves C.means self.now.desk.now seat.new self.now.desk.now.opening.rules line.now.client }
         ensures stands { MemberStands C.means self.now.desk.now.opening.rules self.now.desk.now.opening.machine.first (authority_after C.means self.now.desk.now seat.new.seen).log member.new }
     {
-        let mut host = DeskHost {
-            rt: self.crew.rt,
-            desk: self.desk,
+        let mut host = DeskHost::new(
+            self.crew.rt,
+            self.desk,
             seat,
-            gate: self.crew.gate,
-            calls: *calls,
-        };
+            self.crew.gate,
+            line.client,
+            *calls,
+        );
         let outcome = act(
             alloc,
             member,
@@ -84,14 +85,7 @@ where
             &mut host,
             line,
         );
-        let DeskHost {
-            rt: _,
-            desk: _,
-            seat: _,
-            gate: _,
-            calls: answered,
-        } = host;
-        *calls = answered;
+        *calls = host.calls();
         outcome
     }
 

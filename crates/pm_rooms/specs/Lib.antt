@@ -1,0 +1,4 @@
+pub mod Lines
+pub mod Halls
+pub mod Stands
+pub mod People
