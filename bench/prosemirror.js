@@ -93,29 +93,50 @@ function rangesIn(first, count, size) {
   return {all, size}
 }
 
+// Letters typed in the middle, each behind the last one.
+function typedIn(count) {
+  const all = []
+  for (let i = 0; i < count; i++) all.push({start: SIZE / 2 + i, oldSize: 0, newSize: 1})
+  return all
+}
+
 // As rebaseSteps of prosemirror-collab does: the pending steps' maps back, the foreign maps, and then the pending steps one
 // after another, each mapped over what stands behind its own map back, whose mirror its new map becomes.
-function maps(pending, foreign) {
-  const own = rangesIn(1, pending, SIZE), others = rangesIn(2, foreign, SIZE)
-  let start = process.hrtime.bigint()
+function carried(own, others) {
   let sum = 0
   const mapping = new Mapping
-  for (let i = pending - 1; i >= 0; i--) mapping.appendMap(mapOf(own.all[i]).invert())
-  for (let i = 0; i < foreign; i++) mapping.appendMap(mapOf(others.all[i]))
-  for (let i = 0, mapFrom = pending; i < pending; i++) {
-    const range = own.all[i], rest = mapping.slice(mapFrom)
+  for (let i = own.length - 1; i >= 0; i--) mapping.appendMap(mapOf(own[i]).invert())
+  for (const range of others) mapping.appendMap(mapOf(range))
+  for (let i = 0, mapFrom = own.length; i < own.length; i++) {
+    const range = own[i], rest = mapping.slice(mapFrom)
     const from = rest.mapResult(range.start, 1), to = rest.mapResult(range.start + range.oldSize, -1)
     mapFrom--
     sum += from.pos + to.pos
     if (from.deleted && to.deleted) continue
     mapping.appendMap(mapOf({start: from.pos, oldSize: Math.max(to.pos - from.pos, 0), newSize: range.newSize}), mapFrom)
   }
+  return {mapping, sum}
+}
+
+function maps(pending, foreign) {
+  const own = rangesIn(1, pending, SIZE), others = rangesIn(2, foreign, SIZE)
+  let start = process.hrtime.bigint()
+  let {mapping, sum} = carried(own.all, others.all)
   const first = nanosSince(start)
   start = process.hrtime.bigint()
   const numbers = new Numbers(3)
   for (let i = 0; i < POSITIONS; i++)
     sum += mapping.map(numbers.below(own.size + 1), i % 2 == 0 ? 1 : -1)
   return {check: sum, first, second: nanosSince(start)}
+}
+
+// The carrying alone. It is in one part; the second one is that of our own mapping, and is 1 here. The time grows as the
+// square of the pending steps.
+function frames(own, foreign) {
+  if (own.length > 10000) throw new Error("too many pending steps")
+  const others = rangesIn(2, foreign, SIZE).all, start = process.hrtime.bigint()
+  const {sum} = carried(own, others)
+  return {check: sum, first: nanosSince(start), second: 1}
 }
 
 // ---- words
@@ -125,6 +146,8 @@ const MEASUREMENTS = {
   choices: (types, items) => automata(choice, types, items),
   brackets: (types, depth) => automata(brackets, types, depth),
   maps,
+  frames: (foreign, pending) => frames(typedIn(pending), foreign),
+  scattered: (foreign, pending) => frames(rangesIn(1, pending, SIZE).all, foreign),
 }
 
 function main([name, size, count, repeats]) {

@@ -74,6 +74,26 @@ both() {
   row "$other" "$(echo "$ours" | cut -d ' ' -f 3)" "$(echo "$theirs" | cut -d ' ' -f 3)"
 }
 
+# carried LABEL WORDS..: maps carried by frames, beside ProseMirror, and beside our own mapping
+carried() {
+  label=$1
+  shift
+  sides "$program" "$here/prosemirror.js" /dev/null "$@"
+  frames=$(echo "$ours" | cut -d ' ' -f 2)
+  row "$label" "$frames" "$(echo "$theirs" | cut -d ' ' -f 2)"
+  row "  beside our own mapping" "$frames" "$(echo "$ours" | cut -d ' ' -f 3)"
+}
+
+# alone LABEL WORDS..: maps carried by frames, of which there are too many for what stands beside them
+alone() {
+  label=$1
+  shift
+  : >"$work/ours"
+  for _ in $(seq "$tries"); do "$program" "$@" >>"$work/ours"; done
+  ours=$(least "$work/ours")
+  awk -v what="$label" -v a="$(echo "$ours" | cut -d ' ' -f 2)" 'BEGIN { printf "%-58s %12.3f\n", what, a / 1e6 }'
+}
+
 # part LABEL LINES PART REPEATS: one part of ours on these lines, beside that of ProseMirror
 part() {
   [ -f "$work/$2" ] || node "$here/documents.js" lines "$2" >"$work/$2"
@@ -145,6 +165,18 @@ both "automata of 60 types, 64 nested choices" "  60,000 steps over them" bracke
 
 title "maps, milliseconds" "ours" "ProseMirror"
 both "200 pending maps carried over 2,000 foreign ones" "  1,000 positions over all of them" maps 200 2000 20
+
+title "pending maps carried by frames, milliseconds" "by frames" "beside it"
+for foreign in 1 10 100; do
+  carried "100 typed letters over $foreign" frames $foreign 100 50
+  carried "1,000" frames $foreign 1000 10
+  carried "10,000" frames $foreign 10000 1
+  alone "100,000" frames $foreign 100000 3
+done
+carried "100 scattered edits over 10" scattered 10 100 50
+carried "1,000" scattered 10 1000 10
+carried "10,000" scattered 10 10000 1
+alone "100,000" scattered 10 100000 3
 
 title "schemas of 200 types with 30 attributes each, milliseconds" "ours" "ProseMirror"
 part "one type that may hold all others, read and built" schema schema 20

@@ -2,11 +2,17 @@
 #![tactic(auto)]
 
 mod automata;
+mod carrying;
 mod counter;
 mod desk;
+mod frames;
+#[cfg(test)]
+mod frames_tests;
+mod growing;
 mod maps;
 mod numbers;
 mod plan;
+mod ranges;
 #[cfg(test)]
 mod room_tests;
 mod round;
@@ -17,6 +23,7 @@ mod time;
 use anyhow::{Result, ensure};
 use automata::Shape;
 use plan::{Measure, Plan, plan_of};
+use ranges::Edits;
 use round::Round;
 use std::process::ExitCode;
 use std::rt::{Clock, Env};
@@ -31,8 +38,11 @@ sequences TYPES ITEMS     the automata of this many expressions, each a sequence
 choices TYPES ITEMS       the automata of this many expressions, each a repeated choice
 brackets TYPES DEPTH      the automata of this many expressions, each of nested choices
 maps PENDING FOREIGN      maps of pending steps carried over foreign ones, and positions mapped over them all
+frames FOREIGN PENDING    maps of letters typed one behind another, carried over foreign ones by frames, and by a mapping
+scattered FOREIGN PENDING the same of ranges drawn by chance
 
-It writes a number that says what was computed, and the nanoseconds of the two parts, the least of all repeats.";
+It writes a number that says what was computed, and the nanoseconds of the two parts, the least of all repeats.
+For more than 10,000 pending maps that are carried by frames the mapping is left out, and the second part is 1.";
 
 /// Takes one measurement as often as is asked, and writes the best figures.
 fn main(rt: HostRuntime) -> Result<ExitCode> {
@@ -76,5 +86,7 @@ fn measured<R: Threads + Wait + Clock + AllocGlobal + Sync>(rt: &R, plan: &Plan)
         Measure::Choices => automata::measure(rt, Shape::Choice, types, items),
         Measure::Brackets => automata::measure(rt, Shape::Brackets, types, items),
         Measure::Maps => maps::measure(rt, plan.size, plan.count),
+        Measure::Frames => frames::measure(rt, Edits::Typed, plan.size, plan.count),
+        Measure::Scattered => frames::measure(rt, Edits::Scattered, plan.size, plan.count),
     }
 }

@@ -9,6 +9,8 @@ pub enum Measure {
     Choices,
     Brackets,
     Maps,
+    Frames,
+    Scattered,
 }
 
 /// A measurement, its two numbers, and how often it is taken.
@@ -43,6 +45,8 @@ fn measure_of(name: &str) -> Option<Measure> {
         "choices" => Some(Measure::Choices),
         "brackets" => Some(Measure::Brackets),
         "maps" => Some(Measure::Maps),
+        "frames" => Some(Measure::Frames),
+        "scattered" => Some(Measure::Scattered),
         _ => None,
     }
 }

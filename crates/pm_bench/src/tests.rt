@@ -1,9 +1,11 @@
 //! Words, drawn numbers, and each measurement once. What maps and walks compute was taken from ProseMirror.
 use crate::automata::{Shape, measure as automata};
 use crate::desk::measure as desk;
+use crate::frames::measure as frames;
 use crate::maps::measure as maps;
 use crate::numbers::Numbers;
 use crate::plan::{Measure, plan_of};
+use crate::ranges::Edits;
 use std::test::Fail;
 
 #[test]
@@ -15,6 +17,8 @@ fn words_ask_for_a_measurement(rt: HostRuntime) -> Result<(), Fail> {
         ("maps 200 2000", false),
         ("maps 0 2000 1", false),
         ("maps 1001 2000 1", false),
+        ("frames 10 100000 1", true),
+        ("scattered 1001 10 1", false),
         ("brackets 60 100001 1", false),
         ("rings 60 64 1", false),
         ("desk 4 x 1", false),
@@ -46,5 +50,7 @@ fn each_measurement_is_taken(rt: HostRuntime) -> anyhow::Result<()> {
     assert_eq!(rt; automata(&rt, Shape::Choice, 3, 2)?.check, 4_002);
     assert_eq!(rt; automata(&rt, Shape::Brackets, 2, 1)?.check, 4);
     assert_eq!(rt; maps(&rt, 3, 5)?.check, 48_969_560);
+    assert_eq!(rt; frames(&rt, Edits::Typed, 5, 7)?.check, 700_112);
+    assert_eq!(rt; frames(&rt, Edits::Scattered, 10, 100)?.check, 11_252_268);
     Ok(())
 }
