@@ -3,8 +3,9 @@
 usage: fuzz.py SECONDS [WORD..]
 
 Each input is a session of tests/ or examples/, or one that an earlier change made, with one to six changes of its bytes,
-lines or JSON values. Under each word (WORDS where none is given) it has to end in time with a status of the table and an
-output that the status allows, and the words have to agree on what they refuse. What `run` writes has to be what `replay`
+lines or JSON values. Under each word (WORDS, `late` and `at 2` where none is given) it has to end in time with a status of the
+table and an output that the status allows, and the words have to agree on what they refuse. `late` and `at` play files that
+clients may enter late, and agree with the other words on files that none does. What `run` writes has to be what `replay`
 writes of the lines in the order that it shows. SEED sets the seed, which is printed, and
 JOBS how many runs go side by side: the inputs are a function of both. An input at which a run fails is kept in FINDS (a
 new folder where it is absent).
@@ -15,7 +16,8 @@ sys.path.insert(0, os.path.dirname(os.path.abspath(__file__)))
 from playing import *
 
 SECONDS = float(sys.argv[1])
-NAMED = sys.argv[2:] or WORDS
+# A name may be more words than one, as "at 2".
+NAMED = sys.argv[2:] or [*WORDS, "late", "at 2"]
 SEED = int(os.environ.get("SEED", random.randrange(2**32)))
 FINDS = os.environ.get("FINDS") or tempfile.mkdtemp(prefix="fuzz-")
 NUMBERS = [0, 1, 2, 3, 4, 5, 7, 8, 63, 64, 65, 127, 128, 255, 256, 65535, 65536, 2**31, 2**32 - 1, 2**32, 2**53, 2**63 - 1, 2**63, 2**64, -1, -2]
@@ -186,7 +188,7 @@ def shown(data, fault):
 
 def tried(data):
     """The faults of one input, and whether it is a session."""
-    runs = {word: play([word], data) for word in NAMED}
+    runs = {word: play(word.split(), data) for word in NAMED}
     faults = [it for it in (fault_of(word, played) for word, played in runs.items()) if it]
     if not faults and (fault := fault_between(runs)):
         faults.append(fault)
@@ -222,7 +224,7 @@ def counted(number, until):
 
 def main():
     need_program()
-    print(f"seed {SEED}, {JOBS} side by side, words {' '.join(NAMED)}", flush=True)
+    print(f"seed {SEED}, {JOBS} side by side, words {', '.join(NAMED)}", flush=True)
     results, until = multiprocessing.Queue(), time.monotonic() + SECONDS
     workers = [multiprocessing.Process(target=work, args=(it, until, results)) for it in range(JOBS)]
     for worker in workers:

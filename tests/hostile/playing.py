@@ -53,11 +53,19 @@ TELLS = r"(?:accepted \d+ \d+|version \d+|refused \d+ (?:[1-8]|9 \d+|1[0-2])|ent
 TAKES = r"(?:confirmed \d+|rebased \d+ \d+ \d+|stale|kept)"
 OUTCOME = re.compile(
     rf"(\d+) (?:made \d+|refused 0 (?:[1-8]|9 \d+|1[0-2])|no place|no fit|no range|nothing|cursor \d+|composed [1-9]\d*"
-    rf"|{TELLS}|{TAKES}|{TELLS}; (?:{TAKES}|lost))"
+    rf"|entered \d+|{TELLS}|{TAKES}|{TELLS}; (?:{TAKES}|lost))"
 )
 CLIENT = re.compile(rf"client ([a-z0-9]{{1,16}}) (\d+) {NUMBERS} {NUMBERS} {NUMBERS} (\{{.*\}})")
 ENTRY = re.compile(r"(\d+) [a-z0-9]{1,16} [1-9]\d* (\{.*\})")
 SETTLED = re.compile(rf"settled ([a-z0-9]{{1,16}}) (\d+) {NUMBERS} {NUMBERS}")
+
+
+VERSION = re.compile(r"at (\d+) (\{.*\})|past (\d+)")
+
+
+def takes_late(word):
+    """Whether a word plays session files whose clients may enter late."""
+    return word.split()[0] in ("late", "at")
 
 
 def is_compact(text):
@@ -99,6 +107,14 @@ def fault_of_report(text):
     return None
 
 
+def is_version(number, text):
+    """Whether a text is the line of this version, or says that there are fewer steps."""
+    told = VERSION.fullmatch(text.removesuffix("\n"))
+    if not told or not text.endswith("\n"):
+        return False
+    return int(told[3]) < number if told[3] else int(told[1]) == number and is_compact(told[2])
+
+
 def fault_of(word, played):
     """What is wrong with a run in which nothing failed: its status, its time, or an output that the status does not allow."""
     if played.status is None:
@@ -110,23 +126,49 @@ def fault_of(word, played):
     text = played.out.decode()
     if played.status == 1:
         told = re.fullmatch(r"refused (\d+) (\d+)\n", text)
-        return None if told and 1 <= int(told[2]) <= 19 else f"{word} refused by {text[:100]!r}"
+        codes = [*range(1, 20), 25] if takes_late(word) else range(1, 20)
+        return None if told and int(told[2]) in codes else f"{word} refused by {text[:100]!r}"
     if word == "check":
         return None if re.fullmatch(r"ok \d+ \d+\n", text) else f"check wrote {text[:100]!r}"
+    if word.startswith("at "):
+        return None if is_version(int(word.split()[1]), text) else f"{word} wrote {text[:100]!r}"
     fault = fault_of_report(text)
     return fault and f"{word}: {fault}"
 
 
 def fault_between(runs):
-    """Where the words do not agree on one input: `runs` is what each word made of it."""
+    """Where the words do not agree on one input: `runs` is what each word made of it. A session that no client enters late is
+    one session to all words; of one that clients enter late, the words that play it agree."""
     refused = {word: played.out if played.status == 1 else None for word, played in runs.items()}
-    if len(set(refused.values())) > 1:
-        return f"the words differ: {refused}"
+    for late in (False, True):
+        if len({told for word, told in refused.items() if takes_late(word) == late}) > 1:
+            return f"the words differ: {refused}"
+    if fault := fault_of_late(runs):
+        return fault
     counts, report = runs.get("check"), runs.get("replay")
     if counts and report and counts.status == 0 and report.status == 0:
         ops = next(at for at, it in enumerate(report.out.split(b"\n")) if it.startswith((b"client ", b"log ")))
         if int(counts.out.split()[1]) != ops:
             return f"check counts {counts.out!r}, and the report has {ops} outcomes"
+    return None
+
+
+def fault_of_late(runs):
+    """Where `late` does not agree with `replay` on a session that both play, or `at` with the log that `late` writes."""
+    replayed, late = runs.get("replay"), runs.get("late")
+    if replayed and late and replayed.status == 0 and late.out != replayed.out:
+        return "late and replay write different reports"
+    for word, played in runs.items():
+        if not late or late.status != 0 or not word.startswith("at "):
+            continue
+        lines = late.out.split(b"\n")
+        size = int(next(it for it in lines if it.startswith(b"log ")).split()[1])
+        number = int(word.split()[1])
+        last = next(it for it in lines if it.startswith(b"final "))[len(b"final ") :]
+        if (played.out == b"past %d\n" % size) != (size < number):
+            return f"{word} wrote {played.out[:80]!r}, and the log has {size} steps"
+        if size == number and played.out != b"at %d %s\n" % (number, last):
+            return f"{word} does not write the last document"
     return None
 
 
