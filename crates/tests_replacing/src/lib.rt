@@ -26,4 +26,5 @@ mod slicing;
 mod templates;
 #[cfg(test)]
 mod undoing;
+#[cfg(test)]
 mod viewing;
