@@ -12,17 +12,20 @@ pub(crate) fn viewed(alloc: Global, before: &Document, numbers: &str) -> Result<
     match view(before, first.parse()?, second.parse()?) {
         Ok(lent) => {
             let mut out = format!(in alloc; "!{}", lent.size())?;
-            push_parts(&mut out, lent.tokens(alloc)?)?;
+            push_parts(&mut out, lent.tokens(alloc)?, lent.size())?;
             Ok(out)
         }
         Err(fault) => Ok(format!(in alloc; "!{fault:?}")?),
     }
 }
 
-/// Writes each part with a blank before it.
-fn push_parts(out: &mut String, tokens: Tokens<'_>) -> Result<(), AllocError> {
+/// Writes each part with a blank before it. There are no more parts than tokens, which are so many.
+fn push_parts(out: &mut String, tokens: Tokens<'_>, size: usize) -> Result<(), AllocError> {
     let mut tokens = tokens;
-    while let Some(part) = tokens.next() {
+    for _ in 0..size {
+        let Some(part) = tokens.next() else {
+            return Ok(());
+        };
         out.push(' ')?;
         match part {
             Part::Open(_) => out.push('(')?,
