@@ -6,13 +6,12 @@ use Rattle.std.proofs.lemmas.Bool.{cases_eq, or_right}
 use Rattle.std.proofs.lemmas.List.{get_or-replicate, get_or_past, length-replicate}
 use Rattle.std.proofs.lemmas.Nat.Bits.{bit_at-lt, bit_at-zero, bit_at_or, bit_at_set_same, bit_at_set_other}
 use Rattle.pm_auto.specs.declared.places.Row.{Row}
-use Rattle.pm_auto.specs.Runs.{look}
 use Rattle.pm_auto.specs.States.{has, in_order}
 use Rattle.pm_auto.specs.Members.{is_in}
 use Rattle.pm_auto.specs.Bits.{Holds, picked}
 use Rattle.pm_auto.proofs.Orders.{le_or_lt}
 use Rattle.std.proofs.Math.Seq.{drop-cons}
-use Rattle.pm_auto.proofs.SetLaws.{or-false, or-assoc, has-append, look-get}
+use Rattle.pm_auto.proofs.SetLaws.{or-false, or-assoc, has-append}
 
 -- no number is in the set of no bits
 pub zeros-at : (n k : ℕ) → ◌≡◌ {A = ℕ} (get_or (replicate {A = ℕ} n 0) k 0) 0

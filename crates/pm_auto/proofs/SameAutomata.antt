@@ -1,12 +1,12 @@
 -- Tables that are alike have the same states, edges and automata.
-use Rattle.std.proofs.Common.{◌≡◌, ℕ, zero, suc, ◌<◌, List, [], ◌∷◌, ◌++◌, length, Bool, true, false, ◌||◌, ◌&&◌, cond, eqb, refl, ap, sym, ◌∙◌, subst, inr}
+use Rattle.std.proofs.Common.{◌≡◌, ℕ, zero, suc, List, [], ◌∷◌, Bool, false, ◌||◌, ◌&&◌, cond, eqb, refl, ap, sym, ◌∙◌, subst, inr}
 use Rattle.pm_auto.specs.declared.places.Row.{Row}
 use Rattle.pm_auto.specs.declared.sets.PlaceSet.{PlaceSet}
 use Rattle.pm_auto.specs.declared.auto.Edge.{Edge}
 use Rattle.pm_auto.specs.declared.auto.Auto.{Auto}
 use Rattle.pm_auto.specs.Core.{when}
 use Rattle.pm_auto.specs.Runs.{look, next_rows, end_rows}
-use Rattle.pm_auto.specs.States.{has, in_order, step, kinds, once, Leads_to, All_reached, Too_many, start_of, edge_kinds, set_at, Lead_on, Edges_of, All_edges}
+use Rattle.pm_auto.specs.States.{has, in_order, step, kinds, once, Leads_to, All_reached, Too_many, start_of, Lead_on, All_edges}
 use Rattle.pm_auto.specs.Automata.{Is_automaton}
 use Rattle.pm_auto.specs.Alike.{Same_numbers, Alike_row, Alike_rows, Alike}
 use Rattle.pm_auto.specs.declared.places.Part.{Part}

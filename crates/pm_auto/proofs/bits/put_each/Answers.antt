@@ -1,4 +1,4 @@
-use Rattle.std.proofs.Common.{◌≡◌, ℕ, List, [], ◌∷◌, ◌∙◌, ◌||◌, eqb, take, get_or, sym, ap}
+use Rattle.std.proofs.Common.{ℕ, List, [], ◌∷◌, ◌∙◌, ◌||◌, eqb, take, get_or, sym, ap}
 use Rattle.std.proofs.lemmas.List.{take_more}
 use Rattle.pm_auto.specs.States.{has}
 use Rattle.pm_auto.specs.Members.{is_in}

@@ -1,4 +1,4 @@
-use Rattle.std.proofs.Common.{◌≡◌, ◌≤◌, ◌∙◌, ◌||◌, ℕ, List, length, sym, ap, subst, arith}
+use Rattle.std.proofs.Common.{◌≤◌, ◌∙◌, ◌||◌, ℕ, List, length, sym, ap, arith}
 use Rattle.pm_auto.specs.States.{has}
 use Rattle.pm_auto.specs.Members.{is_in}
 use Rattle.pm_auto.proofs.MemberLaws.{has-members, in-joined}

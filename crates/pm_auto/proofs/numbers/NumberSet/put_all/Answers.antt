@@ -1,4 +1,4 @@
-use Rattle.std.proofs.Common.{◌∙◌, ◌||◌, ℕ, sym, ap}
+use Rattle.std.proofs.Common.{◌∙◌, ◌||◌, sym, ap}
 use Rattle.pm_auto.specs.States.{has}
 use Rattle.pm_auto.proofs.MemberLaws.{has-members}
 use Rattle.pm_auto.proofs.numbers.NumberSet.put_all.Goals as goal
