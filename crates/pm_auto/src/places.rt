@@ -127,7 +127,7 @@ fn both(alloc: Global, a: Part, b: Part) -> Result<Part, AllocError>
 }
 
 /// The part once or more often. The places that may come first are made a set once, so that a repetition of what is repeated
-/// already costs a look at its places, and no memory.
+/// already adds nothing to what its places hold.
 pub(crate) fn repeat(alloc: Global, a: Part) -> Result<Part, AllocError>
     ensures { IfOk result (λ p. Alike p (repeated a)) }
 {
