@@ -6,15 +6,15 @@ use Rattle.std.proofs.lemmas.Bool.{cases_eq, or_right}
 use Rattle.std.proofs.lemmas.List.{get_or-replicate, get_or_past, length-replicate}
 use Rattle.std.proofs.lemmas.Nat.Bits.{bit_at-lt, bit_at-zero, bit_at_or, bit_at_set_same, bit_at_set_other}
 use Rattle.pm_auto.specs.declared.places.Row.{Row}
-use Rattle.pm_auto.specs.Runs.{look}
 use Rattle.pm_auto.specs.States.{has, in_order}
-use Rattle.pm_auto.specs.Bits.{is_in, Holds, picked}
+use Rattle.pm_auto.specs.Members.{is_in}
+use Rattle.pm_auto.specs.Bits.{Holds, picked}
 use Rattle.pm_auto.proofs.Orders.{le_or_lt}
 use Rattle.std.proofs.Math.Seq.{drop-cons}
-use Rattle.pm_auto.proofs.SetLaws.{or-false, or-assoc, has-append, look-get}
+use Rattle.pm_auto.proofs.SetLaws.{or-false, or-assoc, has-append}
 
 -- no number is in the set of no bits
-zeros-at : (n k : ℕ) → ◌≡◌ {A = ℕ} (get_or (replicate {A = ℕ} n 0) k 0) 0
+pub zeros-at : (n k : ℕ) → ◌≡◌ {A = ℕ} (get_or (replicate {A = ℕ} n 0) k 0) 0
 zeros-at n k = at (le_or_lt n k)
   where
     at : (n ≤ k) ⊎ (k < n) → ◌≡◌ {A = ℕ} (get_or (replicate {A = ℕ} n 0) k 0) 0
@@ -39,10 +39,6 @@ in-union a b c j e =
     ap (λ w. eqb (bit_at w (j % 64)) 1) e
     ∙ ap (λ x. eqb x 1) (bit_at_or (get_or a (j / 64) 0) (get_or b (j / 64) 0) (j % 64))
     ∙ max-one (bit_at (get_or a (j / 64) 0) (j % 64)) (bit_at (get_or b (j / 64) 0) (j % 64)) (bit_at-lt (get_or a (j / 64) 0) (j % 64)) (bit_at-lt (get_or b (j / 64) 0) (j % 64))
-
--- a word of a union, where both lists are as long
-pub past-both : (a b c : List ℕ) (k : ℕ) → length a ≡ length c → length b ≡ length c → length c ≤ k → get_or c k 0 ≡ bit_or (get_or a k 0) (get_or b k 0)
-past-both a b c k p q h = rw (get_or_past a k 0 (omega arith), get_or_past b k 0 (omega arith), get_or_past c k 0 h) refl
 
 -- a number more
 pub in-put : (ws : List ℕ) (n j : ℕ) → n < 64 * length ws → is_in (set ws (n / 64) (bit_or (get_or ws (n / 64) 0) (1 * 2 ^ (n % 64) % 2 ^ 64))) j ≡ is_in ws j || eqb n j
@@ -83,34 +79,6 @@ picked-order ns ws n (r ∷ rs) f =
 
 pub holds-order : (ns ws : List ℕ) (rs : List Row) → Holds (length rs) ws ns → picked ws 0 rs ≡ in_order ns 0 rs
 holds-order ns ws rs h = picked-order ns ws 0 rs (λ j l m. h.same j (omega arith))
-
--- a row of the table
-pub row-at : (t : List (List ℕ)) (k : ℕ) (r : List ℕ) → k < length t → r ≡ get_or t k r → r ≡ get_or t k []
-row-at [] k r l is = absurd (omega arith)
-row-at (x ∷ t) zero r l is = is
-row-at (x ∷ t) (suc k) r l is = row-at t k r (omega arith) is
-
-at-front : (t : List (List ℕ)) (x : List ℕ) (p : ℕ) → p < length t → get_or (t ++ x ∷ []) p [] ≡ get_or t p []
-at-front [] x p h = absurd (omega arith)
-at-front (y ∷ t) x zero h = refl
-at-front (y ∷ t) x (suc p) h = at-front t x p (omega arith)
-
-at-last : (t : List (List ℕ)) (x : List ℕ) → get_or (t ++ x ∷ []) (length t) [] ≡ x
-at-last [] x = refl
-at-last (y ∷ t) x = at-last t x
-
--- the set of a row more
-pub table-more : (rs : List Row) (t : List (List ℕ)) (i : ℕ) (ws : List ℕ) (r : Row) → length t ≡ i → i < length rs → r ≡ get_or rs i r
-    → ((p : ℕ) → p < i → Holds (length rs) (get_or t p []) (look rs p).follow) → Holds (length rs) ws r.follow
-    → (p : ℕ) → p < i + 1 → Holds (length rs) (get_or (t ++ ws ∷ []) p []) (look rs p).follow
-table-more rs t i ws r len l is old new p h = at (cases_eq p i)
-  where
-    at : (p ≡ i) ⊎ (p ≡ i → ⊥) → Holds (length rs) (get_or (t ++ ws ∷ []) p []) (look rs p).follow
-    at (inl e) =
-        let row : look rs p ≡ r = ap (look rs) e ∙ look-get rs i r l is in
-        let last : get_or (t ++ ws ∷ []) p [] ≡ ws = ap (λ k. get_or (t ++ ws ∷ []) k []) (e ∙ sym len) ∙ at-last t ws in
-        rw (row, last) new
-    at (inr o) = rw (at-front t ws p (omega (arith, len))) (old p (omega arith))
 
 -- a number of a list that is put into the set, or left out
 module _ (ns a : List ℕ) (i j : ℕ) (l : i < length ns) (all : Bool) (is : all ≡ (is_in a j || has j (drop i ns))) where

@@ -13,6 +13,9 @@ pub mod TrimLaws
 mod PartLaws
 mod SetLaws
 mod BitLaws
+mod MemberLaws
+mod AlikeLaws
+mod SameAutomata
 mod GroupLaws
 mod OnceLaws
 mod StateLaws

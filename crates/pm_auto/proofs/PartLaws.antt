@@ -1,5 +1,5 @@
 -- The parts of an expansion.
-use Rattle.std.proofs.Common.{◌≡◌, ℕ, zero, suc, ◌+◌, ◌-◌, ◌*◌, ◌≤◌, ◌<◌, List, [], ◌∷◌, ◌++◌, length, map, take, get_or, Bool, true, false, ◌||◌, ◌&&◌, cond, nat_eq, Option, Some, None, Result, Ok, Err, IfOk, ◌≢◌, refl, ap, sym, ◌∙◌, arith, add-zero, rules}
+use Rattle.std.proofs.Common.{◌≡◌, ℕ, zero, suc, ◌+◌, ◌-◌, ◌*◌, ◌≤◌, ◌<◌, List, [], ◌∷◌, ◌++◌, length, map, take, get_or, Bool, true, false, ◌||◌, ◌&&◌, cond, nat_eq, Option, Some, None, Result, Ok, Err, IfOk, ◌≢◌, refl, ap, sym, subst, ◌∙◌, arith, add-zero, rules}
 use Rattle.std.proofs.lemmas.List.{take_more, map-append, length-map, length-append}
 use Rattle.std.proofs.Math.Nat.{mul-le-mul_right}
 use Rattle.pm_auto.specs.declared.places.Row.{Row}
@@ -10,15 +10,9 @@ use Rattle.pm_auto.specs.Expand.{expand, and_copies, range, optional, one_of, in
 use Rattle.pm_auto.specs.Table.{onward, again, rows, firsts, width, widths, part, one_or, one_then, both_parts, no_part, passes, repeated}
 use Rattle.pm_auto.specs.Trim.{has_list, trim}
 use Rattle.pm_auto.proofs.TrimLaws.{width-trim, nullable-trim, passes-trim}
+use Rattle.pm_auto.specs.Alike.{Alike}
+use Rattle.pm_auto.proofs.AlikeLaws.{alike-is, alike-refl, alike-trans, length-alike, or-alike, then-alike, repeated-alike}
 use Rattle.pm_auto.proofs.WidthLaws.{width-in_turn, width-one_of, width-and_copies, width-range}
-
-again-one : (fs : List ℕ) (kind : ℕ) (follow : List ℕ) (ends : Bool) → onward fs true record { kind = kind; follow = follow; ends = ends } ≡ again fs record { kind = kind; follow = follow; ends = ends }
-again-one fs kind follow true = refl
-again-one fs kind follow false = refl
-
-pub again-all : (fs : List ℕ) (rs : List Row) → map (onward fs true) rs ≡ map (again fs) rs
-again-all fs [] = refl
-again-all fs (r ∷ rs) = rw (again-one fs r.kind r.follow r.ends, again-all fs rs) refl
 
 -- there is a row for each place
 pub length-rows : (n : ℕ) (e : Core) → length (rows n e) ≡ width e
@@ -32,30 +26,34 @@ length-rows n (Cat a b) =
 length-rows n (Loop a) = length-map (rows n a) (again (firsts n a)) ∙ length-rows n a
 
 -- parts put together
-pub part-or : (n m : ℕ) (e d : Core) (a b : Part) → a ≡ part n e → m ≡ n + length a.rows → b ≡ part m d → one_or a b ≡ part n (Alt e d)
-part-or n m e d a b ea em eb =
-    let w : length a.rows ≡ width e = ap (λ z. length z.rows) ea ∙ length-rows n e in
-    let s : m ≡ n + width e = em ∙ ap (λ z. n + z) w in
-    rw (ea, eb, s) refl
+module _ (n m : ℕ) (e : Core) (a : Part) (ea : Alike a (part n e)) (em : m ≡ n + length a.rows) where
+  next-place : m ≡ n + width e
+  next-place = em ∙ ap (λ z. n + z) (length-alike a.rows (rows n e) ea.rows ∙ length-rows n e)
 
-pub part-then : (n m : ℕ) (e d : Core) (a b : Part) → a ≡ part n (trim e) → m ≡ n + length a.rows → b ≡ part m (trim d) → one_then a b ≡ part n (trim (Cat e d))
+  pub part-or : (d : Core) (b : Part) → Alike b (part m d) → Alike (one_or a b) (part n (Alt e d))
+  part-or d b eb = or-alike a b (part n e) (part (n + width e) d) ea (subst (λ (z : ℕ). Alike b (part z d)) next-place eb)
+
+pub part-then : (n m : ℕ) (e d : Core) (a b : Part) → Alike a (part n (trim e)) → m ≡ n + length a.rows → Alike b (part m (trim d)) → Alike (one_then a b) (part n (trim (Cat e d)))
 part-then n m e d a b ea em eb =
-    let w : length a.rows ≡ width (trim e) = ap (λ z. length z.rows) ea ∙ length-rows n (trim e) in
-    let s : m ≡ n + width (trim e) = em ∙ ap (λ z. n + z) w in
+    let s : m ≡ n + width (trim e) = next-place n m (trim e) a ea em in
     let c : Part = part n (trim e) in
     let f : Part = part (n + width (trim e)) (trim d) in
     let g : passes c && passes f ≡ has_list e && has_list d = ap (λ z. z && passes f) (passes-trim n e) ∙ ap (λ z. has_list e && z) (passes-trim (n + width (trim e)) d) in
-    ap (λ (z : Part). one_then z b) ea ∙ ap (one_then c) (eb ∙ ap (λ (z : ℕ). part z (trim d)) s) ∙ ap (λ z. cond z (both_parts c f) no_part) g ∙ at (has_list e && has_list d)
+    subst (Alike (one_then a b)) (ap (λ z. cond z (both_parts c f) no_part) g ∙ at (has_list e && has_list d))
+    (then-alike a b c f ea (subst (λ (z : ℕ). Alike b (part z (trim d))) s eb))
   where
     at : (z : Bool) → cond z (both_parts (part n (trim e)) (part (n + width (trim e)) (trim d))) no_part ≡ part n (cond z (Cat (trim e) (trim d)) Never)
     at true = refl
     at false = refl
 
-pub part-optional : (n : ℕ) (d : Core) (b : Part) → b ≡ part n d → one_or record { rows = []; first = []; may_be_empty = true } b ≡ part n (optional d)
-part-optional n d b eb = rw (eb, add-zero) refl
+pub part-optional : (n : ℕ) (d : Core) (b c : Part) → Alike b (part n d) → c ≡ one_or record { rows = []; first = []; may_be_empty = true } b → Alike c (part n (optional d))
+part-optional n d b c eb ec =
+    let o : Part = record { rows = []; first = []; may_be_empty = true } in
+    let e : one_or o (part n d) ≡ part n (optional d) = rw add-zero refl in
+    subst (λ (z : Part). Alike z (part n (optional d))) (sym ec) (subst (Alike (one_or o b)) e (or-alike o b o (part n d) (alike-refl o) eb))
 
-pub part-repeated : (n : ℕ) (d : Core) (b : Part) → b ≡ part n d → repeated b ≡ part n (Loop d)
-part-repeated n d b eb = rw eb refl
+pub part-repeated : (n : ℕ) (d : Core) (b c : Part) → Alike b (part n d) → Alike c (repeated b) → Alike c (part n (Loop d))
+part-repeated n d b c eb ec = alike-trans c (repeated b) (part n (Loop d)) ec (repeated-alike b (part n d) eb)
 
 -- one item more
 pub one_of-more : (e : Core) (ds : List Core) (d : Core) → one_of e (ds ++ d ∷ []) ≡ Alt (one_of e ds) d
@@ -147,36 +145,38 @@ part-none n low high d h =
         last true false = refl
         last false b = refl
 
-length-part : (n : ℕ) (e : Core) (p : Part) → p ≡ part n (trim e) → length p.rows ≤ width e
-length-part n e p is = let l : length p.rows ≡ width (trim e) = ap (λ z. length z.rows) is ∙ length-rows n (trim e) in omega (arith, l, width-trim e)
+length-part : (n : ℕ) (e : Core) (p : Part) → Alike p (part n (trim e)) → length p.rows ≤ width e
+length-part n e p is = let l : length p.rows ≡ width (trim e) = length-alike p.rows (rows n (trim e)) is.rows ∙ length-rows n (trim e) in omega (arith, l, width-trim e)
 
 module _ (n : ℕ) (xs : List Expr) (i : ℕ) (x : Expr) (p : Part) (k : ℕ) (l : i < length xs) (is : x ≡ get_or xs i x) (ek : k ≡ length p.rows) where
-  pub room-choice : n + widths (map expand xs) ≤ 4096 → p ≡ part n (trim (one_of Never (map expand (take i xs)))) → n + k + width (expand x) ≤ 4096
+  pub room-choice : n + widths (map expand xs) ≤ 4096 → Alike p (part n (trim (one_of Never (map expand (take i xs))))) → n + k + width (expand x) ≤ 4096
   room-choice r ep = omega (arith, r, ek, length-part n (one_of Never (map expand (take i xs))) p ep, width-one_of Never (map expand (take i xs)), widths-more xs i x l is)
 
-  pub room-turn : n + widths (map expand xs) ≤ 4096 → p ≡ part n (trim (in_turn Empty (map expand (take i xs)))) → n + k + width (expand x) ≤ 4096
+  pub room-turn : n + widths (map expand xs) ≤ 4096 → Alike p (part n (trim (in_turn Empty (map expand (take i xs))))) → n + k + width (expand x) ≤ 4096
   room-turn r ep = omega (arith, r, ek, length-part n (in_turn Empty (map expand (take i xs))) p ep, width-in_turn Empty (map expand (take i xs)), widths-more xs i x l is)
 
-  pub step-choice : (q r : Part) → p ≡ part n (trim (one_of Never (map expand (take i xs)))) → q ≡ part (n + k) (trim (expand x)) → r ≡ one_or p q → r ≡ part n (trim (one_of Never (map expand (take (i + 1) xs))))
+  pub step-choice : (q r : Part) → Alike p (part n (trim (one_of Never (map expand (take i xs))))) → Alike q (part (n + k) (trim (expand x))) → r ≡ one_or p q → Alike r (part n (trim (one_of Never (map expand (take (i + 1) xs)))))
   step-choice q r ep eq er =
-      er ∙ part-or n (n + k) (trim (one_of Never (map expand (take i xs)))) (trim (expand x)) p q ep (ap (λ z. n + z) ek) eq
-      ∙ ap (λ (z : Core). part n (trim z)) (sym (ap (one_of Never) (items-more xs i x l is) ∙ one_of-more Never (map expand (take i xs)) (expand x)))
+      subst (λ (z : Part). Alike z (part n (trim (one_of Never (map expand (take (i + 1) xs)))))) (sym er)
+      (subst (λ (z : Core). Alike (one_or p q) (part n (trim z))) (sym (ap (one_of Never) (items-more xs i x l is) ∙ one_of-more Never (map expand (take i xs)) (expand x)))
+      (part-or n (n + k) (trim (one_of Never (map expand (take i xs)))) p ep (ap (λ z. n + z) ek) (trim (expand x)) q eq))
 
-  pub step-turn : (q r : Part) → p ≡ part n (trim (in_turn Empty (map expand (take i xs)))) → q ≡ part (n + k) (trim (expand x)) → r ≡ one_then p q → r ≡ part n (trim (in_turn Empty (map expand (take (i + 1) xs))))
+  pub step-turn : (q r : Part) → Alike p (part n (trim (in_turn Empty (map expand (take i xs))))) → Alike q (part (n + k) (trim (expand x))) → Alike r (one_then p q) → Alike r (part n (trim (in_turn Empty (map expand (take (i + 1) xs)))))
   step-turn q r ep eq er =
-      er ∙ part-then n (n + k) (in_turn Empty (map expand (take i xs))) (expand x) p q ep (ap (λ z. n + z) ek) eq
-      ∙ ap (λ (z : Core). part n (trim z)) (sym (ap (in_turn Empty) (items-more xs i x l is) ∙ in_turn-more Empty (map expand (take i xs)) (expand x)))
+      subst (λ (z : Core). Alike r (part n (trim z))) (sym (ap (in_turn Empty) (items-more xs i x l is) ∙ in_turn-more Empty (map expand (take i xs)) (expand x)))
+      (alike-trans r (one_then p q) (part n (trim (Cat (in_turn Empty (map expand (take i xs))) (expand x)))) er (part-then n (n + k) (in_turn Empty (map expand (take i xs))) (expand x) p q ep (ap (λ z. n + z) ek) eq))
 
 module _ (n i : ℕ) (e d : Core) (p : Part) (k : ℕ) (ek : k ≡ length p.rows) where
-  pub room-copies : (m : ℕ) → i < m → n + (width e + m * width d) ≤ 4096 → p ≡ part n (trim (and_copies e i d)) → n + k + width d ≤ 4096
+  pub room-copies : (m : ℕ) → i < m → n + (width e + m * width d) ≤ 4096 → Alike p (part n (trim (and_copies e i d))) → n + k + width d ≤ 4096
   room-copies m l r ep =
       let a : suc i * width d ≤ m * width d = mul-le-mul_right (width d) (omega arith) in
       omega (arith, r, ek, length-part n (and_copies e i d) p ep, width-and_copies i e d, a)
 
-  pub step-copies : (q r : Part) → p ≡ part n (trim (and_copies e i d)) → q ≡ part (n + k) (trim d) → r ≡ one_then p q → r ≡ part n (trim (and_copies e (i + 1) d))
+  pub step-copies : (q r : Part) → Alike p (part n (trim (and_copies e i d))) → Alike q (part (n + k) (trim d)) → Alike r (one_then p q) → Alike r (part n (trim (and_copies e (i + 1) d)))
   step-copies q r ep eq er =
-      er ∙ part-then n (n + k) (and_copies e i d) d p q ep (ap (λ z. n + z) ek) eq
-      ∙ (let g : i + 1 ≡ suc i = omega arith in ap (λ (z : Core). part n (trim z)) (sym (ap (λ (z : ℕ). and_copies e z d) g ∙ copies-more i e d)))
+      let g : i + 1 ≡ suc i = omega arith in
+      subst (λ (z : Core). Alike r (part n (trim z))) (sym (ap (λ (z : ℕ). and_copies e z d) g ∙ copies-more i e d))
+      (alike-trans r (one_then p q) (part n (trim (Cat (and_copies e i d) d))) er (part-then n (n + k) (and_copies e i d) d p q ep (ap (λ z. n + z) ek) eq))
 
 -- the two forms of a repetition
 module _ (n low : ℕ) (d : Core) where
@@ -187,14 +187,15 @@ module _ (n low : ℕ) (d : Core) where
   pub room-more : (m : ℕ) → n + width (range d low (Some m)) ≤ 4096 → n + (low * width d + (m - low) * width d) ≤ 4096
   room-more m r = omega (arith, r, width-and_copies low Empty d, width-and_copies (m - low) (and_copies Empty low d) (optional d))
 
-  pub room-last : (p : Part) (k : ℕ) → n + width (range d low None) ≤ 4096 → p ≡ part n (trim (and_copies Empty low d)) → k ≡ length p.rows → n + k + width d ≤ 4096
+  pub room-last : (p : Part) (k : ℕ) → n + width (range d low None) ≤ 4096 → Alike p (part n (trim (and_copies Empty low d))) → k ≡ length p.rows → n + k + width d ≤ 4096
   room-last p k r ep ek = omega (arith, r, ek, length-part n (and_copies Empty low d) p ep, width-and_copies low Empty d)
 
-  pub step-last : (p : Part) (k : ℕ) (q a b r : Part) → p ≡ part n (trim (and_copies Empty low d)) → k ≡ length p.rows → q ≡ part (n + k) (trim d) → a ≡ repeated q
-      → b ≡ one_or record { rows = []; first = []; may_be_empty = true } a → r ≡ one_then p b → r ≡ part n (trim (range d low None))
+  pub step-last : (p : Part) (k : ℕ) (q a b r : Part) → Alike p (part n (trim (and_copies Empty low d))) → k ≡ length p.rows → Alike q (part (n + k) (trim d)) → Alike a (repeated q)
+      → b ≡ one_or record { rows = []; first = []; may_be_empty = true } a → Alike r (one_then p b) → Alike r (part n (trim (range d low None)))
   step-last p k q a b r ep ek eq ea eb er =
-      er ∙ part-then n (n + k) (and_copies Empty low d) (optional (Loop d)) p b ep (ap (λ z. n + z) ek)
-      (eb ∙ part-optional (n + k) (Loop (trim d)) a (ea ∙ part-repeated (n + k) (trim d) q eq))
+      alike-trans r (one_then p b) (part n (trim (range d low None))) er
+      (part-then n (n + k) (and_copies Empty low d) (optional (Loop d)) p b ep (ap (λ z. n + z) ek)
+      (part-optional (n + k) (Loop (trim d)) a b (part-repeated (n + k) (trim d) q a eq ea) eb))
 
 pub low-none : (low : ℕ) (b x : Bool) → low ≡ 0 → b ≡ true → b ≡ nat_eq low 0 || x
 low-none zero b x e h = h
@@ -207,8 +208,8 @@ low-some (suc low) b x e h = h ∙ ap (λ z. z || x) (sym (not-zero low))
     not-zero : (n : ℕ) → nat_eq (suc n) 0 ≡ false
     not-zero n = search (rules, arith)
 
-pub none-is : (n low : ℕ) (high : Option ℕ) (d : Core) (b : Bool) (p : Part) → width d ≡ 0 → b ≡ nat_eq low 0 || nullable d → p ≡ record { rows = []; first = []; may_be_empty = b } → p ≡ part n (trim (range d low high))
-none-is n low high d b p h eb ep = ep ∙ rw eb (part-none n low high d h)
+pub none-is : (n low : ℕ) (high : Option ℕ) (d : Core) (b : Bool) (p : Part) → width d ≡ 0 → b ≡ nat_eq low 0 || nullable d → p ≡ record { rows = []; first = []; may_be_empty = b } → Alike p (part n (trim (range d low high)))
+none-is n low high d b p h eb ep = alike-is p (part n (trim (range d low high))) (ep ∙ rw eb (part-none n low high d h))
 
 pub if_ok-map : {A E : Type 0} (P Q : A → Type 0) (r : Result A E) → ((x : A) → P x → Q x) → IfOk r P → IfOk r Q
 if_ok-map P Q (Ok x) f h = f x h

@@ -7,7 +7,9 @@ pub mod Table
 pub mod Numbers
 pub mod Runs
 pub mod States
+pub mod Members
 pub mod Bits
+pub mod Alike
 pub mod Groups
 pub mod Known
 pub mod Prints

@@ -1,6 +1,8 @@
 //! Sets of small numbers as the bits of words.
-ghost use Rattle.std.specs.Prelude.{◌≡◌, ◌*◌, ◌<◌, ℕ, ◌||◌, eqb, replicate, length, IfOk};
-ghost use Rattle.pm_auto.specs.Bits.{is_in, Holds};
+ghost use Rattle.std.specs.Prelude.{◌≡◌, ◌*◌, ◌<◌, ◌≤◌, ℕ, ◌||◌, eqb, replicate, length, IfOk, OnOk};
+ghost use Rattle.pm_auto.specs.States.{has};
+ghost use Rattle.pm_auto.specs.Members.{is_in};
+ghost use Rattle.pm_auto.specs.Bits.{Holds};
 
 use pm_list::Listed;
 use std::alloc::{AllocError, Global};
@@ -31,16 +33,37 @@ fn put(words: &mut Vec<u64>, number: usize)
     words[number / 64] = word | (1 << (number % 64));
 }
 
-/// Puts the numbers of the other set into the set.
+/// Puts the numbers of the other set into the set, as far as its words reach.
 pub(crate) fn join(words: &mut Vec<u64>, more: &[u64])
-    requires { length more.now ≡ length words.old.items }
     ensures same { length words.new.items ≡ length words.old.items }
-    ensures joined { (j : ℕ) → is_in words.new.items j ≡ (is_in words.old.items j || is_in more.now j) }
+    ensures joined { (j : ℕ) → j < 64 * length words.old.items → is_in words.new.items j ≡ (is_in words.old.items j || is_in more.now j) }
 {
-    for (i, word) in more.iter().enumerate() {
+    for i in 0..words.len().min(more.len()) {
         let old = words[i];
-        words[i] = old | *word;
+        words[i] = old | more[i];
     }
+}
+
+/// Gives the set at least so many words.
+pub(crate) fn widen(words: &mut Vec<u64>, count: usize) -> Result<(), AllocError>
+    ensures long { OnOk result (count ≤ length words.new.items) }
+    ensures same { OnOk result ((j : ℕ) → is_in words.new.items j ≡ is_in words.old.items j) }
+{
+    if words.len() < count {
+        words.resize(count, 0)?;
+    }
+    Ok(())
+}
+
+/// Puts the numbers into the set, which grows where it must.
+pub(crate) fn put_each(words: &mut Vec<u64>, numbers: &[usize]) -> Result<(), AllocError>
+    ensures { OnOk result ((j : ℕ) → is_in words.new.items j ≡ (is_in words.old.items j || has j numbers.now)) }
+{
+    for number in numbers {
+        widen(words, *number / 64 + 1)?;
+        put(words, *number);
+    }
+    Ok(())
 }
 
 /// The numbers of the list that are below `count`, as a set.

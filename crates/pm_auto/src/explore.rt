@@ -2,7 +2,7 @@
 ghost use Rattle.std.specs.Prelude.{◌≡◌, ◌<◌, ◌*◌, Bool, true, false, length, IfOk, IfErr, OnOk, MatchOption};
 ghost use Rattle.pm_auto.specs.States.{Below, Apart, Edges_of, Too_many, set_at};
 ghost use Rattle.pm_auto.specs.Automata.{Is_automaton};
-ghost use Rattle.pm_auto.specs.Bits.{as_set, Is_table};
+ghost use Rattle.pm_auto.specs.Bits.{as_set};
 ghost use Rattle.pm_auto.specs.Groups.{Are_twins};
 ghost use Rattle.pm_auto.specs.Known.{All_known};
 ghost use Rattle.pm_auto.specs.Prints.{print_of, Are_prints};
@@ -11,9 +11,9 @@ ghost use Rattle.pm_auto.specs.Found.{Found, Grows, Placed, Only_wide};
 use crate::auto::{Auto, Edge, State};
 use crate::error::AutoError;
 use crate::groups::{group, list_at, twins};
-use crate::known::{Known, print, print_of_list, recall};
+use crate::known::{Known, KnownStates, no_states, print, print_of_list, recall, remember};
 use crate::places::Row;
-use crate::sets::{BitSet, PlaceSet, after, as_list, follow_table};
+use crate::sets::{BitSet, PlaceSet, after, as_list};
 use pm_list::Listed;
 use std::alloc::Global;
 
@@ -77,19 +77,19 @@ fn reach(
     rows: &[Row],
     sets: &mut Listed<PlaceSet>,
     prints: &mut Listed<u64>,
-    known: &mut Listed<Known>,
+    known: &mut KnownStates,
     next: BitSet,
 ) -> Result<State, AutoError>
     requires room { length rows.now < 64 * length next.words }
     requires prints { Are_prints sets.old prints.old }
-    requires known { All_known rows.now sets.old known.old }
+    requires known { All_known rows.now sets.old known.old.states }
     ensures ok { IfOk result (λ t. Placed sets.old (as_set rows.now next) t sets.new) }
     ensures prints { OnOk result (Are_prints sets.new prints.new) }
-    ensures known { OnOk result (All_known rows.now sets.new known.new) }
+    ensures known { OnOk result (All_known rows.now sets.new known.new.states) }
     ensures err { IfErr result (λ e. Only_wide (Apart (as_set rows.now next) sets.old × (999 < length sets.old)) e) }
 {
     let print = print(&next);
-    if let Some(state) = recall(known.as_slice(), &next, print) {
+    if let Some(state) = recall(known, &next, print) {
         return Ok(state);
     }
     let set = as_list(alloc, rows, &next)?;
@@ -97,11 +97,14 @@ fn reach(
         Ok(state) => state,
         Err(error) => return Err(error),
     };
-    known.push(Known {
-        set: next,
-        print,
-        state,
-    })?;
+    remember(
+        known,
+        Known {
+            set: next,
+            print,
+            state,
+        },
+    )?;
     Ok(state)
 }
 
@@ -110,24 +113,22 @@ fn reach(
 fn edges_of(
     alloc: Global,
     rows: &[Row],
-    table: &[Listed<u64>],
     twins: &[usize],
     sets: &mut Listed<PlaceSet>,
     prints: &mut Listed<u64>,
-    known: &mut Listed<Known>,
+    known: &mut KnownStates,
     at: State,
 ) -> Result<Listed<Edge>, AutoError>
-    requires table { Is_table rows.now table.now }
     requires twins { Are_twins rows.now twins.now }
     requires found { Found rows.now sets.old }
     requires prints { Are_prints sets.old prints.old }
-    requires known { All_known rows.now sets.old known.old }
+    requires known { All_known rows.now sets.old known.old.states }
     requires within { at < length sets.old }
     ensures edges { IfOk result (λ es. Edges_of rows.now sets.new (set_at sets.old at) es) }
     ensures grows { OnOk result (Grows sets.old sets.new) }
     ensures found { OnOk result (Found rows.now sets.new) }
     ensures prints { OnOk result (Are_prints sets.new prints.new) }
-    ensures known { OnOk result (All_known rows.now sets.new known.new) }
+    ensures known { OnOk result (All_known rows.now sets.new known.new.states) }
     ensures err { IfErr result (λ e. Only_wide (Too_many rows.now (set_at sets.old 0)) e) }
 {
     let places = sets.as_slice()[at].places.as_slice();
@@ -137,7 +138,7 @@ fn edges_of(
         let row = &rows[*head];
         let kind = row.kind;
         let same = list_at(groups.lists.as_slice(), twins[*head]);
-        let next = after(alloc, rows, table, same, kind)?;
+        let next = after(alloc, rows, same, kind)?;
         let to = match reach(alloc, rows, sets, prints, known, next) {
             Ok(to) => to,
             Err(error) => return Err(error),
@@ -153,20 +154,18 @@ pub fn explore(alloc: Global, rows: &[Row], start: PlaceSet) -> Result<Auto, Aut
     ensures ok { IfOk result (λ a. Is_automaton rows.now start a) }
     ensures err { IfErr result (λ e. Only_wide (Too_many rows.now start) e) }
 {
-    let table = follow_table(alloc, rows)?;
     let twins = twins(alloc, rows)?;
     let mut prints = Listed::new(alloc);
     prints.push(print_of_list(&start))?;
     let mut sets = Listed::new(alloc);
     sets.push(start)?;
-    let mut known: Listed<Known> = Listed::new(alloc);
+    let mut known = no_states(alloc, rows.len())?;
     let mut edges: Listed<Listed<Edge>> = Listed::new(alloc);
     'states: while edges.len() < sets.len() {
         let at = edges.len();
         let next = edges_of(
             alloc,
             rows,
-            table.as_slice(),
             twins.as_slice(),
             &mut sets,
             &mut prints,

@@ -1,5 +1,6 @@
 //! The places of a whole expression.
 ghost use Rattle.std.specs.Prelude.{◌≡◌, ◌+◌, ◌*◌, ◌≤◌, [], true, map, IfOk};
+ghost use Rattle.pm_auto.specs.Alike.{Alike};
 ghost use Rattle.pm_auto.specs.Core.{Never, Empty};
 ghost use Rattle.pm_auto.specs.Expand.{expand, and_copies, range, optional as option_of, one_of, in_turn};
 ghost use Rattle.pm_auto.specs.Trim.{trim};
@@ -14,7 +15,7 @@ use std::alloc::{AllocError, Global};
 #[cycle(lay_out)]
 pub fn lay_out(alloc: Global, expr: &Expr, from: usize) -> Result<Part, AllocError>
     requires { from + places (expand expr.now) ≤ 4096 }
-    ensures { IfOk result (λ p. p ≡ part_of from (trim (expand expr.now))) }
+    ensures { IfOk result (λ p. Alike p (part_of from (trim (expand expr.now)))) }
 {
     match expr {
         Expr::Empty => Ok(no_places(alloc, true)),
@@ -49,7 +50,7 @@ fn optional(alloc: Global, part: Part) -> Result<Part, AllocError>
 #[cycle(lay_out)]
 fn lay_out_choice(alloc: Global, items: &[Expr], from: usize) -> Result<Part, AllocError>
     requires { from + widths (map expand items.now) ≤ 4096 }
-    ensures { IfOk result (λ p. p ≡ part_of from (trim (one_of Never (map expand items.now)))) }
+    ensures { IfOk result (λ p. Alike p (part_of from (trim (one_of Never (map expand items.now))))) }
 {
     let mut part = no_places(alloc, false);
     for item in items {
@@ -63,7 +64,7 @@ fn lay_out_choice(alloc: Global, items: &[Expr], from: usize) -> Result<Part, Al
 #[cycle(lay_out)]
 fn lay_out_sequence(alloc: Global, items: &[Expr], from: usize) -> Result<Part, AllocError>
     requires { from + widths (map expand items.now) ≤ 4096 }
-    ensures { IfOk result (λ p. p ≡ part_of from (trim (in_turn Empty (map expand items.now)))) }
+    ensures { IfOk result (λ p. Alike p (part_of from (trim (in_turn Empty (map expand items.now))))) }
 {
     let mut part = no_places(alloc, true);
     for item in items {
@@ -83,7 +84,7 @@ fn lay_out_range(
     from: usize,
 ) -> Result<Part, AllocError>
     requires { from + places (range (expand inner.now) low high) ≤ 4096 }
-    ensures { IfOk result (λ p. p ≡ part_of from (trim (range (expand inner.now) low high))) }
+    ensures { IfOk result (λ p. Alike p (part_of from (trim (range (expand inner.now) low high)))) }
 {
     if width(inner) == 0 {
         let once = lay_out(alloc, inner, from)?;
@@ -108,7 +109,7 @@ fn lay_out_range(
 #[cycle(lay_out)]
 fn lay_out_copies(alloc: Global, inner: &Expr, low: u32, from: usize) -> Result<Part, AllocError>
     requires { from + low * places (expand inner.now) ≤ 4096 }
-    ensures { IfOk result (λ p. p ≡ part_of from (trim (and_copies Empty low (expand inner.now)))) }
+    ensures { IfOk result (λ p. Alike p (part_of from (trim (and_copies Empty low (expand inner.now))))) }
 {
     let mut part = no_places(alloc, true);
     for _i in 0..low {
@@ -128,9 +129,9 @@ fn lay_out_more(
     more: u32,
     from: usize,
 ) -> Result<Part, AllocError>
-    requires begun { part ≡ part_of from (trim (and_copies Empty low (expand inner.now))) }
+    requires begun { Alike part (part_of from (trim (and_copies Empty low (expand inner.now)))) }
     requires narrow { from + (low * places (expand inner.now) + more * places (expand inner.now)) ≤ 4096 }
-    ensures { IfOk result (λ p. p ≡ part_of from (trim (and_copies (and_copies Empty low (expand inner.now)) more (option_of (expand inner.now))))) }
+    ensures { IfOk result (λ p. Alike p (part_of from (trim (and_copies (and_copies Empty low (expand inner.now)) more (option_of (expand inner.now)))))) }
 {
     let mut part = part;
     for _i in 0..more {

@@ -13,6 +13,7 @@ mod groups;
 mod known;
 mod layout;
 mod mixed;
+pub mod numbers;
 pub mod places;
 mod search;
 pub mod sets;

@@ -1,8 +1,10 @@
 //! The places of an expression, and how they follow one another.
-ghost use Rattle.std.specs.Prelude.{◌≡◌, ◌++◌, ◌∷◌, [], map, true, false, IfOk, OnOk};
-ghost use Rattle.pm_auto.specs.Table.{onward, one_or, one_then, both_parts, passes, repeated};
+ghost use Rattle.std.specs.Prelude.{◌≡◌, ◌∷◌, [], map, true, false, IfOk};
+ghost use Rattle.pm_auto.specs.Alike.{Alike, Alike_row, Alike_rows};
+ghost use Rattle.pm_auto.specs.Table.{again, onward, one_or, one_then, both_parts, passes, repeated};
 
 use crate::expr::TypeId;
+use crate::numbers::NumberSet;
 use pm_list::Listed;
 use std::alloc::{AllocError, Global};
 
@@ -11,7 +13,7 @@ use std::alloc::{AllocError, Global};
 #[derive(Drop, Debug)]
 pub struct Row {
     pub kind: TypeId,
-    pub follow: Listed<usize>,
+    pub follow: NumberSet,
     pub ends: bool,
 }
 
@@ -41,7 +43,7 @@ pub(crate) fn one_place(alloc: Global, number: usize, kind: TypeId) -> Result<Pa
     let mut rows = Listed::new(alloc);
     rows.push(Row {
         kind,
-        follow: Listed::new(alloc),
+        follow: NumberSet::new(alloc),
         ends: true,
     })?;
     let mut first = Listed::new(alloc);
@@ -82,7 +84,7 @@ pub(crate) fn either(a: Part, b: Part) -> Result<Part, AllocError>
 
 /// One part and then the other. Where no list leads through one of them, none leads through the whole, and it has no places.
 pub(crate) fn then(alloc: Global, a: Part, b: Part) -> Result<Part, AllocError>
-    ensures { IfOk result (λ p. p ≡ one_then a b) }
+    ensures { IfOk result (λ p. Alike p (one_then a b)) }
 {
     if has_list(&a) && has_list(&b) {
         both(alloc, a, b)
@@ -100,7 +102,7 @@ fn has_list(part: &Part) -> bool
 
 /// One part and then the other, where lists lead through both.
 fn both(alloc: Global, a: Part, b: Part) -> Result<Part, AllocError>
-    ensures { IfOk result (λ p. p ≡ both_parts a b) }
+    ensures { IfOk result (λ p. Alike p (both_parts a b)) }
 {
     let Part {
         rows,
@@ -124,16 +126,18 @@ fn both(alloc: Global, a: Part, b: Part) -> Result<Part, AllocError>
     })
 }
 
-/// The part once or more often.
+/// The part once or more often. The places that may come first are made a set once, so that a repetition of what is repeated
+/// already adds nothing to what its places hold.
 pub(crate) fn repeat(alloc: Global, a: Part) -> Result<Part, AllocError>
-    ensures { IfOk result (λ p. p ≡ repeated a) }
+    ensures { IfOk result (λ p. Alike p (repeated a)) }
 {
     let Part {
         rows,
         first,
         may_be_empty,
     } = a;
-    let rows = go_on(alloc, rows, first.as_slice(), true)?;
+    let start = NumberSet::of(alloc, first.as_slice())?;
+    let rows = begin_again(alloc, rows, &start)?;
     Ok(Part {
         rows,
         first,
@@ -148,7 +152,7 @@ fn go_on(
     first: &[usize],
     ends: bool,
 ) -> Result<Listed<Row>, AllocError>
-    ensures { IfOk result (λ rs. rs ≡ map (onward first.now ends) rows) }
+    ensures { IfOk result (λ rs. Alike_rows rs (map (onward first.now ends) rows)) }
 {
     let mut all = Listed::new(alloc);
     for row in rows.into_vec() {
@@ -159,7 +163,7 @@ fn go_on(
 
 /// The same for one place.
 fn go_on_from(row: Row, first: &[usize], ends: bool) -> Result<Row, AllocError>
-    ensures { IfOk result (λ r. r ≡ onward first.now ends row) }
+    ensures { IfOk result (λ r. Alike_row r (onward first.now ends row)) }
 {
     let Row {
         kind,
@@ -167,7 +171,7 @@ fn go_on_from(row: Row, first: &[usize], ends: bool) -> Result<Row, AllocError>
         ends: may_end,
     } = row;
     if may_end {
-        extend(&mut follow, first)?;
+        follow.put_all(first)?;
     }
     Ok(Row {
         kind,
@@ -176,12 +180,32 @@ fn go_on_from(row: Row, first: &[usize], ends: bool) -> Result<Row, AllocError>
     })
 }
 
-/// Puts the numbers behind the last one.
-fn extend(list: &mut Listed<usize>, more: &[usize]) -> Result<(), AllocError>
-    ensures { OnOk result (list.new ≡ list.old ++ more.now) }
+/// Each place that may be the last goes on with these places, and stays one that may be the last.
+fn begin_again(
+    alloc: Global,
+    rows: Listed<Row>,
+    first: &NumberSet,
+) -> Result<Listed<Row>, AllocError>
+    ensures { IfOk result (λ rs. Alike_rows rs (map (again first.now) rows)) }
 {
-    for number in more {
-        list.push(*number)?;
+    let mut all = Listed::new(alloc);
+    for row in rows.into_vec() {
+        all.push(begin_again_from(row, first)?)?;
     }
-    Ok(())
+    Ok(all)
+}
+
+/// The same for one place.
+fn begin_again_from(row: Row, first: &NumberSet) -> Result<Row, AllocError>
+    ensures { IfOk result (λ r. Alike_row r (again first.now row)) }
+{
+    let Row {
+        kind,
+        mut follow,
+        ends,
+    } = row;
+    if ends {
+        follow.join(first)?;
+    }
+    Ok(Row { kind, follow, ends })
 }

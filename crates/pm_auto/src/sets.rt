@@ -2,7 +2,7 @@
 ghost use Rattle.std.specs.Prelude.{◌≡◌, ◌<◌, ◌*◌, IfOk, length};
 ghost use Rattle.pm_auto.specs.Runs.{next_rows, end_rows};
 ghost use Rattle.pm_auto.specs.States.{in_order as ordered, Below};
-ghost use Rattle.pm_auto.specs.Bits.{picked, as_set, Holds, Is_table};
+ghost use Rattle.pm_auto.specs.Bits.{picked, as_set, Holds};
 
 use crate::bits::{bits_of, is_set, join, no_bits};
 use crate::expr::TypeId;
@@ -59,36 +59,21 @@ pub(crate) fn in_order(
     choose(alloc, rows, words.as_slice())
 }
 
-/// For each place the places that may come next, as a set: so the lists are gone through once, and not for each state.
-pub(crate) fn follow_table(alloc: Global, rows: &[Row]) -> Result<Listed<Listed<u64>>, AllocError>
-    ensures { IfOk result (λ t. Is_table rows.now t) }
-{
-    let mut table: Listed<Listed<u64>> = Listed::new(alloc);
-    for row in rows {
-        let words = bits_of(alloc, rows.len(), row.follow.as_slice())?;
-        table.push(words)?;
-    }
-    Ok(table)
-}
-
 /// The set of the places that may come after those of the type.
 fn followers(
     alloc: Global,
     rows: &[Row],
-    table: &[Listed<u64>],
     places: &[usize],
     kind: TypeId,
 ) -> Result<Vec<u64>, AllocError>
-    requires table { Is_table rows.now table.now }
-    requires places { Below (length rows.now) places.now }
+    requires { Below (length rows.now) places.now }
     ensures { IfOk result (λ v. Holds (length rows.now) v.items (next_rows rows.now kind places.now)) }
 {
     let mut words = no_bits(alloc, rows.len() / 64 + 1)?;
     for place in places {
         let row = &rows[*place];
         if row.kind == kind {
-            let next = &table[*place];
-            join(&mut words, next.as_slice());
+            join(&mut words, row.follow.as_bits());
         }
     }
     Ok(words)
@@ -112,16 +97,14 @@ fn may_end(rows: &[Row], places: &[usize], kind: TypeId) -> bool
 pub(crate) fn after(
     alloc: Global,
     rows: &[Row],
-    table: &[Listed<u64>],
     places: &[usize],
     kind: TypeId,
 ) -> Result<BitSet, AllocError>
-    requires table { Is_table rows.now table.now }
-    requires places { Below (length rows.now) places.now }
+    requires { Below (length rows.now) places.now }
     ensures room { IfOk result (λ b. length rows.now < 64 * length b.words) }
     ensures is { IfOk result (λ b. as_set rows.now b ≡ record { places = ordered (next_rows rows.now kind places.now) 0 rows.now; ends = end_rows rows.now kind places.now }) }
 {
-    let words = followers(alloc, rows, table, places, kind)?;
+    let words = followers(alloc, rows, places, kind)?;
     Ok(BitSet {
         words: Listed::from_vec(words),
         ends: may_end(rows, places, kind),

@@ -1,6 +1,6 @@
 use Rattle.std.proofs.Common.{◌≡◌, ◌+◌, ◌/◌, ℕ, ◌<◌, length, drop, ◌||◌}
 use Rattle.pm_auto.specs.States.{has}
-use Rattle.pm_auto.specs.Bits.{is_in}
+use Rattle.pm_auto.specs.Members.{is_in}
 use Rattle.pm_auto.proofs.bits.bits_of.Given as goal
 
 abbrev pub invariant-loop-number : goal.invariant-loop-number

@@ -1,7 +1,11 @@
-use Rattle.std.proofs.Common.{◌≡◌, ◌∙◌, ◌/◌, ◌<◌, ℕ, inl, inr, sym, ap, arith, length, get_or, bit_or, below_more, length-set, get_or-set_same, get_or-set_other}
+use Rattle.std.proofs.Common.{◌≡◌, ◌∙◌, ◌/◌, ◌%◌, ◌<◌, ◌||◌, eqb, ℕ, inl, inr, sym, ap, arith, length, get_or, bit_or, below_more, length-set, get_or-set_same, get_or-set_other}
 use Rattle.std.proofs.lemmas.Bool.{cases_lt}
 use Rattle.std.proofs.lemmas.List.{get_or_read}
-use Rattle.pm_auto.proofs.BitLaws.{in-union, past-both}
+use Rattle.std.specs.Int.{bit_at}
+use Rattle.pm_auto.specs.Members.{is_in}
+use Rattle.pm_auto.proofs.BitLaws.{in-union}
+use Rattle.pm_auto.proofs.MemberLaws.{in-past}
+use Rattle.pm_auto.proofs.SetLaws.{or-false}
 use Rattle.pm_auto.proofs.bits.join.Goals as goal
 
 pub loop-i-preserved : goal.loop-i-preserved
@@ -19,10 +23,11 @@ loop-i-preserved c =
     }
 
 pub returns-clause-joined : goal.returns-clause-joined
-returns-clause-joined c = λ j.
+returns-clause-joined c = λ j room.
     let inv = c.loop-i.invariant in
-    in-union c.args.words.now.items c.args.more.now c.loop-i.words.items j
-    (elim (cases_lt (j / 64) c.loop-i.i) [
-      | inl h ↦ inv.done (j / 64) h
-      | inr h ↦ past-both c.args.words.now.items c.args.more.now c.loop-i.words.items (j / 64) (sym inv.long) (omega (arith, inv.long, c.requires)) (omega (arith, inv.long, c.requires, c.loop-i-test.false))
-    ])
+    elim (cases_lt (j / 64) c.loop-i.i) [
+      | inl h ↦ in-union c.args.words.now.items c.args.more.now c.loop-i.words.items j (inv.done (j / 64) h)
+      | inr h ↦
+          ap (λ w. eqb (bit_at w (j % 64)) 1) (inv.left (j / 64) h)
+          ∙ sym (ap (λ b. is_in c.args.words.now.items j || b) (in-past c.args.more.now j (omega arith)) ∙ or-false (is_in c.args.words.now.items j))
+    ]

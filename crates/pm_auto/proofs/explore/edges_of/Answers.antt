@@ -23,8 +23,8 @@ loop-head-init c =
     let d : Are_groups c.args.rows.now (set_at c.args.sets.now c.args.at).places c.in_ok-groups.groups = subst (λ (ns : List ℕ). Are_groups c.args.rows.now ns c.in_ok-groups.groups) ps c.in_ok-groups.ensures in
     (c.requires.found, ([], sym (append-nil c.args.sets.now)), rw c.new-edges.ensures tt, rw c.new-edges.ensures (sym (take-zero (once [] (kinds c.args.rows.now (set_at c.args.sets.now c.args.at).places)))), c.requires.known, heads-below c.args.rows.now (set_at c.args.sets.now c.args.at).places b c.in_ok-groups.groups d c.as_slice-head-items.result.now c.as_slice-head-items.ensures, c.requires.prints)
 
-pub after-requires-clause-places : goal.after-requires-clause-places
-after-requires-clause-places c =
+pub after-requires : goal.after-requires
+after-requires c =
     let e0 : c.index-as_slice-at.result ≡ set_at c.args.sets.now c.args.at = at-is c.args.sets.now c.as_slice.result.now c.args.at c.index-as_slice-at.result c.as_slice.ensures c.requires.within c.index-as_slice-at.is in
     let ps : c.as_slice-places.result.now ≡ (set_at c.args.sets.now c.args.at).places = c.as_slice-places.ensures ∙ ap (λ (s : PlaceSet). s.places) (sym c.index-as_slice-at.is ∙ e0) in
     let b : Below (length c.args.rows.now) (set_at c.args.sets.now c.args.at).places = below-at (length c.args.rows.now) c.args.sets.now c.args.at c.requires.within c.requires.found.below in

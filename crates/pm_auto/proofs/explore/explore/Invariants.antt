@@ -6,7 +6,7 @@ use Rattle.pm_auto.specs.Found.{Found}
 use Rattle.pm_auto.proofs.explore.explore.Given as goal
 
 abbrev pub invariant-states : goal.invariant-states
-invariant-states l = Found l.rows l.sets × (set_at l.sets 0 ≡ l.fn.start) × All_edges l.rows l.sets l.sets l.edges × (length l.edges ≤ length l.sets) × All_known l.rows l.sets l.known × Are_prints l.sets l.prints
+invariant-states l = Found l.rows l.sets × (set_at l.sets 0 ≡ l.fn.start) × All_edges l.rows l.sets l.sets l.edges × (length l.edges ≤ length l.sets) × All_known l.rows l.sets l.known.states × Are_prints l.sets l.prints
 
 abbrev pub decreases-states : goal.decreases-states
 decreases-states l = 1000 - length l.edges

@@ -1,6 +1,7 @@
-use Rattle.std.proofs.Common.{◌≡◌, map}
+use Rattle.std.proofs.Common.{map}
 use Rattle.pm_auto.specs.Table.{onward}
+use Rattle.pm_auto.specs.Alike.{Alike_rows}
 use Rattle.pm_auto.proofs.places.go_on.Given as goal
 
 abbrev pub invariant-loop-row : goal.invariant-loop-row
-invariant-loop-row l = l.all ≡ map (onward l.first l.ends) l.yielded
+invariant-loop-row l = Alike_rows l.all (map (onward l.first l.ends) l.yielded)

@@ -1,7 +1,7 @@
 use Rattle.std.proofs.Common.{◌≡◌, ◌+◌, ◌/◌, ℕ, ◌<◌, length, drop, ◌||◌}
 use Rattle.pm_auto.specs.States.{has, Below}
 use Rattle.pm_auto.specs.Runs.{next_rows}
-use Rattle.pm_auto.specs.Bits.{is_in}
+use Rattle.pm_auto.specs.Members.{is_in}
 use Rattle.pm_auto.proofs.sets.followers.Given as goal
 
 abbrev pub invariant-loop-place : goal.invariant-loop-place
