@@ -2,12 +2,11 @@
 ghost use Rattle.std.specs.Prelude.{◌≤◌};
 
 use crate::carrying::carried;
-use crate::growing::Growing;
 use crate::ranges::Edits;
 use crate::round::Round;
 use crate::time::nanos_since;
 use anyhow::{Result, ensure};
-use pm_frames::Frames;
+use pm_frames::{Frames, Growing};
 use pm_map::Mapping;
 use std::rt::Clock;
 use std::time::Instant;

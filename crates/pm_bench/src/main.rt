@@ -8,7 +8,6 @@ mod desk;
 mod frames;
 #[cfg(test)]
 mod frames_tests;
-mod growing;
 mod maps;
 mod numbers;
 mod plan;
