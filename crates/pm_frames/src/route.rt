@@ -69,7 +69,12 @@ impl Growing for Route {
     }
 }
 
-/// Whether so few steps are to be carried over so many others that going over each map costs less than composing frames.
+/// Whether going over each map costs less than composing frames. By measure composing costs as much as 75 maps for each pending
+/// step and 220 for each foreign one.
 fn is_short(foreign: usize, pending: usize) -> bool {
-    pending < 80 || (foreign >= 10 && pending < 150)
+    let each = pending.saturating_mul(pending.saturating_add(foreign));
+    let composed = pending
+        .saturating_mul(75)
+        .saturating_add(foreign.saturating_mul(220));
+    each < composed
 }
