@@ -74,17 +74,17 @@ both() {
   row "$other" "$(echo "$ours" | cut -d ' ' -f 3)" "$(echo "$theirs" | cut -d ' ' -f 3)"
 }
 
-# carried LABEL WORDS..: maps carried by frames, beside ProseMirror, and beside our own mapping
+# carried LABEL WORDS..: maps carried by a route, as a client does, beside ProseMirror, and beside our own mapping
 carried() {
   label=$1
   shift
   sides "$program" "$here/prosemirror.js" /dev/null "$@"
-  frames=$(echo "$ours" | cut -d ' ' -f 2)
-  row "$label" "$frames" "$(echo "$theirs" | cut -d ' ' -f 2)"
-  row "  beside our own mapping" "$frames" "$(echo "$ours" | cut -d ' ' -f 3)"
+  route=$(echo "$ours" | cut -d ' ' -f 2)
+  row "$label" "$route" "$(echo "$theirs" | cut -d ' ' -f 2)"
+  row "  beside our own mapping" "$route" "$(echo "$ours" | cut -d ' ' -f 3)"
 }
 
-# alone LABEL WORDS..: maps carried by frames, of which there are too many for what stands beside them
+# alone LABEL WORDS..: maps carried by a route, of which there are too many for what stands beside them
 alone() {
   label=$1
   shift
@@ -166,7 +166,7 @@ both "automata of 60 types, 64 nested choices" "  60,000 steps over them" bracke
 title "maps, milliseconds" "ours" "ProseMirror"
 both "200 pending maps carried over 2,000 foreign ones" "  1,000 positions over all of them" maps 200 2000 20
 
-title "pending maps carried by frames, milliseconds" "by frames" "beside it"
+title "pending maps carried over foreign ones, milliseconds" "a route" "beside it"
 for foreign in 1 10 100; do
   carried "100 typed letters over $foreign" frames $foreign 100 50
   carried "1,000" frames $foreign 1000 10

@@ -11,7 +11,8 @@ use Rattle.pm_map.specs.Through.{through, ArePaired}
 use Rattle.pm_map.specs.Fits.{FitsSizes, FitBetween}
 use Rattle.pm_map.specs.Positions.{MayLead, EachLed}
 use Rattle.pm_map.proofs.Sizes.{inverted-fits, position-fits}
-use Rattle.pm_bench.specs.Growing.{HasPushed, HasFronted, HasEnclosed, StandsFor}
+use Rattle.pm_frames.specs.Growing.{HasPushed, HasFronted, HasEnclosed}
+use Rattle.pm_bench.specs.Growing.{StandsFor}
 
 -- a map of one range fits the size in which the range lies
 pub one-fits : (r : Span) (n : ℕ) → r.start + r.old_size ≤ n → FitsSizes (r ∷ []) n ((n - r.old_size) + r.new_size)

@@ -2,9 +2,9 @@
 ghost use Rattle.std.specs.Prelude.{◌≡◌, ℕ, ◌+◌, ◌*◌, ◌≤◌, ◌<◌, ◌^◌, IfOk};
 ghost use Rattle.pm_bench.specs.Growing.{StandsFor};
 
-use crate::growing::Growing;
 use crate::numbers::Numbers;
 use crate::ranges::{Edits, SIZE, map_of};
+use pm_frames::Growing;
 use pm_map::{Side, Span};
 use std::alloc::{AllocError, Global};
 
@@ -28,7 +28,7 @@ pub fn carried<P: Growing>(
     ensures leads { IfOk result (λ r. StandsFor P.leads r.0 (pending + foreign) r.1.first r.1.last) }
     ensures small { IfOk result (λ r. r.1.first < 2 ^ 32) }
 {
-    let (mut positions, mut ends) = over_foreign::<P>(alloc, foreign)?;
+    let (mut positions, mut ends) = over_foreign::<P>(alloc, foreign, pending)?;
     let mut numbers = Numbers::new(1);
     for i in 0..pending {
         let range = edits.range(&mut numbers, i, ends.first);
@@ -37,15 +37,19 @@ pub fn carried<P: Growing>(
     Ok((positions, ends))
 }
 
-/// What tells positions over the maps of foreign steps.
-fn over_foreign<P: Growing>(alloc: Global, foreign: u32) -> Result<(P, Ends), AllocError>
+/// What tells positions over the maps of foreign steps, over which so many pending ones are to be carried.
+fn over_foreign<P: Growing>(
+    alloc: Global,
+    foreign: u32,
+    pending: u32,
+) -> Result<(P, Ends), AllocError>
     requires { foreign ≤ 100000 }
     ensures leads { IfOk result (λ r. StandsFor P.leads r.0 foreign r.1.first r.1.last) }
     ensures first { IfOk result (λ r. r.1.first ≡ 100000) }
     ensures last { IfOk result (λ r. r.1.last ≤ 100000 + 3 * foreign) }
 {
     let mut numbers = Numbers::new(2);
-    let mut positions = P::empty(alloc);
+    let mut positions = P::for_steps(alloc, foreign as usize, pending as usize);
     let mut ends = Ends {
         first: SIZE,
         last: SIZE,

@@ -1,13 +1,12 @@
-//! Pending steps carried by frames, and the same over each map of a mapping.
+//! Pending steps carried as a client carries them, and the same over each map of a mapping.
 ghost use Rattle.std.specs.Prelude.{◌≤◌};
 
 use crate::carrying::carried;
-use crate::growing::Growing;
 use crate::ranges::Edits;
 use crate::round::Round;
 use crate::time::nanos_since;
 use anyhow::{Result, ensure};
-use pm_frames::Frames;
+use pm_frames::{Growing, Route};
 use pm_map::Mapping;
 use std::rt::Clock;
 use std::time::Instant;
@@ -15,9 +14,9 @@ use std::time::Instant;
 /// With more pending steps than these the mapping is left out, where time grows as their square.
 const MOST_OVER_EACH: u32 = 10_000;
 
-/// Times the carrying of the maps of `pending` steps over `foreign` ones by frames, and then the same over a mapping, where
-/// there are few enough of them; else the second time is 1. What was computed is the sum of all positions that came out, in
-/// which both have to agree.
+/// Times the carrying of the maps of `pending` steps over `foreign` ones by a route, which a client takes, and then the same
+/// over a mapping, where there are few enough of them; else the second time is 1. What was computed is the sum of all
+/// positions that came out, in which both have to agree.
 pub fn measure<R: Clock + AllocGlobal>(
     rt: &R,
     edits: Edits,
@@ -27,7 +26,7 @@ pub fn measure<R: Clock + AllocGlobal>(
     requires foreign { foreign ≤ 100000 }
     requires pending { pending ≤ 100000 }
 {
-    let (check, first) = timed::<R, Frames>(rt, edits, foreign, pending)?;
+    let (check, first) = timed::<R, Route>(rt, edits, foreign, pending)?;
     if pending > MOST_OVER_EACH {
         return Ok(Round {
             check,
@@ -36,7 +35,7 @@ pub fn measure<R: Clock + AllocGlobal>(
         });
     }
     let (plain, second) = timed::<R, Mapping>(rt, edits, foreign, pending)?;
-    ensure!(plain == check, "frames and the mapping differ");
+    ensure!(plain == check, "the route and the mapping differ");
     Ok(Round {
         check,
         first,

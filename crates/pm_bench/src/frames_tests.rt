@@ -3,9 +3,8 @@ ghost use Rattle.std.specs.Prelude.{ℕ, ◌+◌, ◌≤◌, ◌<◌, IfOk, IsTr
 ghost use Rattle.pm_bench.specs.Growing.{StandsFor};
 
 use crate::carrying::{Ends, carry, follow};
-use crate::growing::Growing;
 use anyhow::{Result, ensure};
-use pm_frames::Frames;
+use pm_frames::{Frames, Growing, Route};
 use pm_map::{Mapping, Moved, Side, Span};
 use std::alloc::Global;
 
@@ -44,7 +43,7 @@ fn over<P: Growing>(alloc: Global, size: u64, foreign: &[Span]) -> Result<(P, En
     ensures small { IfOk result (λ r. r.1.first < 1000) }
 {
     ensure!(size < 1_000, "too large");
-    let mut positions = P::empty(alloc);
+    let mut positions = P::for_steps(alloc, foreign.len(), 1);
     let mut ends = Ends {
         first: size,
         last: size,
@@ -104,7 +103,7 @@ fn text_of(alloc: Global, places: &[Moved]) -> Result<String> {
     Ok(text)
 }
 
-/// Where all positions of the last document go, which frames and a mapping have to tell alike.
+/// Where all positions of the last document go, which frames, a mapping and a client's route have to tell alike.
 fn both(
     alloc: Global,
     size: u64,
@@ -117,6 +116,11 @@ fn both(
     ensure!(
         frames.as_slice() == each.as_slice(),
         "frames and the mapping differ"
+    );
+    let route = places::<Route>(alloc, size, foreign, pending, side)?;
+    ensure!(
+        route.as_slice() == each.as_slice(),
+        "a route and the mapping differ"
     );
     text_of(alloc, frames.as_slice())
 }

@@ -8,7 +8,6 @@ mod desk;
 mod frames;
 #[cfg(test)]
 mod frames_tests;
-mod growing;
 mod maps;
 mod numbers;
 mod plan;
@@ -38,11 +37,11 @@ sequences TYPES ITEMS     the automata of this many expressions, each a sequence
 choices TYPES ITEMS       the automata of this many expressions, each a repeated choice
 brackets TYPES DEPTH      the automata of this many expressions, each of nested choices
 maps PENDING FOREIGN      maps of pending steps carried over foreign ones, and positions mapped over them all
-frames FOREIGN PENDING    maps of letters typed one behind another, carried over foreign ones by frames, and by a mapping
+frames FOREIGN PENDING    maps of letters typed one behind another, carried over foreign ones as a client does, and by a mapping
 scattered FOREIGN PENDING the same of ranges drawn by chance
 
 It writes a number that says what was computed, and the nanoseconds of the two parts, the least of all repeats.
-For more than 10,000 pending maps that are carried by frames the mapping is left out, and the second part is 1.";
+For more than 10,000 pending maps the mapping is left out, and the second part is 1.";
 
 /// Takes one measurement as often as is asked, and writes the best figures.
 fn main(rt: HostRuntime) -> Result<ExitCode> {

@@ -1,13 +1,13 @@
--- Frames to which the maps of steps were pushed one after another.
+-- A route to which the maps of steps were pushed one after another.
 use Rattle.std.proofs.Common.{◌≡◌, ℕ, ◌+◌, ◌<◌, ◌^◌, List, [], ◌∷◌, ◌++◌, length, drop, get_or, suc, sym, ap, subst, ◌∙◌, append_assoc, append-nil, add-one, refl}
 use Rattle.std.proofs.Math.Seq.{drop-cons}
 use Rattle.pm_map.specs.declared.mapping.Mirrored.{Mirrored}
 use Rattle.pm_map.specs.Mirrors.{pushed}
 use Rattle.pm_map.specs.Fits.{FitsSizes, FitBetween}
-use Rattle.pm_map.proofs.Sizes.{fit-behind}
-use Rattle.pm_frames.specs.declared.frames.Frames.{Frames}
+use Rattle.pm_frames.specs.declared.route.Route.{Route}
 use Rattle.pm_frames.specs.Courses.{AreSmall}
-use Rattle.pm_frames.specs.Stacks.{Reads, Leads}
+use Rattle.pm_frames.specs.Growing.{HasPushed}
+use Rattle.pm_frames.specs.Routes.{Guides}
 use Rattle.pm_frames.proofs.Small.{sizes-small}
 use Rattle.pm_change.specs.Changes.{Meaning}
 use Rattle.pm_authority.specs.declared.named.Named.{Named}
@@ -18,23 +18,23 @@ first-small [] n k h = h.0
 first-small (e ∷ es) n k (mid, h) = h.0
 
 module _ {Rules Doc Reason C : Type 0} (m : Meaning Rules Doc Reason C) where
-  -- the frames stand for the maps of the steps before a place, and those of the rest lead on
-  pub record Pushed (steps : List (Named C)) (i : ℕ) (frames : Frames) (n k : ℕ) : Type 0 where
+  -- the route stands for the maps of the steps before a place, and the maps of the rest lead on
+  pub record Pushed (steps : List (Named C)) (i : ℕ) (route : Route) (n k : ℕ) : Type 0 where
     pub maps : List Mirrored
     pub mid : ℕ
     pub whole : maps ++ maps_of m (drop i steps) ≡ maps_of m steps
-    pub leads : Leads frames maps n mid
+    pub leads : Guides route maps n mid
     pub rest : FitBetween (maps_of m (drop i steps)) mid k
 
-  abbrev pub HasPushed : List (Named C) → ℕ → Frames → Type 0
-  HasPushed steps i frames = (n k : ℕ) → FitBetween (maps_of m steps) n k → Pushed steps i frames n k
+  abbrev pub HasCome : List (Named C) → ℕ → Route → Type 0
+  HasCome steps i route = (n k : ℕ) → FitBetween (maps_of m steps) n k → Pushed steps i route n k
 
-  pub none-pushed : (steps : List (Named C)) (frames : Frames) → ((n : ℕ) → n < 2 ^ 32 → Reads frames [] n n) → HasPushed steps 0 frames
-  none-pushed steps frames new n k fits =
+  pub none-pushed : (steps : List (Named C)) (route : Route) → ((n : ℕ) → n < 2 ^ 32 → Guides route [] n n) → HasCome steps 0 route
+  none-pushed steps route new n k fits =
       let small = first-small (maps_of m steps) n k fits in
-      record { maps = []; mid = n; whole = refl; leads = record { reads = new n small; fits = (small, refl) }; rest = fits }
+      record { maps = []; mid = n; whole = refl; leads = new n small; rest = fits }
 
-  module _ (steps : List (Named C)) (i : ℕ) (n : Named C) (within : i < length steps) (is : n ≡ get_or steps i n) (frames : Frames) (was : HasPushed steps i frames) where
+  module _ (steps : List (Named C)) (i : ℕ) (n : Named C) (within : i < length steps) (is : n ≡ get_or steps i n) (route : Route) (was : HasCome steps i route) where
     at-step : drop i steps ≡ n ∷ drop (suc i) steps
     at-step = drop-cons steps i n within ∙ ap (λ x. x ∷ drop (suc i) steps) (sym is)
 
@@ -46,8 +46,7 @@ module _ {Rules Doc Reason C : Type 0} (m : Meaning Rules Doc Reason C) where
         let r = rest-of a k fits in
         sizes-small (m.step_map n.change) (was a k fits).mid r.0 r.1.1 r.1.0 (first-small (maps_of m (drop (suc i) steps)) r.0 k r.1.2)
 
-    pub one-pushed : (next : Frames) → ((ms : List Mirrored) (a l b : ℕ) → b < 2 ^ 32 → FitsSizes (m.step_map n.change) l b → Reads frames ms a l → Reads next (pushed ms (m.step_map n.change)) a b)
-        → HasPushed steps (i + 1) next
+    pub one-pushed : (next : Route) → HasPushed Guides route (m.step_map n.change) next → HasCome steps (i + 1) next
     one-pushed next push a k fits =
         let p = was a k fits in
         let r = rest-of a k fits in
@@ -57,14 +56,14 @@ module _ {Rules Doc Reason C : Type 0} (m : Meaning Rules Doc Reason C) where
           mid = r.0;
           whole = rw add-one
               (append_assoc p.maps (map_of m n ∷ []) (maps_of m (drop (suc i) steps)) ∙ ap (λ l. p.maps ++ maps_of m l) (sym at-step) ∙ p.whole);
-          leads = record { reads = push p.maps a p.mid r.0 small r.1.1 p.leads.reads; fits = fit-behind p.maps (m.step_map n.change) a p.mid r.0 small r.1.1 p.leads.fits };
+          leads = push p.maps a p.mid r.0 small r.1.1 p.leads;
           rest = rw add-one r.1.2;
         }
 
-  pub all-pushed : (steps : List (Named C)) (i : ℕ) (frames : Frames) → drop i steps ≡ [] → HasPushed steps i frames
-      → (n k : ℕ) → FitBetween (maps_of m steps) n k → Leads frames (maps_of m steps) n k
-  all-pushed steps i frames none was n k fits =
+  pub all-pushed : (steps : List (Named C)) (i : ℕ) (route : Route) → drop i steps ≡ [] → HasCome steps i route
+      → (n k : ℕ) → FitBetween (maps_of m steps) n k → Guides route (maps_of m steps) n k
+  all-pushed steps i route none was n k fits =
       let p = was n k fits in
       let whole : p.maps ≡ maps_of m steps = sym (append-nil p.maps) ∙ ap (λ l. p.maps ++ maps_of m l) (sym none) ∙ p.whole in
       let end : p.mid ≡ k = (subst (λ l. FitBetween (maps_of m l) p.mid k) none p.rest).1 in
-      subst (λ ms. Leads frames ms n k) whole (subst (λ (x : ℕ). Leads frames p.maps n x) end p.leads)
+      subst (λ ms. Guides route ms n k) whole (subst (λ (x : ℕ). Guides route p.maps n x) end p.leads)

@@ -1,4 +1,4 @@
--- Frames that go along with a rebasing.
+-- A route that goes along with a rebasing.
 use Rattle.std.specs.Prelude.{◌≡◌, ℕ, ◌<◌, ◌^◌, List, [], ◌∷◌, ◌++◌, length, Option, Some, None, Result, Ok, Err, IfOk, OnOk}
 use Rattle.std.proofs.Common.{sym, ap, subst, ◌∙◌}
 use Rattle.pm_map.specs.declared.step_map.Span.{Span}
@@ -7,10 +7,11 @@ use Rattle.pm_map.specs.Moves.{inverted_ranges}
 use Rattle.pm_map.specs.Mirrors.{pushed, fronted, enclosed, gap_for}
 use Rattle.pm_map.specs.Fits.{FitsSizes}
 use Rattle.pm_map.specs.Positions.{MayLead, EachLed}
-use Rattle.pm_map.proofs.Sizes.{fit-front, fit-behind, inverted-fits}
-use Rattle.pm_frames.specs.declared.frames.Frames.{Frames}
+use Rattle.pm_map.proofs.Sizes.{inverted-fits}
+use Rattle.pm_frames.specs.declared.route.Route.{Route}
 use Rattle.pm_frames.specs.Courses.{AreSmall}
-use Rattle.pm_frames.specs.Stacks.{Reads, Leads}
+use Rattle.pm_frames.specs.Growing.{HasFronted, HasEnclosed}
+use Rattle.pm_frames.specs.Routes.{Guides}
 use Rattle.pm_frames.proofs.Small.{sizes-small}
 use Rattle.pm_change.specs.declared.failed.Failed.{Failed}
 use Rattle.pm_change.specs.declared.failed.Failed.TheVariants.{Reason as because}
@@ -23,24 +24,6 @@ use Rattle.pm_client.specs.declared.rebasing.Rebaser.{Rebaser}
 use Rattle.pm_client.specs.Rebases.{Rebasing, lost, held, ended, led, rebased_one}
 use Rattle.pm_client.specs.Rebasables.{MayRebase}
 use Rattle.pm_client.specs.Rebasers.{over_maps, IsAt, GoesOn}
-
--- what frames do when a map comes in front
-pub leads-front : (f g : Frames) (ms : List Mirrored) (back : List Span) (k n l : ℕ) → k < 2 ^ 32 → FitsSizes back k n
-    → ((ns : List Mirrored) (a b c : ℕ) → a < 2 ^ 32 → FitsSizes back a b → Reads f ns b c → Reads g (fronted ns back) a c)
-    → Leads f ms n l → Leads g (fronted ms back) k l
-leads-front f g ms back k n l small fits step h = record {
-  reads = step ms k n l small fits h.reads;
-  fits = fit-front ms back None k n l small fits h.fits;
-}
-
--- and when one comes around
-pub leads-around : (f g : Frames) (ms : List Mirrored) (back behind : List Span) (k n l j : ℕ) → k < 2 ^ 32 → j < 2 ^ 32 → FitsSizes back k n → FitsSizes behind l j
-    → ((ns : List Mirrored) (a b c d : ℕ) → a < 2 ^ 32 → d < 2 ^ 32 → FitsSizes back a b → FitsSizes behind c d → Reads f ns b c → Reads g (enclosed ns back behind) a d)
-    → Leads f ms n l → Leads g (enclosed ms back behind) k j
-leads-around f g ms back behind k n l j small end fits after step h = record {
-  reads = step ms k n l j small end fits after h.reads;
-  fits = fit-front (pushed ms behind) back (gap_for back (length ms)) k n j small fits (fit-behind ms behind n l j end after h.fits);
-}
 
 pub if-ok-then : {A E : Type 0} {P Q : A → Type 0} (r : Result A E) → ((x : A) → P x → Q x) → IfOk r P → IfOk r Q
 if-ok-then (Ok x) f h = f x h
@@ -55,33 +38,33 @@ on-ok-then (Ok x) f h = f h
 on-ok-then (Err e) f h = tt
 
 module _ {Rules Doc Reason C : Type 0} (m : Meaning Rules Doc Reason C) where
-  pub at-lost : (r : Rebaser C Rules Doc Reason) (frames : Frames) (dropped : List ℕ) (so : Rebasing C Rules Doc Reason) (back : List Span) (serial n k : ℕ) → k < 2 ^ 32 → FitsSizes back k n
+  pub at-lost : (r : Rebaser C Rules Doc Reason) (route : Route) (dropped : List ℕ) (so : Rebasing C Rules Doc Reason) (back : List Span) (serial n k : ℕ) → k < 2 ^ 32 → FitsSizes back k n
       → dropped ≡ r.dropped ++ serial ∷ []
-      → ((ns : List Mirrored) (a b c : ℕ) → a < 2 ^ 32 → FitsSizes back a b → Reads r.frames ns b c → Reads frames (fronted ns back) a c)
-      → IsAt m r so n → IsAt m (record r { frames = frames; dropped = dropped }) (record so { maps = fronted so.maps back; dropped = so.dropped ++ serial ∷ [] }) k
-  at-lost r frames dropped so back serial n k small fits is step h = record {
+      → HasFronted Guides r.route back route
+      → IsAt m r so n → IsAt m (record r { route = route; dropped = dropped }) (record so { maps = fronted so.maps back; dropped = so.dropped ++ serial ∷ [] }) k
+  at-lost r route dropped so back serial n k small fits is step h = record {
     same =
-        ap (λ l. over_maps (record r { frames = frames; dropped = l }) (fronted so.maps back)) is
+        ap (λ l. over_maps (record r { route = route; dropped = l }) (fronted so.maps back)) is
         ∙ ap (λ (s : Rebasing C Rules Doc Reason). record s { maps = fronted so.maps back; dropped = s.dropped ++ serial ∷ [] }) h.same;
-    leads = leads-front r.frames frames so.maps back k n (m.size so.doc) small fits step h.leads;
+    leads = step so.maps k n (m.size so.doc) small fits h.leads;
   }
 
-  pub at-held : (r : Rebaser C Rules Doc Reason) (frames : Frames) (kept : List (Named C)) (items : List (Item C)) (so : Rebasing C Rules Doc Reason) (back behind : List Span) (n k : ℕ) (doc : Doc)
+  pub at-held : (r : Rebaser C Rules Doc Reason) (route : Route) (kept : List (Named C)) (items : List (Item C)) (so : Rebasing C Rules Doc Reason) (back behind : List Span) (n k : ℕ) (doc : Doc)
       (step : Named C) (item : Doc → Item C) → k < 2 ^ 32 → m.size doc < 2 ^ 32 → FitsSizes back k n → FitsSizes behind (m.size r.doc) (m.size doc)
       → kept ≡ r.kept ++ step ∷ [] → items ≡ r.items ++ item r.doc ∷ []
-      → ((ns : List Mirrored) (a b c d : ℕ) → a < 2 ^ 32 → d < 2 ^ 32 → FitsSizes back a b → FitsSizes behind c d → Reads r.frames ns b c → Reads frames (enclosed ns back behind) a d)
+      → HasEnclosed Guides r.route back behind route
       → IsAt m r so n
-      → IsAt m (record r { doc = doc; frames = frames; kept = kept; items = items })
+      → IsAt m (record r { doc = doc; route = route; kept = kept; items = items })
       (record so { doc = doc; maps = enclosed so.maps back behind; kept = so.kept ++ step ∷ []; items = so.items ++ item so.doc ∷ [] }) k
-  at-held r frames kept items so back behind n k doc step item small end fits after kept_is items_are go h =
+  at-held r route kept items so back behind n k doc step item small end fits after kept_is items_are go h =
       let there : r.doc ≡ so.doc = ap (λ (s : Rebasing C Rules Doc Reason). s.doc) h.same in
       record {
         same =
-            ap (λ l. over_maps (record r { doc = doc; frames = frames; kept = l; items = items }) (enclosed so.maps back behind)) kept_is
-            ∙ ap (λ l. over_maps (record r { doc = doc; frames = frames; kept = r.kept ++ step ∷ []; items = l }) (enclosed so.maps back behind)) items_are
+            ap (λ l. over_maps (record r { doc = doc; route = route; kept = l; items = items }) (enclosed so.maps back behind)) kept_is
+            ∙ ap (λ l. over_maps (record r { doc = doc; route = route; kept = r.kept ++ step ∷ []; items = l }) (enclosed so.maps back behind)) items_are
             ∙ ap (λ (s : Rebasing C Rules Doc Reason). record s { doc = doc; maps = enclosed so.maps back behind; kept = s.kept ++ step ∷ []; items = s.items ++ item s.doc ∷ [] }) h.same;
         leads =
-            leads-around r.frames frames so.maps back behind k n (m.size so.doc) (m.size doc) small end fits (subst (λ (d : Doc). FitsSizes behind (m.size d) (m.size doc)) there after) go h.leads;
+            go so.maps k n (m.size so.doc) (m.size doc) small end fits (subst (λ (d : Doc). FitsSizes behind (m.size d) (m.size doc)) there after) h.leads;
       }
 
 module _ {Rules Doc Reason C : Type 0} (m : Meaning Rules Doc Reason C) (rules : Rules) (laws : Laws m) where
@@ -98,15 +81,15 @@ module _ {Rules Doc Reason C : Type 0} (m : Meaning Rules Doc Reason C) (rules :
 
   -- and the step may be carried over what leads from there
   pub may-carry : (before : Doc) (so : Rebasing C Rules Doc Reason) (n : Named C) (r : Rebaser C Rules Doc Reason) → MayRebase m rules before so n → IsAt m r so (m.size before)
-      → MayLead m.is_within Leads n.change r.frames
+      → MayLead m.is_within Guides n.change r.route
   may-carry before so n r may at = (so.maps, m.size before, m.size so.doc, (at.leads, laws.within rules n.change before may.applies.0 may.old_good may.applies.1))
 
   pub carried-as : (before : Doc) (so : Rebasing C Rules Doc Reason) (n : Named C) (r : Rebaser C Rules Doc Reason) (o : Option C) → MayRebase m rules before so n → IsAt m r so (m.size before)
-      → EachLed m.is_within Leads n.change r.frames (λ ms. o ≡ m.carry n.change ms) → m.carry n.change so.maps ≡ o
+      → EachLed m.is_within Guides n.change r.route (λ ms. o ≡ m.carry n.change ms) → m.carry n.change so.maps ≡ o
   carried-as before so n r o may at each =
       sym (each so.maps (m.size before) (m.size so.doc) at.leads (laws.within rules n.change before may.applies.0 may.old_good may.applies.1))
 
-  -- the document of a rebasing is that which the frames' value has
+  -- the document of a rebasing is that which the rebaser has
   same-doc : (so : Rebasing C Rules Doc Reason) (r : Rebaser C Rules Doc Reason) (size : ℕ) → IsAt m r so size → r.doc ≡ so.doc
   same-doc so r size at = ap (λ (s : Rebasing C Rules Doc Reason). s.doc) at.same
 

@@ -2,8 +2,8 @@
 use Rattle.std.proofs.Common.{◌≡◌, ℕ, ◌+◌, ◌<◌, List, [], ◌∷◌, Some, Ok, length, drop, get_or, suc, sym, ap, subst, ◌∙◌, add-one, refl}
 use Rattle.std.proofs.Math.Seq.{drop-cons}
 use Rattle.pm_map.specs.declared.mapping.Mirrored.{Mirrored}
-use Rattle.pm_frames.specs.declared.frames.Frames.{Frames}
-use Rattle.pm_frames.specs.Stacks.{Leads}
+use Rattle.pm_frames.specs.declared.route.Route.{Route}
+use Rattle.pm_frames.specs.Routes.{Guides}
 use Rattle.pm_change.specs.Changes.{Meaning, Laws}
 use Rattle.pm_change.proofs.Folds.{fold-cons}
 use Rattle.pm_authority.specs.declared.named.Named.{Named}
@@ -25,12 +25,12 @@ module _ {Rules Doc Reason C : Type 0} (m : Meaning Rules Doc Reason C) (rules :
     pub is_at : IsAt m so_far so (m.size before)
 
   -- the same wherever it began
-  abbrev pub IsRebasing : Doc → Frames → List (Named C) → ℕ → Rebaser C Rules Doc Reason → Type 0
-  IsRebasing doc frames steps i so_far = (old end : Doc) (maps : List Mirrored) → CanRebase m rules old (start m doc maps) steps
-      → AllApply m rules old steps end → Leads frames maps (m.size old) (m.size doc) → HasCome (start m doc maps) steps end i so_far
+  abbrev pub IsRebasing : Doc → Route → List (Named C) → ℕ → Rebaser C Rules Doc Reason → Type 0
+  IsRebasing doc route steps i so_far = (old end : Doc) (maps : List Mirrored) → CanRebase m rules old (start m doc maps) steps
+      → AllApply m rules old steps end → Guides route maps (m.size old) (m.size doc) → HasCome (start m doc maps) steps end i so_far
 
-  pub begun : (doc : Doc) (frames : Frames) (steps : List (Named C)) → IsRebasing doc frames steps 0 (record { doc = doc; frames = frames; kept = []; items = []; dropped = [] })
-  begun doc frames steps old end maps can ends leads = record {
+  pub begun : (doc : Doc) (route : Route) (steps : List (Named C)) → IsRebasing doc route steps 0 (record { doc = doc; route = route; kept = []; items = []; dropped = [] })
+  begun doc route steps old end maps can ends leads = record {
     before = old;
     so = start m doc maps;
     can = can;

@@ -1,7 +1,7 @@
--- How far pending steps were carried, where frames tell what the maps would.
+-- How far pending steps were carried, where a route tells what the maps would.
 use Rattle.std.specs.Prelude.{◌≡◌, ℕ, List, Ok}
 use Rattle.pm_map.specs.declared.mapping.Mirrored.{Mirrored}
-use Rattle.pm_frames.specs.Stacks.{Leads}
+use Rattle.pm_frames.specs.Routes.{Guides}
 use Rattle.pm_change.specs.Changes.{Meaning}
 use Rattle.pm_authority.specs.declared.named.Named.{Named}
 use Rattle.pm_client.specs.declared.rebasing.Rebaser.{Rebaser}
@@ -13,10 +13,10 @@ abbrev pub over_maps : {Rules Doc Reason C : Type 0} → Rebaser C Rules Doc Rea
 over_maps r maps = record { doc = r.doc; maps = maps; kept = r.kept; items = r.items; dropped = r.dropped }
 
 module _ {Rules Doc Reason C : Type 0} (m : Meaning Rules Doc Reason C) where
-  -- It has come as far as the rebasing: its frames tell where positions of a document of this size go over the maps.
+  -- It has come as far as the rebasing: its route tells where positions of a document of this size go over the maps.
   pub record IsAt (r : Rebaser C Rules Doc Reason) (so : Rebasing C Rules Doc Reason) (size : ℕ) : Type 0 where
     pub same : over_maps r so.maps ≡ so
-    pub leads : Leads r.frames so.maps size (m.size so.doc)
+    pub leads : Guides r.route so.maps size (m.size so.doc)
 
 module _ {Rules Doc Reason C : Type 0} (m : Meaning Rules Doc Reason C) (rules : Rules) where
   -- wherever it was, it has come on by one step

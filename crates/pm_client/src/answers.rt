@@ -148,7 +148,7 @@ impl<C: Change> Client<C> {
             foreign: step_maps(alloc, &rest[own..])?,
             base,
             dropped: merge(alloc, self.dropped.as_slice(), rebasing.dropped.as_slice())?,
-            cursors: move_all(alloc, self.cursors.as_slice(), &rebasing.frames)?,
+            cursors: move_all(alloc, self.cursors.as_slice(), &rebasing.route)?,
             rebasing,
         })
     }
@@ -196,7 +196,7 @@ impl<C: Change> Client<C> {
             } => {
                 let Rebaser {
                     doc,
-                    frames: _,
+                    route: _,
                     kept,
                     items,
                     dropped: lost,

@@ -5,7 +5,7 @@ ghost use Rattle.pm_map.specs.Mirrors.{fronted, enclosed};
 ghost use Rattle.pm_map.specs.Through.{SameShape};
 ghost use Rattle.pm_map.specs.Fits.{FitsSizes, FitBetween};
 ghost use Rattle.pm_frames.specs.Courses.{AreSmall};
-ghost use Rattle.pm_frames.specs.Stacks.{Leads};
+ghost use Rattle.pm_frames.specs.Routes.{Guides};
 ghost use Rattle.pm_authority.specs.Runs.{AllApply};
 ghost use Rattle.pm_history.specs.Undos.{own_item};
 ghost use Rattle.pm_client.specs.Rebases.{Rebasing, maps_of, start, rebased};
@@ -15,20 +15,20 @@ ghost use Rattle.pm_client.specs.Rebasers.{IsAt, GoesOn};
 use crate::making::item_of;
 use pm_authority::{Name, Named};
 use pm_change::{Change, Failed};
-use pm_frames::Frames;
+use pm_frames::{Growing, Route};
 use pm_history::Item;
 use pm_list::Listed;
 use pm_map::{Mapping, StepMap};
 use std::alloc::{AllocError, Global};
 
-/// How far pending steps were carried. `frames` tell where positions go from the document before those that were gone through
+/// How far pending steps were carried. `route` tells where positions go from the document before those that were gone through
 /// to `doc`: over the maps back of them all, from the latest to the first, over others' maps, and over the maps of the steps
 /// kept, each of which is the mirror of the map back of the step that it comes from. `items`: the items of the steps kept,
 /// none of which says yet what its step undoes.
 #[derive(Drop)]
 pub struct Rebaser<C: Change> {
     pub doc: C::Doc,
-    pub frames: Frames,
+    pub route: Route,
     pub kept: Listed<Named<C>>,
     pub items: Listed<Item<C>>,
     /// The serials of the steps that were lost, in the order in which these were pending.
@@ -44,7 +44,7 @@ impl<C: Change> Rebaser<C> {
         ensures { OnOk result (GoesOn C.means rules.now self.old step.now self.new) }
     {
         let back = step.change.step_map().inverted();
-        let change = match step.change.carry(alloc, &self.frames)? {
+        let change = match step.change.carry(alloc, &self.route)? {
             Some(change) => change,
             None => return self.lose(alloc, back, step.name.serial),
         };
@@ -62,7 +62,7 @@ impl<C: Change> Rebaser<C> {
             → IsAt C.means self.new (record so { maps = fronted so.maps back; dropped = so.dropped ++ serial ∷ [] }) k) }
     {
         self.dropped.push(serial)?;
-        self.frames.put_front(alloc, &back)?;
+        self.route.put_front(alloc, &back)?;
         Ok(())
     }
 
@@ -85,7 +85,7 @@ impl<C: Change> Rebaser<C> {
     {
         let item = item_of(alloc, rules, &self.doc, name, &change)?;
         let behind = change.step_map();
-        self.frames.enclose(alloc, &back, &behind)?;
+        self.route.enclose(alloc, &back, &behind)?;
         self.items.push(item)?;
         self.kept.push(Named { name, change })?;
         self.doc = doc;
@@ -93,23 +93,23 @@ impl<C: Change> Rebaser<C> {
     }
 }
 
-/// Carries steps over the maps that these frames stand for, which lead to this document.
+/// Carries steps over the maps that this route stands for, which lead to this document.
 fn rebase<C: Change>(
     alloc: Global,
     rules: &C::Rules,
     doc: C::Doc,
-    frames: Frames,
+    route: Route,
     steps: &[Named<C>],
 ) -> Result<Rebaser<C>, AllocError>
     requires { ((old : C.Doc) × (maps : List Mirrored)
-        × (CanRebase C.means rules.now old (start C.means doc maps) steps.now × Leads frames maps (C.means.size old) (C.means.size doc))) }
+        × (CanRebase C.means rules.now old (start C.means doc maps) steps.now × Guides route maps (C.means.size old) (C.means.size doc))) }
     ensures { IfOk result (λ r. (old end : C.Doc) (maps : List Mirrored) → CanRebase C.means rules.now old (start C.means doc maps) steps.now
-        → AllApply C.means rules.now old steps.now end → Leads frames maps (C.means.size old) (C.means.size doc)
+        → AllApply C.means rules.now old steps.now end → Guides route maps (C.means.size old) (C.means.size doc)
         → IsAt C.means r (rebased C.means rules.now (start C.means doc maps) steps.now) (C.means.size end)) }
 {
     let mut so_far = Rebaser {
         doc,
-        frames,
+        route,
         kept: Listed::new(alloc),
         items: Listed::new(alloc),
         dropped: Listed::new(alloc),
@@ -132,22 +132,27 @@ pub fn rebase_over<C: Change>(
     ensures { IfOk result (λ r. (end : C.Doc) → CanRebaseOver C.means rules.now base.now foreign.now pending.now end
         → IsAt C.means r (rebased C.means rules.now (start C.means base.now (maps_of C.means foreign.now)) pending.now) (C.means.size end)) }
 {
-    let frames = frames_over(alloc, foreign)?;
-    rebase(alloc, rules, C::copy_doc(alloc, base)?, frames, pending)
+    let route = route_over(alloc, foreign, pending.len())?;
+    rebase(alloc, rules, C::copy_doc(alloc, base)?, route, pending)
 }
 
-/// What tells where positions go over the maps of steps one after another, in no pairs.
-fn frames_over<C: Change>(alloc: Global, steps: &[Named<C>]) -> Result<Frames, AllocError>
+/// What tells where positions go over the maps of steps one after another, in no pairs, over which so many pending ones are to
+/// be carried.
+fn route_over<C: Change>(
+    alloc: Global,
+    steps: &[Named<C>],
+    pending: usize,
+) -> Result<Route, AllocError>
     requires maps { All (NamedHasMap C.means) steps.now }
     requires fit { ((n : ℕ) × (k : ℕ) × FitBetween (maps_of C.means steps.now) n k) }
-    ensures { IfOk result (λ f. (n k : ℕ) → FitBetween (maps_of C.means steps.now) n k → Leads f (maps_of C.means steps.now) n k) }
+    ensures { IfOk result (λ r. (n k : ℕ) → FitBetween (maps_of C.means steps.now) n k → Guides r (maps_of C.means steps.now) n k) }
 {
-    let mut frames = Frames::new(alloc);
+    let mut route = Route::for_steps(alloc, steps.len(), pending);
     for step in steps {
         let map = step.change.step_map();
-        frames.push(alloc, &map)?;
+        route.push(alloc, &map)?;
     }
-    Ok(frames)
+    Ok(route)
 }
 
 /// The maps of steps one after another, in no pairs.

@@ -11,7 +11,11 @@ mod course;
 mod cut;
 mod following;
 mod frames;
+mod growing;
 mod piece;
+mod route;
 mod stack;
 
 pub use frames::Frames;
+pub use growing::Growing;
+pub use route::Route;

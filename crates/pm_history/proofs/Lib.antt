@@ -22,6 +22,7 @@ pub mod Agrees
 pub mod Showing
 pub mod Mades
 pub mod Steps
+pub mod Singles
 pub mod Trimmings
 pub mod Settled
 pub mod Whole

@@ -1,5 +1,5 @@
 //! Undoing the steps of an event.
-ghost use Rattle.std.specs.Prelude.{◌≡◌, ◌<◌, ◌≤◌, ◌+◌, ◌++◌, ◌∷◌, [], drop, length, IfOk, IfSome, Ok, Some};
+ghost use Rattle.std.specs.Prelude.{◌≡◌, ◌<◌, ◌≤◌, ◌+◌, ◌++◌, ◌∷◌, [], drop, length, IfOk, IfSome, Ok, Some, true};
 ghost use Rattle.pm_history.specs.Items.{one_step};
 ghost use Rattle.pm_history.specs.Starts.{start_of, is_named};
 ghost use Rattle.pm_history.specs.Lanes.{maps_of, behind};
@@ -8,12 +8,13 @@ ghost use Rattle.pm_history.specs.Pairs.{paired};
 ghost use Rattle.pm_history.specs.Shows.{ShowsTo};
 ghost use Rattle.pm_history.specs.Undos.{undo_steps, undo_event, undo_found, then_made, find, tried};
 ghost use Rattle.pm_history.specs.Restores.{RestoresAll, IsOfWhole};
-ghost use Rattle.pm_history.specs.Tries.{MayUndo, put_one, item_from};
+ghost use Rattle.pm_history.specs.Tries.{MayUndo, IsSingle, put_one, item_from};
 
 use crate::item::Item;
-use crate::lane::{Lane, one_step};
+use crate::lane::{Lane, one_step, paired};
 use pm_change::{Change, Failed, Name};
 use pm_list::Listed;
+use pm_map::Mapping;
 use std::alloc::{AllocError, Global};
 
 /// What an undo has made. `doc`: the document behind it. `serial`: the next serial. `made`: the changes made, in order, and
@@ -55,7 +56,7 @@ pub fn undo_event<C: Change>(
     ensures restores { IfOk result (RestoresAll C.means rules.now names.now items.now doc) }
 {
     let start = start_of(names, items);
-    undo_all(alloc, rules, client, names, &items[start..], doc, serial)
+    undo_from(alloc, rules, client, names, &items[start..], doc, serial)
 }
 
 /// The place of the first item that is one of these steps, or the number of items.
@@ -83,6 +84,48 @@ pub fn is_named(names: &[Name], name: Option<Name>) -> bool
         }
     }
     false
+}
+
+/// The steps of these names, from the last to the first. Where one change alone is to be carried, no map comes behind those of
+/// the items.
+fn undo_from<C: Change>(
+    alloc: Global,
+    rules: &C::Rules,
+    client: u32,
+    names: &[Name],
+    items: &[Item<C>],
+    doc: C::Doc,
+    serial: u64,
+) -> Result<Undone<C::Doc, C>, AllocError>
+    requires { ShowsTo C.means rules.now items.now doc }
+    ensures { IfOk result (λ w. w ≡ undo_event C.means rules.now client names.now items.now doc serial) }
+{
+    if is_single(names, items) {
+        let step = &items[0].inverse.as_slice()[0];
+        undo_only(
+            alloc,
+            rules,
+            client,
+            names[0],
+            step,
+            &items[1..],
+            doc,
+            serial,
+        )
+    } else {
+        undo_all(alloc, rules, client, names, items, doc, serial)
+    }
+}
+
+/// Whether one step alone is named, the first item is that step, and one change undoes it.
+fn is_single<C>(names: &[Name], items: &[Item<C>]) -> bool
+    ensures { result ≡ true → IsSingle names.now items.now }
+{
+    if names.len() != 1 || items.is_empty() {
+        return false;
+    }
+    let item = &items[0];
+    item.inverse.len() == 1 && one_step(Some(names[0]), item.name)
 }
 
 /// The steps of these names, from the last to the first.
@@ -296,5 +339,92 @@ fn put_in<C: Change>(
             items: more,
         },
         lane,
+    })
+}
+
+/// The one change that undoes a step, right behind which these items stand.
+fn undo_only<C: Change>(
+    alloc: Global,
+    rules: &C::Rules,
+    client: u32,
+    name: Name,
+    step: &C,
+    later: &[Item<C>],
+    doc: C::Doc,
+    serial: u64,
+) -> Result<Undone<C::Doc, C>, AllocError>
+    requires { MayUndo C.means rules.now (step.now ∷ []) later.now doc }
+    ensures { IfOk result (λ w. w ≡ undo_steps C.means rules.now client name (step.now ∷ []) later.now doc serial) }
+{
+    let maps = paired(alloc, later)?;
+    let mapping = Mapping::from_entries(maps);
+    let carried = step.carry(alloc, &mapping)?;
+    let none = Undone {
+        doc,
+        serial,
+        made: Listed::new(alloc),
+        items: Listed::new(alloc),
+    };
+    make_one(alloc, rules, client, name, carried, none)
+}
+
+/// A carried change, which may be lost or not apply, with no map kept for it.
+fn make_one<C: Change>(
+    alloc: Global,
+    rules: &C::Rules,
+    client: u32,
+    name: Name,
+    carried: Option<C>,
+    undone: Undone<C::Doc, C>,
+) -> Result<Undone<C::Doc, C>, AllocError>
+    requires good { C.means.is_good rules.now undone.doc }
+    ensures { IfOk result (λ w. w ≡ put_one C.means rules.now client (tried C.means rules.now client carried undone.doc) name undone) }
+{
+    let Some(change) = carried else {
+        return Ok(undone);
+    };
+    match change.apply(alloc, rules, &undone.doc) {
+        Ok(next) => made_one(alloc, rules, client, name, change, next, undone),
+        Err(Failed::Reason(_)) => Ok(undone),
+        Err(Failed::NoMemory) => Err(AllocError),
+    }
+}
+
+/// A change that was made, and the document behind it.
+fn made_one<C: Change>(
+    alloc: Global,
+    rules: &C::Rules,
+    client: u32,
+    name: Name,
+    change: C,
+    next: C::Doc,
+    undone: Undone<C::Doc, C>,
+) -> Result<Undone<C::Doc, C>, AllocError>
+    requires good { C.means.is_good rules.now undone.doc }
+    requires applies { C.means.outcome rules.now change undone.doc ≡ Ok next }
+    ensures { IfOk result (λ w. w ≡ put_one C.means rules.now client (Some (change, next)) name undone) }
+{
+    let Undone {
+        doc,
+        serial,
+        mut made,
+        mut items,
+    } = undone;
+    let Some(after) = serial.checked_add(1) else {
+        return Err(AllocError);
+    };
+    let item = Item {
+        name: Some(Name { client, serial }),
+        map: change.step_map(),
+        inverse: Listed::from_vec(change.inverse(alloc, rules, &doc)?),
+        undoes: Some(name),
+    };
+    items.push(item)?;
+    made.push(change)?;
+    Ok(Undone {
+        doc: next,
+        serial: after,
+        made,
+        items,
     })
 }

@@ -9,5 +9,5 @@ returns g c =
     let rebased = rw c.in_ok-copy_doc.ensures at c.rebase.ensures in
     if-ok-then c.rebase.result
     (λ r at end over.
-    at over.old end (maps_of m foreign) over.can over.ends (c.in_ok-frames.ensures (m.size over.old) (m.size c.args.base.now) over.can.fits))
+    at over.old end (maps_of m foreign) over.can over.ends (c.in_ok-route.ensures (m.size over.old) (m.size c.args.base.now) over.can.fits))
     rebased

@@ -10,7 +10,7 @@ use Rattle.pm_map.specs.Positions.{IsItself}
 use Rattle.pm_map.proofs.Sizes.{fit-front, fit-behind}
 use Rattle.pm_frames.specs.declared.frames.Frames.{Frames}
 use Rattle.pm_frames.specs.Stacks.{Reads, Leads}
-use Rattle.pm_bench.specs.Growing.{HasPushed, HasFronted, HasEnclosed}
+use Rattle.pm_frames.specs.Growing.{HasPushed, HasFronted, HasEnclosed}
 
 pub on-ok-then : {A E P Q : Type 0} (r : Result A E) → (P → Q) → OnOk r P → OnOk r Q
 on-ok-then (Ok x) f h = f h

@@ -2,17 +2,18 @@
 ghost use Rattle.std.specs.Prelude.{ℕ, ◌<◌, ◌^◌, [], OnOk};
 ghost use Rattle.pm_map.specs.Through.{SameShape};
 ghost use Rattle.pm_frames.specs.Courses.{AreSmall};
-ghost use Rattle.pm_bench.specs.Growing.{HasPushed, HasFronted, HasEnclosed};
+ghost use Rattle.pm_frames.specs.Growing.{HasPushed, HasFronted, HasEnclosed};
 
-use pm_frames::Frames;
+use crate::frames::Frames;
 use pm_map::{Mapping, Positions, StepMap};
 use std::alloc::{AllocError, Global};
 
 /// A value that tells where positions go over a mapping, and to which maps are added. Each call does to the mapping for which
 /// the value stands what the call of its name does to a `Mapping`.
 pub trait Growing: Positions {
-    /// The mapping without maps.
-    fn empty(alloc: Global) -> Self
+    /// The mapping without maps, which so many foreign maps are to follow, and then so many pending ones to stand around. The
+    /// numbers may decide how the mapping is kept, and change nothing of what is told. It takes no memory until a map comes.
+    fn for_steps(alloc: Global, foreign: usize, pending: usize) -> Self
         ensures { (n : ℕ) → n < 2 ^ 32 → Self.leads result [] n n };
 
     /// A map more behind the others, in no pair.
@@ -39,7 +40,7 @@ pub trait Growing: Positions {
 }
 
 impl Growing for Frames {
-    fn empty(alloc: Global) -> Frames {
+    fn for_steps(alloc: Global, _foreign: usize, _pending: usize) -> Frames {
         Frames::new(alloc)
     }
 
@@ -62,7 +63,7 @@ impl Growing for Frames {
 }
 
 impl Growing for Mapping {
-    fn empty(alloc: Global) -> Mapping {
+    fn for_steps(alloc: Global, _foreign: usize, _pending: usize) -> Mapping {
         Mapping::new(alloc)
     }
 

@@ -1,5 +1,5 @@
-use Rattle.pm_bench.proofs.Growings.{mapping-around}
-use Rattle.pm_bench.proofs.growing.MappingGrowing.enclose.Goals as goal
+use Rattle.pm_frames.proofs.Growings.{mapping-around}
+use Rattle.pm_frames.proofs.growing.MappingGrowing.enclose.Goals as goal
 
 pub returns : goal.returns
 returns c =
