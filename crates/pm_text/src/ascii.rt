@@ -16,13 +16,11 @@ pub fn is_plain(units: &[u16]) -> bool
     !any
 }
 
-/// The units of a text of these bytes.
+/// The units of a text of these bytes, each written once.
 pub fn ascii_units(alloc: Global, bytes: &[u8]) -> Result<Vec<u16>, AllocError>
     ensures { IfOk result (λ v. v.items ≡ bytes.now) }
 {
-    let mut units = vec![in alloc; 0_u16; bytes.len()]?;
-    widen(bytes, units.as_mut_slice());
-    Ok(units)
+    bytes.iter().map(|byte| u16::from(*byte)).collect(alloc)
 }
 
 /// The text of these units.
@@ -45,16 +43,6 @@ fn ascii_bytes(alloc: Global, units: &[u16]) -> Result<Vec<u8>, AllocError>
     let mut bytes = vec![in alloc; 0_u8; units.len()]?;
     narrow(units, bytes.as_mut_slice());
     Ok(bytes)
-}
-
-/// Writes each byte as a unit.
-fn widen(bytes: &[u8], units: &mut [u16])
-    requires { length units.old ≡ length bytes.now }
-    ensures { units.new ≡ bytes.now }
-{
-    for i in 0..bytes.len() {
-        units[i] = u16::from(bytes[i]);
-    }
 }
 
 /// Writes each unit as a byte.

@@ -1,6 +1,0 @@
-use Rattle.std.proofs.Common.{arith}
-use Rattle.std.proofs.lemmas.List.{ext_get_or}
-use Rattle.pm_text.proofs.ascii.widen.Goals as goal
-
-pub returns : goal.returns
-returns c = ext_get_or 0 c.loop-i.units c.args.bytes.now c.loop-i.invariant.1 (λ j h. c.loop-i.invariant.0 j (omega arith))
