@@ -1,0 +1,100 @@
+//! Lines 1 and 2: the schema and the first document, as session files have them.
+ghost use Rattle.std.specs.Prelude.{◌≡◌, ◌<◌, length, IfOk};
+ghost use Rattle.serde_json.specs.View.{view};
+ghost use Rattle.pm_tokens.specs.Faults.{Valid};
+ghost use Rattle.pm_schema.specs.Documents.{documents_of};
+ghost use Rattle.pm_head.specs.Answers.{Finds};
+ghost use Rattle.pm_head.specs.Schemas.{SchemaIs, SchemaLine};
+ghost use Rattle.pm_head.specs.Documents.{FilledTop, TopNode, DocIs, DocLine, top_of};
+
+use crate::codes::{fill_code, schema_code};
+use pm_auto::TypeId;
+use pm_docjson::read_node;
+use pm_head::{Code, LineError, json_line, node_code};
+use pm_node::{CheckError, Document, Node, make_filled};
+use pm_schema::Schema;
+use pm_schemajson::read_schema;
+use serde_json::Value;
+use std::alloc::Global;
+
+/// The schema that line 1 writes.
+pub(crate) fn schema_line(alloc: Global, line: &[u8]) -> Result<Schema, LineError>
+    ensures { Finds (SchemaLine line.now) result }
+{
+    let json = json_line(alloc, line)?;
+    schema_of(alloc, &json)
+}
+
+fn schema_of(alloc: Global, json: &Value) -> Result<Schema, LineError>
+    ensures { Finds (SchemaIs (view json.now)) result }
+{
+    match read_schema(alloc, json) {
+        Ok(schema) => Ok(schema),
+        Err(error) => match schema_code(error) {
+            Some(code) => Err(LineError::Code(code)),
+            None => Err(LineError::NoMemory),
+        },
+    }
+}
+
+/// The first document: the one that line 2 writes, or the top type filled where it is null.
+pub(crate) fn doc_line(alloc: Global, schema: &Schema, line: &[u8]) -> Result<Document, LineError>
+    ensures read { Finds (DocLine schema.now line.now) result }
+    ensures valid { IfOk result (Valid (documents_of schema.now.spec)) }
+{
+    let json = json_line(alloc, line)?;
+    doc_of(alloc, schema, &json)
+}
+
+fn doc_of(alloc: Global, schema: &Schema, json: &Value) -> Result<Document, LineError>
+    ensures read { Finds (DocIs schema.now (view json.now)) result }
+    ensures valid { IfOk result (Valid (documents_of schema.now.spec)) }
+{
+    let node = top_node(alloc, schema, json)?;
+    if node.kind != top_type(schema) {
+        return Err(LineError::Code(Code::InvalidDocument));
+    }
+    let doc = Document::new(alloc, node)?;
+    match doc.check(alloc, schema) {
+        Ok(()) => Ok(doc),
+        Err(CheckError::NoMemory) => Err(LineError::NoMemory),
+        Err(_) => Err(LineError::Code(Code::InvalidDocument)),
+    }
+}
+
+/// The type of the top node.
+fn top_type(schema: &Schema) -> TypeId
+    ensures top { result ≡ top_of schema.now.spec }
+    ensures inside { result < length schema.now.spec.nodes }
+{
+    schema.top()
+}
+
+/// The top node of the first document.
+fn top_node(alloc: Global, schema: &Schema, json: &Value) -> Result<Node, LineError>
+    ensures { Finds (TopNode schema.now (view json.now)) result }
+{
+    if json.is_null() {
+        return filled_top(alloc, schema);
+    }
+    match read_node(alloc, schema, json) {
+        Ok(node) => Ok(node),
+        Err(error) => match node_code(error) {
+            Some(code) => Err(LineError::Code(code)),
+            None => Err(LineError::NoMemory),
+        },
+    }
+}
+
+/// The top type filled.
+fn filled_top(alloc: Global, schema: &Schema) -> Result<Node, LineError>
+    ensures { Finds (FilledTop schema.now) result }
+{
+    match make_filled(alloc, schema, top_type(schema)) {
+        Ok(node) => Ok(node),
+        Err(error) => match fill_code(error) {
+            Some(code) => Err(LineError::Code(code)),
+            None => Err(LineError::NoMemory),
+        },
+    }
+}
