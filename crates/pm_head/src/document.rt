@@ -18,7 +18,7 @@ use serde_json::Value;
 use std::alloc::Global;
 
 /// The first document: the one that line 2 writes, or the top type filled where it is null.
-pub(crate) fn doc_line(alloc: Global, schema: &Schema, line: &[u8]) -> Result<Document, LineError>
+pub fn doc_line(alloc: Global, schema: &Schema, line: &[u8]) -> Result<Document, LineError>
     ensures read { Finds (DocLine schema.now line.now) result }
     ensures valid { IfOk result (Valid (documents_of schema.now.spec)) }
 {

@@ -13,7 +13,7 @@ use serde_json::Value;
 use std::alloc::Global;
 
 /// The schema that line 1 writes.
-pub(crate) fn schema_line(alloc: Global, line: &[u8]) -> Result<Schema, LineError>
+pub fn schema_line(alloc: Global, line: &[u8]) -> Result<Schema, LineError>
     ensures { Finds (SchemaLine line.now) result }
 {
     let json = json_line(alloc, line)?;

@@ -4,16 +4,14 @@ use Rattle.pm_apply.specs.Changes.{meaning}
 use Rattle.pm_authority.specs.Kept.{IsKept}
 use Rattle.pm_serve.specs.Serves.{kept, Tells, Answers}
 use Rattle.pm_live.specs.declared.live.Live.{Live}
-use Rattle.pm_live.specs.Phases.{LivePhase}
-use Rattle.pm_live.specs.declared.phase.Phase.TheVariants.{Open}
 use Rattle.pm_live.specs.Texts.{no_memory}
 use Rattle.pm_live.specs.Live.{answered}
-use Rattle.pm_live.specs.Phases.{Replies, last_text}
+use Rattle.pm_live.specs.Phases.{Phase, Open, Replies, last_text}
 use Rattle.pm_live.specs.Talks.{Line, answers, after, IsTalk, AllTalks}
 use Rattle.pm_live.proofs.Answering.{folded, valid}
 
 -- what is told of lines, and no more
-record Heard (live : Live) (lines : List (List ℕ)) (out : List ℕ) (end : LivePhase) : Type 0 where
+record Heard (live : Live) (lines : List (List ℕ)) (out : List ℕ) (end : Phase) : Type 0 where
   heard : List Line
   are : map (λ l. l.bytes) heard ≡ map kept lines
   written : out ≡ answers live heard
@@ -22,7 +20,7 @@ record Heard (live : Live) (lines : List (List ℕ)) (out : List ℕ) (end : Liv
 abbrev heard_line : List ℕ → Bool → Line
 heard_line bytes b = record { bytes = bytes; heard = b }
 
-first-heard : (live : Live) (line : List ℕ) (lines : List (List ℕ)) (text rest out : List ℕ) (end : LivePhase)
+first-heard : (live : Live) (line : List ℕ) (lines : List (List ℕ)) (text rest out : List ℕ) (end : Phase)
     → text ≡ (answered live (kept line)).0 → out ≡ text ++ rest → Heard (answered live (kept line)).1 lines rest end → Heard live (line ∷ lines) out end
 first-heard live line lines text rest out end t o h = record {
   heard = heard_line (kept line) true ∷ h.heard;
@@ -31,7 +29,7 @@ first-heard live line lines text rest out end t o h = record {
   stands = h.stands;
 }
 
-first-unheard : (live : Live) (line : List ℕ) (lines : List (List ℕ)) (text rest out : List ℕ) (end : LivePhase)
+first-unheard : (live : Live) (line : List ℕ) (lines : List (List ℕ)) (text rest out : List ℕ) (end : Phase)
     → text ≡ no_memory → out ≡ text ++ rest → Heard live lines rest end → Heard live (line ∷ lines) out end
 first-unheard live line lines text rest out end t o h = record {
   heard = heard_line (kept line) false ∷ h.heard;
@@ -40,16 +38,16 @@ first-unheard live line lines text rest out end t o h = record {
   stands = h.stands;
 }
 
-all-heard : (live : Live) (lines : List (List ℕ)) (out : List ℕ) (end : LivePhase) → Answers Replies last_text no_memory (Open live) lines out end → Heard live lines out end
+all-heard : (live : Live) (lines : List (List ℕ)) (out : List ℕ) (end : Phase) → Answers Replies last_text no_memory (Open live) lines out end → Heard live lines out end
 all-heard live [] out end a = record { heard = []; are = refl; written = a.0; stands = a.1 }
 all-heard live (line ∷ lines) out end a =
     let rest = a.2 in
     elim a.3 [
       | inl told ↦ first-heard live line lines a.0 rest out end told.0 a.4
           (all-heard (answered live (kept line)).1 lines rest end
-          (subst (λ (m : LivePhase). Answers Replies last_text no_memory m lines rest end) told.2 a.5))
+          (subst (λ (m : Phase). Answers Replies last_text no_memory m lines rest end) told.2 a.5))
       | inr lost ↦ first-unheard live line lines a.0 rest out end lost.0 a.4
-          (all-heard live lines rest end (subst (λ (m : LivePhase). Answers Replies last_text no_memory m lines rest end) lost.2 a.5))
+          (all-heard live lines rest end (subst (λ (m : Phase). Answers Replies last_text no_memory m lines rest end) lost.2 a.5))
     ]
 
 pub all-talks : AllTalks

@@ -11,10 +11,8 @@ use Rattle.pm_head.specs.Documents.{DocLine}
 use Rattle.pm_authority.specs.Kept.{IsKept}
 use Rattle.pm_serve.specs.Serves.{kept, Answers}
 use Rattle.pm_live.specs.declared.live.Live.{Live}
-use Rattle.pm_live.specs.Phases.{LivePhase}
-use Rattle.pm_live.specs.declared.phase.Phase.TheVariants.{AwaitsSchema, AwaitsDocument, Open, Over}
 use Rattle.pm_live.specs.Texts.{no_memory, opened_text}
-use Rattle.pm_live.specs.Phases.{opened, AfterSchema, AfterDocument, Replies, last_text}
+use Rattle.pm_live.specs.Phases.{Phase, AwaitsSchema, AwaitsDocument, Open, opened, AfterSchema, AfterDocument, Replies, last_text}
 use Rattle.pm_live.specs.Talks.{IsTalk}
 use Rattle.pm_live.specs.Openings.{lost_text, IsOpened, AllOpened}
 use Rattle.pm_live.proofs.Hearing.{all-talks}
@@ -23,11 +21,11 @@ use Rattle.pm_live.proofs.Hearing.{all-talks}
 pub new-kept : (s : Schema) (doc : Document) → Valid (documents_of s.spec) doc → IsKept meaning s record { first = doc; doc = doc; log = [] }
 new-kept s doc valid = record { first_good = valid; good = valid; folded = refl }
 
-abbrev Answered : LivePhase → List (List ℕ) → List ℕ → LivePhase → Type 0
+abbrev Answered : Phase → List (List ℕ) → List ℕ → Phase → Type 0
 Answered p lines out end = Answers Replies last_text no_memory p lines out end
 
 -- behind the schema
-record WithDocument (s : Schema) (lines : List (List ℕ)) (out : List ℕ) (end : LivePhase) : Type 0 where
+record WithDocument (s : Schema) (lines : List (List ℕ)) (out : List ℕ) (end : Phase) : Type 0 where
   doc : Document
   between : List (List ℕ)
   second : List ℕ
@@ -48,7 +46,7 @@ not-closed : true ≡ false → ⊥
 not-closed e = absurd (cc)
 
 -- the line is the document
-with-this : (s : Schema) (line : List ℕ) (lines : List (List ℕ)) (text rest out : List ℕ) (mid : LivePhase) (live : Live) (r : Result Document Code)
+with-this : (s : Schema) (line : List ℕ) (lines : List (List ℕ)) (text rest out : List ℕ) (mid : Phase) (live : Live) (r : Result Document Code)
     → DocLine s (kept line) r → AfterDocument s r text true mid → out ≡ text ++ rest → Answered mid lines rest (Open live)
     → WithDocument s (line ∷ lines) out (Open live)
 with-this s line lines text rest out mid live (Ok doc) is h o a = record {
@@ -60,12 +58,12 @@ with-this s line lines text rest out mid live (Ok doc) is h o a = record {
   split = refl;
   is_document = is;
   written = o ∙ ap (λ x. x ++ rest) h.1;
-  talk = all-talks (opened s doc) lines rest (Open live) (new-kept s doc h.0) (subst (λ (m : LivePhase). Answered m lines rest (Open live)) h.3 a);
+  talk = all-talks (opened s doc) lines rest (Open live) (new-kept s doc h.0) (subst (λ (m : Phase). Answered m lines rest (Open live)) h.3 a);
 }
 with-this s line lines text rest out mid live (Err code) is h o a = absurd (not-closed h.1)
 
 -- there was no memory for the line
-with-lost : (s : Schema) (line : List ℕ) (lines : List (List ℕ)) (text rest out : List ℕ) (end : LivePhase)
+with-lost : (s : Schema) (line : List ℕ) (lines : List (List ℕ)) (text rest out : List ℕ) (end : Phase)
     → text ≡ no_memory → out ≡ text ++ rest → WithDocument s lines rest end → WithDocument s (line ∷ lines) out end
 with-lost s line lines text rest out end t o h = record {
   doc = h.doc;
@@ -86,15 +84,15 @@ with-document s (line ∷ lines) out live a =
     elim a.3 [
       | inl told ↦ with-this s line lines a.0 a.2 out a.1 live told.0 told.1 told.2 a.4 a.5
       | inr lost ↦ with-lost s line lines a.0 a.2 out (Open live) lost.0 a.4
-          (with-document s lines a.2 live (subst (λ (m : LivePhase). Answered m lines a.2 (Open live)) lost.2 a.5))
+          (with-document s lines a.2 live (subst (λ (m : Phase). Answered m lines a.2 (Open live)) lost.2 a.5))
     ]
 
 -- the line is the schema
-opened-this : (line : List ℕ) (lines : List (List ℕ)) (text rest out : List ℕ) (mid : LivePhase) (live : Live) (r : Result Schema Code)
+opened-this : (line : List ℕ) (lines : List (List ℕ)) (text rest out : List ℕ) (mid : Phase) (live : Live) (r : Result Schema Code)
     → SchemaLine (kept line) r → AfterSchema r text true mid → out ≡ text ++ rest → Answered mid lines rest (Open live)
     → IsOpened (line ∷ lines) out (Open live)
 opened-this line lines text rest out mid live (Ok s) is h o a =
-    let d = with-document s lines rest live (subst (λ (m : LivePhase). Answered m lines rest (Open live)) h.2 a) in
+    let d = with-document s lines rest live (subst (λ (m : Phase). Answered m lines rest (Open live)) h.2 a) in
     record {
       schema = s;
       doc = d.doc;
@@ -112,7 +110,7 @@ opened-this line lines text rest out mid live (Ok s) is h o a =
     }
 opened-this line lines text rest out mid live (Err code) is h o a = absurd (not-closed h.1)
 
-opened-lost : (line : List ℕ) (lines : List (List ℕ)) (text rest out : List ℕ) (end : LivePhase)
+opened-lost : (line : List ℕ) (lines : List (List ℕ)) (text rest out : List ℕ) (end : Phase)
     → text ≡ no_memory → out ≡ text ++ rest → IsOpened lines rest end → IsOpened (line ∷ lines) out end
 opened-lost line lines text rest out end t o h = record {
   schema = h.schema;
@@ -137,5 +135,5 @@ all-opened (line ∷ lines) out live a =
     elim a.3 [
       | inl told ↦ opened-this line lines a.0 a.2 out a.1 live told.0 told.1 told.2 a.4 a.5
       | inr lost ↦ opened-lost line lines a.0 a.2 out (Open live) lost.0 a.4
-          (all-opened lines a.2 live (subst (λ (m : LivePhase). Answered m lines a.2 (Open live)) lost.2 a.5))
+          (all-opened lines a.2 live (subst (λ (m : Phase). Answered m lines a.2 (Open live)) lost.2 a.5))
     ]

@@ -6,6 +6,7 @@ pub mod Texts
 pub mod Live
 pub mod Presenting
 pub mod Phases
+pub mod Awaiting
 pub mod Talks
 pub mod Openings
 pub mod Calls

@@ -6,10 +6,8 @@ use Rattle.pm_head.specs.Schemas.{SchemaLine}
 use Rattle.pm_head.specs.Documents.{DocLine}
 use Rattle.pm_serve.specs.Serves.{kept, Answers}
 use Rattle.pm_live.specs.declared.live.Live.{Live}
-use Rattle.pm_live.specs.Phases.{LivePhase}
-use Rattle.pm_live.specs.declared.phase.Phase.TheVariants.{AwaitsSchema, Open}
 use Rattle.pm_live.specs.Texts.{no_memory, opened_text}
-use Rattle.pm_live.specs.Phases.{opened, Replies, last_text}
+use Rattle.pm_live.specs.Phases.{Phase, AwaitsSchema, Open, opened, Replies, last_text}
 use Rattle.pm_live.specs.Talks.{IsTalk}
 
 -- what is written for lines for which there was no memory
@@ -19,7 +17,7 @@ lost_text (line ∷ lines) = no_memory ++ lost_text lines
 
 -- The first line for which there was memory is a schema, the next one a document, and the others are answered by the authority
 -- that they open. What is written is, behind what is said of want of memory, the document's size, and then their answers.
-pub record IsOpened (lines : List (List ℕ)) (out : List ℕ) (end : LivePhase) : Type 0 where
+pub record IsOpened (lines : List (List ℕ)) (out : List ℕ) (end : Phase) : Type 0 where
   pub schema : Schema
   pub doc : Document
   pub before : List (List ℕ)

@@ -13,13 +13,11 @@ use Rattle.pm_serve.specs.Serves.{kept, Answers}
 use Rattle.pm_live.specs.declared.asked.Asked.{Asked}
 use Rattle.pm_live.specs.declared.asked.Asked.TheVariants.{Submit, Since, Doc}
 use Rattle.pm_live.specs.declared.live.Live.{Live}
-use Rattle.pm_live.specs.Phases.{LivePhase}
-use Rattle.pm_live.specs.declared.phase.Phase.TheVariants.{Open}
 use Rattle.pm_live.specs.Ids.{number_of, has_room}
 use Rattle.pm_live.specs.Texts.{fault_text, accepted_text, no_memory}
 use Rattle.pm_live.specs.Asked.{asked_line}
 use Rattle.pm_live.specs.Live.{LiveAuthority, named, message_of, answered}
-use Rattle.pm_live.specs.Phases.{Replies, last_text}
+use Rattle.pm_live.specs.Phases.{Phase, Open, Replies, last_text}
 
 -- a line, and whether there was memory for it
 pub record Line : Type 0 where
@@ -66,7 +64,7 @@ presents s a (m ∷ ms) = presents s (presented meaning s a m).1 ms
 -- `written`, `stands`: the output and the authority behind the lines are functions of them.
 -- `folded`: the authority is the one after the messages in the lines.
 -- `valid`: behind each number of lines the first document and the authority's are valid, and the log leads from one to the other.
-pub record IsTalk (live : Live) (lines : List (List ℕ)) (out : List ℕ) (end : LivePhase) : Type 0 where
+pub record IsTalk (live : Live) (lines : List (List ℕ)) (out : List ℕ) (end : Phase) : Type 0 where
   pub heard : List Line
   pub are : map (λ l. l.bytes) heard ≡ map kept lines
   pub written : out ≡ answers live heard
@@ -77,7 +75,7 @@ pub record IsTalk (live : Live) (lines : List (List ℕ)) (out : List ℕ) (end 
 -- so it is of all lines that are answered one behind another from an authority on
 abbrev pub AllTalks : Type 0
 AllTalks =
-    (live : Live) (lines : List (List ℕ)) (out : List ℕ) (end : LivePhase) → IsKept meaning live.schema live.authority
+    (live : Live) (lines : List (List ℕ)) (out : List ℕ) (end : Phase) → IsKept meaning live.schema live.authority
     → Answers Replies last_text no_memory (Open live) lines out end → IsTalk live lines out end
 
 -- ---- what holds of each line

@@ -17,6 +17,7 @@ use pm_apply::DocChange;
 use pm_authority::Authority;
 use pm_head::{Code, LineError};
 use pm_schema::Schema;
+use pm_serve::{Reply, Service};
 use std::alloc::{AllocError, Global};
 
 /// An authority that answers lines: the schema, the authority, and the IDs of the clients whose submissions were accepted.
@@ -25,6 +26,32 @@ pub struct Live {
     pub schema: Schema,
     pub authority: Authority<DocChange>,
     pub ids: ClientIds,
+}
+
+impl Service for Live {
+    ghost use Rattle.std.specs.Prelude.{[]};
+    ghost use Rattle.pm_apply.specs.Changes.{meaning};
+    ghost use Rattle.pm_authority.specs.Kept.{IsKept};
+    ghost use Rattle.pm_live.specs.Awaiting.{OpenReplies};
+
+    ghost good = { λ l. IsKept meaning l.schema l.authority };
+
+    ghost replies = { OpenReplies };
+
+    ghost last = { λ _. [] };
+
+    /// The answer to a line, behind which further lines are answered.
+    fn reply(&mut self, alloc: Global, line: &[u8]) -> Result<Reply, AllocError> {
+        Ok(Reply {
+            text: self.answer(alloc, line)?,
+            more: true,
+        })
+    }
+
+    /// Nothing.
+    fn last(&self) -> &[u8] {
+        "".as_bytes()
+    }
 }
 
 impl Live {

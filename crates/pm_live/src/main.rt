@@ -9,15 +9,17 @@ mod fields;
 mod ids;
 mod live;
 mod opening;
-mod phase;
 mod presenting;
+mod status;
+mod talk;
 #[cfg(test)]
 mod tests;
 mod texts;
 mod writing;
 
-use call::{Status, run};
+use call::run;
 use pm_io::{StdSink, StdSource};
+use status::Status;
 use std::process::ExitCode;
 use std::rt::Env;
 use std::{env, io};

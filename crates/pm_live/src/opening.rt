@@ -1,100 +1,100 @@
-//! Lines 1 and 2: the schema and the first document, as session files have them.
-ghost use Rattle.std.specs.Prelude.{◌≡◌, ◌<◌, length, IfOk};
-ghost use Rattle.serde_json.specs.View.{view};
-ghost use Rattle.pm_tokens.specs.Faults.{Valid};
-ghost use Rattle.pm_schema.specs.Documents.{documents_of};
-ghost use Rattle.pm_head.specs.Answers.{Finds};
-ghost use Rattle.pm_head.specs.Schemas.{SchemaIs, SchemaLine};
-ghost use Rattle.pm_head.specs.Documents.{FilledTop, TopNode, DocIs, DocLine, top_of};
+//! The opening of a talk: line 1 is a schema, and line 2 a document of it.
+ghost use Rattle.std.specs.Prelude.{◌≡◌, Option, None, Some, IfOk, OnErr, string_bytes};
+ghost use Rattle.pm_live.specs.Phases.{AwaitsSchema, AwaitsDocument, Replies};
+ghost use Rattle.pm_live.specs.Awaiting.{stands, Came};
 
-use crate::codes::{fill_code, schema_code};
-use pm_auto::TypeId;
-use pm_docjson::read_node;
-use pm_head::{Code, LineError, json_line, node_code};
-use pm_node::{CheckError, Document, Node, make_filled};
+use crate::texts::{opened_text, opening_fault_text};
+use pm_apply::DocChange;
+use pm_authority::Authority;
+use pm_head::{LineError, doc_line, schema_line};
 use pm_schema::Schema;
-use pm_schemajson::read_schema;
-use serde_json::Value;
-use std::alloc::Global;
+use pm_serve::{Reply, Service};
+use std::alloc::{AllocError, Global};
 
-/// The schema that line 1 writes.
-pub(crate) fn schema_line(alloc: Global, line: &[u8]) -> Result<Schema, LineError>
-    ensures { Finds (SchemaLine line.now) result }
-{
-    let json = json_line(alloc, line)?;
-    schema_of(alloc, &json)
+/// A talk that is being opened: the schema, once line 1 came, and the authority over the first document, once line 2 did.
+#[derive(Drop)]
+pub struct Opening {
+    pub schema: Option<Schema>,
+    pub authority: Option<Authority<DocChange>>,
 }
 
-fn schema_of(alloc: Global, json: &Value) -> Result<Schema, LineError>
-    ensures { Finds (SchemaIs (view json.now)) result }
-{
-    match read_schema(alloc, json) {
-        Ok(schema) => Ok(schema),
-        Err(error) => match schema_code(error) {
-            Some(code) => Err(LineError::Code(code)),
-            None => Err(LineError::NoMemory),
-        },
+impl Service for Opening {
+    ghost use Rattle.pm_live.specs.Phases.{last_text};
+    ghost use Rattle.pm_live.specs.Awaiting.{IsOpening, OpeningReplies, phase_of};
+
+    ghost good = { IsOpening };
+
+    ghost replies = { OpeningReplies };
+
+    ghost last = { λ o. last_text (phase_of o) };
+
+    /// The answer to line 1 or 2. A line 1 without fault has none of its own: line 2 is answered for both.
+    fn reply(&mut self, alloc: Global, line: &[u8]) -> Result<Reply, AllocError> {
+        match &self.schema {
+            Some(schema) => take_document(alloc, schema, &mut self.authority, line),
+            None => take_schema(alloc, &mut self.schema, line),
+        }
+    }
+
+    /// Where line 1 or 2 did not come, that it is missing.
+    fn last(&self) -> &[u8] {
+        match (&self.schema, &self.authority) {
+            (None, _) => "{\"fault\":2,\"line\":1}\n".as_bytes(),
+            (Some(_), None) => "{\"fault\":2,\"line\":2}\n".as_bytes(),
+            (Some(_), Some(_)) => "".as_bytes(),
+        }
     }
 }
 
-/// The first document: the one that line 2 writes, or the top type filled where it is null.
-pub(crate) fn doc_line(alloc: Global, schema: &Schema, line: &[u8]) -> Result<Document, LineError>
-    ensures read { Finds (DocLine schema.now line.now) result }
-    ensures valid { IfOk result (Valid (documents_of schema.now.spec)) }
+/// Takes line 1.
+fn take_schema(
+    alloc: Global,
+    schema: &mut Option<Schema>,
+    line: &[u8],
+) -> Result<Reply, AllocError>
+    requires { schema.old ≡ None }
+    ensures told { IfOk result (λ r. Replies AwaitsSchema line.now (string_bytes r.text) r.more (stands schema.new None)) }
+    ensures err { OnErr result (schema.new ≡ schema.old) }
 {
-    let json = json_line(alloc, line)?;
-    doc_of(alloc, schema, &json)
-}
-
-fn doc_of(alloc: Global, schema: &Schema, json: &Value) -> Result<Document, LineError>
-    ensures read { Finds (DocIs schema.now (view json.now)) result }
-    ensures valid { IfOk result (Valid (documents_of schema.now.spec)) }
-{
-    let node = top_node(alloc, schema, json)?;
-    if node.kind != top_type(schema) {
-        return Err(LineError::Code(Code::InvalidDocument));
-    }
-    let doc = Document::new(alloc, node)?;
-    match doc.check(alloc, schema) {
-        Ok(()) => Ok(doc),
-        Err(CheckError::NoMemory) => Err(LineError::NoMemory),
-        Err(_) => Err(LineError::Code(Code::InvalidDocument)),
-    }
-}
-
-/// The type of the top node.
-fn top_type(schema: &Schema) -> TypeId
-    ensures top { result ≡ top_of schema.now.spec }
-    ensures inside { result < length schema.now.spec.nodes }
-{
-    schema.top()
-}
-
-/// The top node of the first document.
-fn top_node(alloc: Global, schema: &Schema, json: &Value) -> Result<Node, LineError>
-    ensures { Finds (TopNode schema.now (view json.now)) result }
-{
-    if json.is_null() {
-        return filled_top(alloc, schema);
-    }
-    match read_node(alloc, schema, json) {
-        Ok(node) => Ok(node),
-        Err(error) => match node_code(error) {
-            Some(code) => Err(LineError::Code(code)),
-            None => Err(LineError::NoMemory),
-        },
+    match schema_line(alloc, line) {
+        Ok(came) => {
+            *schema = Some(came);
+            Ok(Reply {
+                text: String::new(alloc),
+                more: true,
+            })
+        }
+        Err(LineError::Code(code)) => Ok(Reply {
+            text: opening_fault_text(alloc, code, 1)?,
+            more: false,
+        }),
+        Err(LineError::NoMemory) => Err(AllocError),
     }
 }
 
-/// The top type filled.
-fn filled_top(alloc: Global, schema: &Schema) -> Result<Node, LineError>
-    ensures { Finds (FilledTop schema.now) result }
+/// Takes line 2.
+fn take_document(
+    alloc: Global,
+    schema: &Schema,
+    authority: &mut Option<Authority<DocChange>>,
+    line: &[u8],
+) -> Result<Reply, AllocError>
+    requires { Came (Some schema.now) authority.old }
+    ensures told { IfOk result (λ r. authority.old ≡ None → Replies (AwaitsDocument schema.now) line.now (string_bytes r.text) r.more (stands (Some schema.now) authority.new)) }
+    ensures err { OnErr result (authority.new ≡ authority.old) }
+    ensures good { Came (Some schema.now) authority.new }
 {
-    match make_filled(alloc, schema, top_type(schema)) {
-        Ok(node) => Ok(node),
-        Err(error) => match fill_code(error) {
-            Some(code) => Err(LineError::Code(code)),
-            None => Err(LineError::NoMemory),
-        },
+    match doc_line(alloc, schema, line) {
+        Ok(doc) => {
+            let text = opened_text(alloc, doc.size())?;
+            let opened = Authority::new(alloc, doc)?;
+            *authority = Some(opened);
+            Ok(Reply { text, more: true })
+        }
+        Err(LineError::Code(code)) => Ok(Reply {
+            text: opening_fault_text(alloc, code, 2)?,
+            more: false,
+        }),
+        Err(LineError::NoMemory) => Err(AllocError),
     }
 }

@@ -1,10 +1,17 @@
 //! The texts of answers: each a line of compact JSON, whose keys stand in byte order.
 ghost use Rattle.std.specs.Prelude.{◌≡◌, ◌++◌, codes, decimal, IfOk, OnOk, string_bytes};
-ghost use Rattle.pm_live.specs.Texts.{fault_text, opening_fault_text, opened_text, accepted_text, version_text, refused_text};
+ghost use Rattle.pm_live.specs.Texts.{no_memory, fault_text, opening_fault_text, opened_text, accepted_text, version_text, refused_text};
 
 use pm_head::Code;
 use pm_meaning::Reason;
 use std::alloc::{AllocError, Global};
+
+/// What a line is answered for which there is no memory.
+pub(crate) fn no_memory() -> &'static [u8]
+    ensures { result.now ≡ no_memory }
+{
+    "{\"fault\":\"memory\"}\n".as_bytes()
+}
 
 /// The answer to a line with a fault.
 pub(crate) fn fault_text(alloc: Global, code: Code) -> Result<String, AllocError>
