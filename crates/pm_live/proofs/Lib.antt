@@ -6,4 +6,5 @@ pub mod Accepting
 pub mod Submitting
 pub mod Opens
 pub mod Ends
+pub mod Awaiting
 pub mod Talking

@@ -122,3 +122,17 @@ talked-on status mid left then rest before now old mean new f t = record {
   good = t.good;
   says = t.says;
 }
+
+-- ---- what was opened
+
+pub not-some : (authority : Option LiveAuthority) → is_some authority ≡ false → authority ≡ None
+not-some None e = refl
+not-some (Some a) e = absurd (cc)
+
+pub stands-by : (o : Opening) (live : Live) (left rest : Option (List ℕ)) (before after : List ℕ) (old new : Option (List ℕ)) → phase_of o ≡ Open live
+    → SoFar Replies last_text no_memory AwaitsSchema (phase_of o) left rest before after old new → IsOpening o
+    → SoFar Replies last_text no_memory AwaitsSchema (Open live) left rest before after old new × IsGood (Open live)
+stands-by o live left rest before after old new e f good = (
+  subst (λ (p : Phase). SoFar Replies last_text no_memory AwaitsSchema p left rest before after old new) e f,
+  subst (λ (p : Phase). IsGood p) e (good-phase o good),
+)

@@ -56,5 +56,4 @@ fn laws()
     ensures talks { AllTalks }
     ensures accepts { AcceptsExactly }
     ensures faulty { FaultsChangeNothing }
-{
-}
+{}

@@ -47,11 +47,7 @@ impl Service for Opening {
 }
 
 /// Takes line 1.
-fn take_schema(
-    alloc: Global,
-    schema: &mut Option<Schema>,
-    line: &[u8],
-) -> Result<Reply, AllocError>
+fn take_schema(alloc: Global, schema: &mut Option<Schema>, line: &[u8]) -> Result<Reply, AllocError>
     requires { schema.old ≡ None }
     ensures told { IfOk result (λ r. Replies AwaitsSchema line.now (string_bytes r.text) r.more (stands schema.new None)) }
     ensures err { OnErr result (schema.new ≡ schema.old) }

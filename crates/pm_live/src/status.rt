@@ -28,7 +28,11 @@ pub(crate) fn status_of(served: Served, is_open: bool) -> Status
     ensures { result ≡ status_of served is_open }
 {
     match served {
-        Served::End => if is_open { Status::Done } else { Status::Refused },
+        Served::End => if is_open {
+            Status::Done
+        } else {
+            Status::Refused
+        },
         Served::Closed => Status::Refused,
         Served::ReadFault => Status::ReadFault,
         Served::WriteFault => Status::WriteFault,

@@ -25,7 +25,7 @@ pub(crate) fn talk<R: Piecewise, W: Sink>(
     ensures talked { Talked AwaitsSchema result (R.left source.old) (R.left source.new) unread.old (W.written sink.old) (W.written sink.new) }
     ensures faults { FaultsAt result (R.faults source.old) (R.faults source.new) (W.faults sink.old) (W.faults sink.new) }
 {
-    match open(alloc, unread, line, source, sink) {
+    match open_live(alloc, unread, line, source, sink) {
         Ok(live) => answer_all(alloc, live, unread, line, source, sink),
         Err(status) => status,
     }
@@ -52,7 +52,7 @@ fn answer_all<R: Piecewise, W: Sink>(
 }
 
 /// Answers lines until a schema and a document have come, and opens an authority; or says how it was over before.
-fn open<R: Piecewise, W: Sink>(
+fn open_live<R: Piecewise, W: Sink>(
     alloc: Global,
     unread: &mut Unread,
     line: &mut Kept,

@@ -1,9 +1,9 @@
 -- A service whose states are seen as others: what it answers is what they are answered.
-use Rattle.std.proofs.Common.{◌≡◌, ◌++◌, ◌∙◌, ℕ, Bool, List, [], ◌∷◌, refl, ap, inl, inr}
+use Rattle.std.proofs.Common.{◌≡◌, ◌++◌, ◌∙◌, ℕ, Bool, List, [], ◌∷◌, ap, inl, inr}
 use Rattle.std.specs.Prelude.{Option}
 use Rattle.pm_serve.specs.declared.serving.Served.{Served}
 use Rattle.pm_serve.specs.declared.serving.Served.TheVariants.{End, Closed, ReadFault, WriteFault, Spent}
-use Rattle.pm_serve.specs.Serves.{kept, Tells, Answers, Stepped, IsEnd, OverBy, SoFar, Serves}
+use Rattle.pm_serve.specs.Serves.{kept, Tells, Answers, Stepped, IsEnd, OverBy, Serves}
 
 module _ {S T : Type 0} (mine : S → List ℕ → List ℕ → Bool → S → Type 0) (last : S → List ℕ)
     (replies : T → List ℕ → List ℕ → Bool → T → Type 0) (said : T → List ℕ) (no_memory : List ℕ)
