@@ -1,6 +1,6 @@
 #!/bin/sh
-# Tests the client of the live authority (live/client.js) and the page (live/page): editors of ProseMirror's own libraries work over
-# the built program. What is missing (node, ProseMirror's packages, the program, Chromium) is said, and what needs it is left out.
+# Tests the live authority by lines (tests/live-lines.sh), its client (live/client.js) and its page (live/page): editors of
+# ProseMirror's own libraries work over the built program. What is missing (node, ProseMirror's packages, the program, Chromium) is said, and what needs it is left out.
 # The last line is `N passed, M failed`.
 # usage: tests/live.sh [--install]      with --install Debian's packages are installed where they are missing
 # The variable PM_LIVE names another program than crates/pm_live/out/pm_live.
@@ -40,6 +40,13 @@ if [ "${1-}" = --install ]; then
   # shellcheck disable=SC2086
   have_packages || install $packages || true
   have_chromium || install chromium || true
+fi
+
+# shellcheck disable=SC2086
+if command -v ${PM_LIVE%% *} >/dev/null 2>&1; then
+  part "$top/tests/live-lines.sh" "$PM_LIVE"
+else
+  leave_out "what the program writes is" "it is not built: $PM_LIVE"
 fi
 
 if ! have_packages; then

@@ -12,8 +12,6 @@ mod opening;
 mod presenting;
 mod status;
 mod talk;
-#[cfg(test)]
-mod tests;
 mod texts;
 mod writing;
 

@@ -5,7 +5,7 @@ use Rattle.pm_live.proofs.talk.answer_all.Goals as goal
 
 pub returns-clause-talked : goal.returns-clause-talked
 returns-clause-talked g c =
-    answered-all c.serve-served.result c.status_of.result c.no_memory.result.now c.args.live c.serve-served.new.live
+    answered-all c.serve-served.result c.status_of.result c.no_memory.result.now c.args.live c.serve-served.new.service
     (g.R.Source.left c.args.source.now) (g.R.Source.left c.serve-served.new.source) c.args.unread.now c.serve-served.new.unread
     (g.W.Sink.written c.args.sink.now) (g.W.Sink.written c.serve-served.new.sink)
     c.no_memory.ensures c.serve-served.ensures.serves c.serve-served.ensures.good c.status_of.ensures

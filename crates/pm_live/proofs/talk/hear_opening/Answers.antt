@@ -15,8 +15,7 @@ loop-init g c = record {
 
 pub returns-then-is_some-clause-opens : goal.returns-then-is_some-clause-opens
 returns-then-is_some-clause-opens g c =
-    let t = c.serve_next.new.service in
-    (
+    let t = c.serve_next.new.service in (
       sym (came-open t c.in-More.ensures.good) ∙ (sym c.is_some.ensures ∙ c.if-is_some.true),
       heard-more AwaitsSchema c.no_memory.result.now c.loop.opening t
           (g.R.Source.left c.args.source.now) (g.R.Source.left c.loop.source) (g.R.Source.left c.serve_next.new.source)
