@@ -1,11 +1,10 @@
 -- When a submission is accepted.
-use Rattle.std.proofs.Common.{◌≡◌, ◌∙◌, ◌+◌, ◌++◌, ℕ, suc, Bool, true, false, List, [], ◌∷◌, length, get_or, refl, ap, sym, subst, arith, Ok, Err}
-use Rattle.std.specs.Prelude.{◌↔◌, Option, None, Some, if◌then◌else◌}
+use Rattle.std.proofs.Common.{◌≡◌, ◌∙◌, ◌+◌, ℕ, suc, List, [], ◌∷◌, length, get_or, refl, ap, sym, subst, arith, Ok}
+use Rattle.std.specs.Prelude.{Option, None, Some, if◌then◌else◌}
 use Rattle.pm_tokens.specs.Tokens.{Doc as Document}
 use Rattle.pm_schema.specs.declared.schema.Schema.{Schema}
 use Rattle.pm_meaning.specs.Steps.{Step}
 use Rattle.pm_apply.specs.Changes.{meaning}
-use Rattle.pm_head.specs.declared.code.Code.{Code}
 use Rattle.pm_head.specs.declared.code.Code.TheVariants.{BadClients}
 use Rattle.pm_authority.specs.declared.named.Named.{Named}
 use Rattle.pm_authority.specs.declared.message.Message.TheVariants as message
@@ -15,11 +14,9 @@ use Rattle.pm_authority.specs.Presents.{presented}
 use Rattle.pm_authority.specs.Causes.{IsAnswer}
 use Rattle.pm_authority.proofs.Presented.{present-causes}
 use Rattle.pm_live.specs.declared.asked.Asked.TheVariants.{Submit}
-use Rattle.pm_live.specs.declared.live.Live.{Live}
-use Rattle.pm_live.specs.Ids.{number_of, has_room}
+use Rattle.pm_live.specs.Ids.{number_of}
 use Rattle.pm_live.specs.Texts.{fault_text, accepted_text, version_text, refused_words, fault_place, reason_number}
-use Rattle.pm_live.specs.Asked.{asked_line}
-use Rattle.pm_live.specs.Live.{LiveAuthority, LiveAnswer, named, message_of, answer_text, told, submitted, answer, answered}
+use Rattle.pm_live.specs.Live.{LiveAuthority, LiveAnswer, named, answer_text, told, answer, answered}
 use Rattle.pm_live.specs.Talks.{AcceptsExactly, FaultsChangeNothing}
 
 pub length-named : (client serial : ℕ) (steps : List Step) → length (named client serial steps) ≡ length steps

@@ -1,36 +1,30 @@
 -- What lines do to an authority: the messages in them are presented to it, and nothing else changes it.
-use Rattle.std.proofs.Common.{◌≡◌, ◌∙◌, ◌+◌, ◌++◌, ◌<◌, ℕ, Bool, true, false, List, [], ◌∷◌, length, take, get_or, refl, ap, sym, subst, Result, Ok, Err}
-use Rattle.std.specs.Prelude.{◌==◌, ◌↔◌, ◌||◌, Option, None, Some, is_some, unwrap_or, nat_lt, if◌then◌else◌}
+use Rattle.std.proofs.Common.{◌≡◌, ◌∙◌, ◌+◌, ◌++◌, ℕ, Bool, true, false, List, [], ◌∷◌, length, refl, ap, sym, subst, Result, Ok, Err}
+use Rattle.std.specs.Prelude.{◌==◌, if◌then◌else◌}
 use Rattle.pm_tokens.specs.Tokens.{Doc as Document}
 use Rattle.pm_schema.specs.declared.schema.Schema.{Schema}
-use Rattle.pm_schema.specs.Names.{place_of}
 use Rattle.pm_meaning.specs.Steps.{Step}
 use Rattle.pm_meaning.specs.declared.reason.Reason.{Reason}
 use Rattle.pm_apply.specs.Changes.{meaning}
 use Rattle.pm_apply.specs.Laws.{laws}
 use Rattle.pm_head.specs.declared.code.Code.{Code}
 use Rattle.pm_head.specs.declared.code.Code.TheVariants.{BadClients}
-use Rattle.pm_authority.specs.declared.named.Named.{Named}
 use Rattle.pm_authority.specs.declared.running.Refusal.{Refusal}
 use Rattle.pm_authority.specs.declared.message.Message.{Message}
 use Rattle.pm_authority.specs.declared.message.Message.TheVariants as message
-use Rattle.pm_authority.specs.declared.message.Answer.{Answer}
-use Rattle.pm_authority.specs.declared.message.Answer.TheVariants.{Accepted, WrongVersion, StepRefused, Entries}
-use Rattle.pm_authority.specs.Runs.{run, AllApply}
+use Rattle.pm_authority.specs.declared.message.Answer.TheVariants.{WrongVersion}
+use Rattle.pm_authority.specs.Runs.{run}
 use Rattle.pm_authority.specs.Presents.{tried, presented}
-use Rattle.pm_authority.specs.Causes.{IsAnswer}
 use Rattle.pm_authority.specs.Kept.{IsKept}
 use Rattle.pm_authority.proofs.RunFolds.{kept-append}
-use Rattle.pm_authority.proofs.Presented.{present-causes}
 use Rattle.pm_live.specs.declared.asked.Asked.{Asked}
 use Rattle.pm_live.specs.declared.asked.Asked.TheVariants.{Submit, Since, Doc}
 use Rattle.pm_live.specs.declared.live.Live.{Live}
-use Rattle.pm_live.specs.declared.ids.TheConstants.{MAX_IDS}
-use Rattle.pm_live.specs.Ids.{number_of, has_room, with_id}
-use Rattle.pm_live.specs.Texts.{fault_text, accepted_text, version_text, refused_text, refused_words, fault_place, reason_number, no_memory}
+use Rattle.pm_live.specs.Ids.{has_room, with_id}
+use Rattle.pm_live.specs.Texts.{fault_text, no_memory}
 use Rattle.pm_live.specs.Asked.{asked_line}
-use Rattle.pm_live.specs.Live.{LiveAuthority, LiveAnswer, named, message_of, answer_text, is_accepted, told, submitted, answer, answered}
-use Rattle.pm_live.specs.Talks.{Line, after_line, answers, after, message_in, messages, presents, IsAccepted}
+use Rattle.pm_live.specs.Live.{LiveAuthority, LiveAnswer, message_of, is_accepted, told, answer, answered}
+use Rattle.pm_live.specs.Talks.{Line, after_line, after, message_in, messages, presents}
 
 -- ---- one message
 

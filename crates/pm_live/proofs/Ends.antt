@@ -1,5 +1,5 @@
 -- How serving ended, and the status that says so.
-use Rattle.std.proofs.Common.{◌≡◌, ◌∙◌, ◌⊎◌, ℕ, Bool, true, false, inl, inr, sym, subst}
+use Rattle.std.proofs.Common.{◌≡◌, ◌∙◌, ℕ, Bool, true, false, inl, inr, sym, subst}
 use Rattle.pm_serve.specs.declared.serving.Served.{Served}
 use Rattle.pm_serve.specs.declared.serving.Served.TheVariants as served
 use Rattle.pm_serve.specs.Serves.{ServeFaults}

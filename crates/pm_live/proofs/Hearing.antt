@@ -1,13 +1,11 @@
 -- The answers to lines, as `serve` tells them, are those of the lines for which there was memory.
-use Rattle.std.proofs.Common.{◌≡◌, ◌∙◌, ◌++◌, ◌⊎◌, inl, inr, ℕ, Bool, true, false, List, [], ◌∷◌, map, take, refl, ap, sym, subst}
-use Rattle.pm_apply.specs.Changes.{meaning}
-use Rattle.pm_authority.specs.Kept.{IsKept}
-use Rattle.pm_serve.specs.Serves.{kept, Tells, Answers}
+use Rattle.std.proofs.Common.{◌≡◌, ◌∙◌, ◌++◌, inl, inr, ℕ, Bool, true, false, List, [], ◌∷◌, map, take, refl, ap, subst}
+use Rattle.pm_serve.specs.Serves.{kept, Answers}
 use Rattle.pm_live.specs.declared.live.Live.{Live}
 use Rattle.pm_live.specs.Texts.{no_memory}
 use Rattle.pm_live.specs.Live.{answered}
 use Rattle.pm_live.specs.Phases.{Phase, Open, Replies, last_text}
-use Rattle.pm_live.specs.Talks.{Line, answers, after, IsTalk, AllTalks}
+use Rattle.pm_live.specs.Talks.{Line, answers, after, AllTalks}
 use Rattle.pm_live.proofs.Answering.{folded, valid}
 
 -- what is told of lines, and no more

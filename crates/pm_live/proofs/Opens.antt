@@ -1,5 +1,5 @@
 -- How a talk is opened.
-use Rattle.std.proofs.Common.{◌≡◌, ◌∙◌, ◌++◌, ◌⊎◌, inl, inr, ℕ, Bool, true, false, List, [], ◌∷◌, length, refl, ap, sym, subst, append_assoc, Result, Ok, Err}
+use Rattle.std.proofs.Common.{◌≡◌, ◌∙◌, ◌++◌, inl, inr, ℕ, true, false, List, [], ◌∷◌, length, refl, ap, sym, subst, append_assoc, Result, Ok, Err}
 use Rattle.pm_tokens.specs.Tokens.{Doc as Document}
 use Rattle.pm_tokens.specs.Faults.{Valid}
 use Rattle.pm_schema.specs.declared.schema.Schema.{Schema}

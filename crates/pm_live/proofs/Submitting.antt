@@ -1,19 +1,17 @@
 -- A submission by a client whose ID has a number, and by one whose ID gets the next.
-use Rattle.std.proofs.Common.{◌≡◌, ◌∙◌, ◌+◌, ◌<◌, ◌++◌, arith, ℕ, Bool, true, false, List, [], ◌∷◌, length, take, refl, ap, sym, subst}
+use Rattle.std.proofs.Common.{◌≡◌, ◌∙◌, ◌+◌, ◌<◌, ◌++◌, arith, ℕ, Bool, true, false, List, [], ◌∷◌, length, take, refl, ap, sym}
 use Rattle.std.specs.Prelude.{◌||◌, Option, None, Some, is_some, unwrap_or, nat_lt, if◌then◌else◌}
 use Rattle.std.proofs.Math.Seq.{take-append_seam}
 use Rattle.pm_schema.specs.Names.{place_of}
 use Rattle.pm_meaning.specs.Steps.{Step}
 use Rattle.pm_apply.specs.Changes.{meaning}
-use Rattle.pm_head.specs.declared.code.Code.{Code}
 use Rattle.pm_head.specs.declared.code.Code.TheVariants.{BadClients}
 use Rattle.pm_authority.specs.declared.message.Message.TheVariants as message
 use Rattle.pm_authority.specs.Presents.{presented}
 use Rattle.pm_live.specs.declared.live.Live.{Live}
 use Rattle.pm_live.specs.declared.ids.TheConstants.{MAX_IDS}
-use Rattle.pm_live.specs.Ids.{number_of, has_room, with_id}
 use Rattle.pm_live.specs.Texts.{fault_text}
-use Rattle.pm_live.specs.Live.{LiveAuthority, LiveAnswer, named, answer_text, is_accepted, told, submitted}
+use Rattle.pm_live.specs.Live.{LiveAuthority, LiveAnswer, named, answer_text, is_accepted, submitted}
 use Rattle.pm_live.proofs.Answering.{unaccepted}
 
 -- what the authority answers to these steps of the client with this number, and what it is then

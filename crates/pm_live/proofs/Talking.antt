@@ -15,7 +15,7 @@ use Rattle.pm_live.specs.declared.opening.Opening.{Opening}
 use Rattle.pm_live.specs.declared.status.Status.{Status}
 use Rattle.pm_live.specs.Texts.{no_memory}
 use Rattle.pm_live.specs.Live.{LiveAuthority}
-use Rattle.pm_live.specs.Phases.{Phase, AwaitsSchema, AwaitsDocument, Open, Replies, last_text, is_open, IsGood}
+use Rattle.pm_live.specs.Phases.{Phase, AwaitsSchema, Open, Replies, last_text, is_open, IsGood}
 use Rattle.pm_live.specs.Awaiting.{stands, phase_of, Came, IsOpening, OpeningReplies, OpenReplies}
 use Rattle.pm_live.specs.Calls.{status_of, Talked}
 

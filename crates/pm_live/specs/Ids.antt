@@ -1,5 +1,5 @@
 -- The IDs of clients. An ID's number is its place in the list of all IDs.
-use Rattle.std.specs.Prelude.{ℕ, List, [], ◌∷◌, ◌++◌, length, slice_get, nat_lt, Bool, ◌||◌, is_some, is_none, unwrap_or, if◌then◌else◌}
+use Rattle.std.specs.Prelude.{ℕ, List, [], ◌∷◌, ◌++◌, length, slice_get, nat_lt, Bool, ◌||◌, is_some, unwrap_or, if◌then◌else◌}
 use Rattle.pm_schema.specs.Names.{place_of}
 use Rattle.pm_live.specs.declared.ids.TheConstants.{MAX_IDS}
 

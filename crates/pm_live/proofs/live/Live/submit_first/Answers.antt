@@ -1,5 +1,4 @@
-use Rattle.std.proofs.Common.{◌≡◌, ◌∙◌, ◌+◌, ◌++◌, ◌∷◌, [], List, ℕ, true, false, length, take, ap, sym, subst, string_bytes}
-use Rattle.std.specs.Prelude.{if◌then◌else◌}
+use Rattle.std.proofs.Common.{◌≡◌, length, subst, string_bytes}
 use Rattle.pm_live.specs.Live.{answer_text, is_accepted}
 use Rattle.pm_live.proofs.Submitting.{gives, first-text, first-after, first-ids, room-lt}
 use Rattle.pm_live.proofs.live.Live.submit_first.Goals as goal
