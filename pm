@@ -1,5 +1,5 @@
 #!/usr/bin/env python3
-"""Builds the program where it is not built, and runs it with the given words.
+"""Builds a program where it is not built, and runs it with the given words: pm_live for the word `live`, else pm_program.
 
 Each crate is proved in a room of its own: a copy of the crates that it stands on, under out/ at the top. Commands of
 rt in one tree would wait for each other, and in rooms they run side by side. What rt makes of a crate comes back to
@@ -8,14 +8,16 @@ the crate's own out/ however its proof ends, so an interrupted build goes on whe
 import fcntl, os, re, shutil, signal, subprocess, sys, time
 
 TOP = os.path.dirname(os.path.abspath(__file__))
-PROGRAM, ROOMS = "pm_program", f"{TOP}/out"
-MADE = f"{TOP}/crates/{PROGRAM}/out/{PROGRAM}"
+ROOMS = f"{TOP}/out"
+# Each program, and how it ends, and what it says, where it is run with no words and no input.
+PROGRAMS = {"pm_program": (2, "^usage: "), "pm_live": (1, r'^\{"fault":2,"line":1\}$')}
 PARTS = ("src", "specs", "proofs")
 # The memory, in bytes, that one more check is likely to take.
 EACH = 3_000_000_000
 HELP = """usage: ./pm WORDS < SESSION      builds the program if it is missing or old, and runs it
-       ./pm build                builds it, and tells how far the build is
-       ./pm try WORDS < SESSION  runs the words at once, with nothing proved
+       ./pm live                 builds the live authority if it is missing or old, and runs it
+       ./pm build [live]         builds the one or the other, and tells how far the build is
+       ./pm try WORDS < SESSION  runs the words at once, with nothing proved; so does ./pm try live
 
 words
   check       write how many op lines the session has and how large its first document is
@@ -27,6 +29,8 @@ words
   at VERSION  play the session as `late` does, and write the document after the first VERSION steps of its log
   gen CLIENTS LINES NUMBER
               make a session from the number, play it as `replay` does, and write a summary; nothing is read
+  live        read a schema, a document and then messages, a line each, and write an answer to each before the next
+              line is read
 
 statuses
   0  done: the whole output was written
@@ -35,12 +39,15 @@ statuses
   3  a read failed; nothing was written
   4  a write failed; a front of the output was written
   5  no memory; nothing was written
+  Of live: 0 all lines were answered, to the end of input; 1 line 1 or 2 is faulty or missing, which the line written
+  last says; 3 and 4 a read or a write failed, behind the answers written; 5 no memory to begin with.
   70 the program could not be built
   127 the toolchain is missing
 
 A build proves the crates that the program stands on, as many side by side as there are processors and memory: it
 takes some 25 minutes on four processors the first time. PM_JOBS=N does N at a time. `try` takes about a minute.
-The session file and the report are described in docs/FORMATS.md, and examples/ has sessions to try.
+The session file and the report are described in docs/FORMATS.md, the lines of live in docs/LIVE.md, and examples/ has
+sessions to try.
 Other options: --help, --version."""
 
 
@@ -54,8 +61,12 @@ def need_toolchain():
         sys.exit(127)
 
 
-def crates_below():
-    """Returns the crates that the program stands on and the program, lowest first, each with its own list of crates."""
+def made(program):
+    return f"{TOP}/crates/{program}/out/{program}"
+
+
+def crates_below(program):
+    """Returns the crates that a program stands on and the program, lowest first, each with its own list of crates."""
     with open(f"{TOP}/crates.txt", encoding="utf-8") as file:
         rows = [line.partition("#")[0].partition(":") for line in file]
     listed = {head.split()[0]: (head + ":" + deps).strip() for head, _, deps in rows if head.strip()}
@@ -68,7 +79,7 @@ def crates_below():
                 visit(it)
             found[name] = {it: listed[it] for dep in uses[name] for it in [*found[dep]]} | {name: listed[name]}
 
-    visit(PROGRAM)
+    visit(program)
     return found
 
 
@@ -78,11 +89,11 @@ def sources(name):
             yield from (f"{folder}/{it}" for it in files)
 
 
-def is_fresh():
-    if not os.access(MADE, os.X_OK):
+def is_fresh(program):
+    if not os.access(made(program), os.X_OK):
         return False
-    files = [f"{TOP}/crates.txt", *(file for name in crates_below() for file in sources(name))]
-    return max(map(os.path.getmtime, files)) < os.path.getmtime(MADE)
+    files = [f"{TOP}/crates.txt", *(file for name in crates_below(program) for file in sources(name))]
+    return max(map(os.path.getmtime, files)) < os.path.getmtime(made(program))
 
 
 def linked(one, other):
@@ -117,7 +128,8 @@ def leave(name):
 
 
 class Build:
-    def __init__(self, below):
+    def __init__(self, program, below):
+        self.program = program
         self.below, self.left, self.done, self.running, self.failed = below, [*below], [], {}, []
         self.size = {it: sum(map(os.path.getsize, sources(it))) for it in below}
         self.start, self.lanes = time.time(), self.width()
@@ -148,8 +160,7 @@ class Build:
             if self.lanes > 2 and all(self.chain(name) >= self.chain(it) for it in self.running):
                 jobs = max(jobs, 2)
             inside = enter(name, self.below[name])
-            # A run with no words tells the usage, and ends with status 2.
-            verb = "run" if name == PROGRAM else "lib"
+            verb = "run" if name == self.program else "lib"
             log = open(f"{ROOMS}/{name}/log", "w+", encoding="utf-8", errors="replace")
             how = {"cwd": inside, "stdin": subprocess.DEVNULL, "stdout": log, "stderr": log}
             self.left.remove(name)
@@ -161,8 +172,9 @@ class Build:
         said = log.read().replace(f"{ROOMS}/{name}", TOP)
         log.close()
         leave(name)
-        is_usage = ran.returncode == 2 and os.access(MADE, os.X_OK) and re.search("^usage: ", said, re.M)
-        if is_usage if name == PROGRAM else ran.returncode == 0:
+        status, text = PROGRAMS.get(name, (0, ""))
+        has_run = ran.returncode == status and os.access(made(name), os.X_OK) and re.search(text, said, re.M)
+        if has_run if name == self.program else ran.returncode == 0:
             self.done.append(name)
             self.show(name)
         else:
@@ -206,28 +218,33 @@ class Build:
         return not self.failed
 
 
-def build():
-    """Builds the program. Only one build works in a tree at a time, and rt waits for it where it locks the same folder."""
+def build(program):
+    """Builds a program. Only one build works in a tree at a time, and rt waits for it where it locks the same folder."""
     need_toolchain()
-    with_lock = os.open(f"{TOP}/crates/{PROGRAM}", os.O_RDONLY)
+    with_lock = os.open(f"{TOP}/crates/pm_program", os.O_RDONLY)
     try:
         fcntl.flock(with_lock, fcntl.LOCK_EX | fcntl.LOCK_NB)
     except BlockingIOError:
         say("waiting for another build in this folder to end")
         fcntl.flock(with_lock, fcntl.LOCK_EX)
-    below = crates_below()
+    below = crates_below(program)
     # A build that was killed has left its rooms.
     for name in below:
         leave(name)
-    work = Build(below)
+    work = Build(program, below)
     say(f"proving {len(below)} crates, {work.lanes} at a time; what is proved already goes fast")
     if not work.run():
         say("the program could not be built")
         sys.exit(70)
-    os.utime(MADE)
+    os.utime(made(program))
     took = int(time.time() - work.start)
     say(f"built in {took // 60} min {took % 60:02} s")
     os.close(with_lock)
+
+
+def chosen(words):
+    """Returns the program that the words call, and the words for it."""
+    return ("pm_live", words[1:]) if words[:1] == ["live"] else ("pm_program", words)
 
 
 def main(words):
@@ -240,15 +257,18 @@ def main(words):
         subprocess.run(["rt", "version"], check=False)
     elif words[:1] == ["try"]:
         need_toolchain()
+        program, given = chosen(words[1:])
         say("nothing is proved in this run; it takes about a minute")
-        os.chdir(f"{TOP}/crates/{PROGRAM}")
-        os.execvp("rt", ["rt", "try", "--", *words[1:]])
-    elif words == ["build"]:
-        say("the program is built") if is_fresh() else build()
+        os.chdir(f"{TOP}/crates/{program}")
+        os.execvp("rt", ["rt", "try", "--", *given])
+    elif words in (["build"], ["build", "live"]):
+        program, _ = chosen(words[1:])
+        say("the program is built") if is_fresh(program) else build(program)
     else:
-        if not is_fresh():
-            build()
-        os.execv(MADE, [MADE, *words])
+        program, given = chosen(words)
+        if not is_fresh(program):
+            build(program)
+        os.execv(made(program), [made(program), *given])
 
 
 if __name__ == "__main__":

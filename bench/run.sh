@@ -219,3 +219,7 @@ node "$here/generated.js" "$here/../crates/pm_program/out/pm_program" 4 2500 1 $
 
 title "the word run, seconds" "run" "replay"
 node "$here/threads.js" "$here/../crates/pm_program/out/pm_program" 32 3000 $tries
+
+# Letters in a second and greatest memory, by a table of its own.
+"$here/../pm" build live
+node "$here/live.js" "$here/../crates/pm_live/out/pm_live" $tries

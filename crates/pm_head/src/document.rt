@@ -17,8 +17,9 @@ use pm_schema::Schema;
 use serde_json::Value;
 use std::alloc::Global;
 
-/// The first document: the one that line 2 writes, or the top type filled where it is null.
-pub(crate) fn doc_line(alloc: Global, schema: &Schema, line: &[u8]) -> Result<Document, LineError>
+/// The first document: the one that line 2 writes, or the top type filled where it is null. An error says the code of its
+/// first fault, or that there was no memory.
+pub fn doc_line(alloc: Global, schema: &Schema, line: &[u8]) -> Result<Document, LineError>
     ensures read { Finds (DocLine schema.now line.now) result }
     ensures valid { IfOk result (Valid (documents_of schema.now.spec)) }
 {

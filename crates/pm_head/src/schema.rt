@@ -12,8 +12,8 @@ use pm_schemajson::read_schema;
 use serde_json::Value;
 use std::alloc::Global;
 
-/// The schema that line 1 writes.
-pub(crate) fn schema_line(alloc: Global, line: &[u8]) -> Result<Schema, LineError>
+/// The schema that line 1 writes. An error says the code of its first fault, or that there was no memory.
+pub fn schema_line(alloc: Global, line: &[u8]) -> Result<Schema, LineError>
     ensures { Finds (SchemaLine line.now) result }
 {
     let json = json_line(alloc, line)?;

@@ -22,11 +22,11 @@ lines-more : (lines : List (List ℕ)) (l : List ℕ) → AreLines lines → has
 lines-more [] l h o = (o, tt)
 lines-more (k ∷ lines) l h o = (h.0, lines-more lines l h.1 o)
 
-none-taken : (left : Option (List ℕ)) → Consumes left left []
+pub none-taken : (left : Option (List ℕ)) → Consumes left left []
 none-taken None = tt
 none-taken (Some xs) = refl
 
-none-added : (old : Option (List ℕ)) → Adds old old []
+pub none-added : (old : Option (List ℕ)) → Adds old old []
 none-added None = tt
 none-added (Some xs) = sym (append-nil xs)
 

@@ -10,5 +10,5 @@ mod unread;
 pub use lines::{Came, next_line};
 pub use piecewise::Piecewise;
 pub use service::{Reply, Service};
-pub use serving::{Served, serve};
+pub use serving::{Next, Served, serve, serve_next};
 pub use unread::{KEPT, Kept, Unread};

@@ -28,7 +28,7 @@ pub enum Served {
 
 /// How it goes on behind a line.
 #[derive(Clone, Copy, Debug, PartialEq, Eq)]
-pub(crate) enum Next {
+pub enum Next {
     /// The line was answered, and more may come.
     More,
     /// It is over.
@@ -60,8 +60,8 @@ pub fn serve<S: Service, R: Piecewise, W: Sink>(
 }
 
 /// Reads a line and writes its answer. The source is asked for bytes only while no whole line is there, so not between the line
-/// and its answer, and not behind the answer.
-fn serve_next<S: Service, R: Piecewise, W: Sink>(
+/// and its answer, and not behind the answer. A line for which there is no memory is answered by `no_memory`, and changes nothing.
+pub fn serve_next<S: Service, R: Piecewise, W: Sink>(
     alloc: Global,
     service: &mut S,
     no_memory: &[u8],

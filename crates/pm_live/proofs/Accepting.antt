@@ -1,0 +1,87 @@
+-- When a submission is accepted.
+use Rattle.std.proofs.Common.{◌≡◌, ◌∙◌, ◌+◌, ℕ, suc, List, [], ◌∷◌, length, get_or, refl, ap, sym, subst, arith, Ok}
+use Rattle.std.specs.Prelude.{Option, None, Some, if◌then◌else◌}
+use Rattle.pm_tokens.specs.Tokens.{Doc as Document}
+use Rattle.pm_schema.specs.declared.schema.Schema.{Schema}
+use Rattle.pm_meaning.specs.Steps.{Step}
+use Rattle.pm_apply.specs.Changes.{meaning}
+use Rattle.pm_head.specs.declared.code.Code.TheVariants.{BadClients}
+use Rattle.pm_authority.specs.declared.named.Named.{Named}
+use Rattle.pm_authority.specs.declared.message.Message.TheVariants as message
+use Rattle.pm_authority.specs.declared.message.Answer.TheVariants.{Accepted, WrongVersion, StepRefused, Entries}
+use Rattle.pm_authority.specs.Runs.{AllApply}
+use Rattle.pm_authority.specs.Presents.{presented}
+use Rattle.pm_authority.specs.Causes.{IsAnswer}
+use Rattle.pm_authority.proofs.Presented.{present-causes}
+use Rattle.pm_live.specs.declared.asked.Asked.TheVariants.{Submit}
+use Rattle.pm_live.specs.Ids.{number_of}
+use Rattle.pm_live.specs.Texts.{fault_text, accepted_text, version_text, refused_words, fault_place, reason_number}
+use Rattle.pm_live.specs.Live.{LiveAuthority, LiveAnswer, named, answer_text, told, answer, answered}
+use Rattle.pm_live.specs.Talks.{AcceptsExactly, FaultsChangeNothing}
+
+pub length-named : (client serial : ℕ) (steps : List Step) → length (named client serial steps) ≡ length steps
+length-named client serial [] = refl
+length-named client serial (step ∷ steps) = ap suc (length-named client (serial + 1) steps)
+
+v-is-not-a : ◌≡◌ {A = ℕ} 118 97 → ⊥
+v-is-not-a e = omega (arith, e)
+
+r-is-not-a : ◌≡◌ {A = ℕ} 114 97 → ⊥
+r-is-not-a e = omega (arith, e)
+
+-- the other answers' texts begin otherwise
+version-differs : (n from count : ℕ) → version_text n ≡ accepted_text from count → ⊥
+version-differs n from count h = v-is-not-a (ap (λ xs. get_or xs 2 0) h)
+
+refused-differs : (at : Option ℕ) (index number from count : ℕ) → refused_words at index number ≡ accepted_text from count → ⊥
+refused-differs None index number from count h = r-is-not-a (ap (λ xs. get_or xs 2 0) h)
+refused-differs (Some at) index number from count h = r-is-not-a (ap (λ xs. get_or xs 2 0) h)
+
+abbrev Applies : Schema → LiveAuthority → ℕ → List (Named Step) → Type 0
+Applies s a version steps = (version ≡ length a.log) × ((end : Document) × AllApply meaning s a.doc steps end)
+
+-- the answer that says so has its cause
+accepted-applies : (s : Schema) (a : LiveAuthority) (version : ℕ) (steps : List (Named Step)) (from count : ℕ) (given : LiveAnswer)
+    → IsAnswer meaning s a (message.Submit version steps) given → answer_text given ≡ accepted_text from count → Applies s a version steps
+accepted-applies s a version steps from count (Accepted f c) h t = (h.0, h.1.0)
+accepted-applies s a version steps from count (WrongVersion size) h t = absurd (version-differs size from count t)
+accepted-applies s a version steps from count (StepRefused index reason) h t = absurd (refused-differs (fault_place reason) index (reason_number reason) from count t)
+accepted-applies s a version steps from count (Entries since entries) h t = absurd h
+
+pub answer-is : (s : Schema) (a : LiveAuthority) (version : ℕ) (steps : List (Named Step)) → IsAnswer meaning s a (message.Submit version steps) (presented meaning s a (message.Submit version steps)).0
+answer-is s a version steps =
+    let given = (presented meaning s a (message.Submit version steps)).0 in
+    (present-causes meaning s (Ok given) a (message.Submit version steps) refl given).0 refl
+
+-- what Accepted tells is the submission's version and how many steps it has
+pub accepted-tells : (s : Schema) (a : LiveAuthority) (version : ℕ) (steps : List (Named Step)) (from count : ℕ)
+    → (presented meaning s a (message.Submit version steps)).0 ≡ Accepted from count
+    → accepted_text version (length steps) ≡ answer_text (presented meaning s a (message.Submit version steps)).0
+accepted-tells s a version steps from count e =
+    let h = subst (IsAnswer meaning s a (message.Submit version steps)) e (answer-is s a version steps) in
+    ap (λ n. accepted_text n (length steps)) (h.0 ∙ sym h.1.1.0) ∙ (ap (λ n. accepted_text from n) (sym h.1.1.1) ∙ ap answer_text (sym e))
+
+-- Entries comes to no submission
+pub no-entries : (s : Schema) (a : LiveAuthority) (version : ℕ) (steps : List (Named Step)) (since : ℕ) (entries : List (Named Step))
+    → (presented meaning s a (message.Submit version steps)).0 ≡ Entries since entries → ⊥
+no-entries s a version steps since entries e = subst (IsAnswer meaning s a (message.Submit version steps)) e (answer-is s a version steps)
+
+applies-accepted : (s : Schema) (a : LiveAuthority) (version : ℕ) (steps : List (Named Step)) → Applies s a version steps
+    → (presented meaning s a (message.Submit version steps)).0 ≡ Accepted version (length steps)
+applies-accepted s a version steps h =
+    let given = (presented meaning s a (message.Submit version steps)).0 in
+    (present-causes meaning s (Ok given) a (message.Submit version steps) refl (Accepted version (length steps))).1 (h.0, (h.1, (h.0, refl)))
+
+pub accepts : AcceptsExactly
+accepts live line version id steps asks room =
+    let all = named (number_of live.ids id) (version + 1) steps in
+    let given = presented meaning live.schema live.authority (message.Submit version all) in
+    let is : (answered live line).0 ≡ answer_text given.0 =
+    ap (λ r. (answer live r).0) asks ∙ ap (λ b. (if b then told live id given else (fault_text BadClients, live)).0) room in (
+      λ text. accepted-applies live.schema live.authority version all version (length steps) given.0 (answer-is live.schema live.authority version all) (sym is ∙ text),
+      λ h. is ∙ (ap answer_text (applies-accepted live.schema live.authority version all h)
+          ∙ ap (accepted_text version) (length-named (number_of live.ids id) (version + 1) steps)),
+    )
+
+pub faults-change-nothing : FaultsChangeNothing
+faults-change-nothing live line code faulty = ap (answer live) faulty

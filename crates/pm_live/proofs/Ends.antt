@@ -1,0 +1,56 @@
+-- How serving ended, and the status that says so.
+use Rattle.std.proofs.Common.{◌≡◌, ◌∙◌, ℕ, Bool, true, false, inl, inr, sym, subst}
+use Rattle.pm_serve.specs.declared.serving.Served.{Served}
+use Rattle.pm_serve.specs.declared.serving.Served.TheVariants as served
+use Rattle.pm_serve.specs.Serves.{ServeFaults}
+use Rattle.pm_live.specs.declared.status.Status.{Status}
+use Rattle.pm_live.specs.declared.status.Status.TheVariants.{Done, Refused, Usage, ReadFault, WriteFault, NoMemory, Spent}
+use Rattle.pm_live.specs.Calls.{IsSilent, status_of, FaultsAt}
+
+-- whether a status says that something was read
+abbrev Speaks : Status → Type 0
+Speaks Done = Unit {0}
+Speaks Refused = Unit {0}
+Speaks Usage = ⊥
+Speaks ReadFault = Unit {0}
+Speaks WriteFault = Unit {0}
+Speaks NoMemory = ⊥
+Speaks Spent = Unit {0}
+
+speaks : (s : Served) (is_open : Bool) → Speaks (status_of s is_open)
+speaks served.End true = tt
+speaks served.End false = tt
+speaks served.Closed is_open = tt
+speaks served.ReadFault is_open = tt
+speaks served.WriteFault is_open = tt
+speaks served.Spent is_open = tt
+
+-- a status of serving is not Usage, and is not silent
+pub not-usage : (s : Served) (is_open : Bool) (status : Status) → status ≡ status_of s is_open → status ≡ Usage → ⊥
+not-usage s is_open status e u = subst Speaks (sym e ∙ u) (speaks s is_open)
+
+pub not-silent : (s : Served) (is_open : Bool) (status : Status) → status ≡ status_of s is_open → IsSilent status → ⊥
+not-silent s is_open status e h =
+    elim h [
+      | inl usage ↦ not-usage s is_open status e usage
+      | inr want ↦ subst Speaks (sym e ∙ want) (speaks s is_open)
+    ]
+
+faults-of : (s : Served) (is_open : Bool) (old new old_w new_w : ℕ) → ServeFaults s old new old_w new_w → FaultsAt (status_of s is_open) old new old_w new_w
+faults-of served.End true old new old_w new_w h = h
+faults-of served.End false old new old_w new_w h = h
+faults-of served.Closed is_open old new old_w new_w h = h
+faults-of served.ReadFault is_open old new old_w new_w h = h
+faults-of served.WriteFault is_open old new old_w new_w h = h
+faults-of served.Spent is_open old new old_w new_w h = h
+
+pub faults-at : (s : Served) (is_open : Bool) (status : Status) (old new old_w new_w : ℕ) → status ≡ status_of s is_open
+    → ServeFaults s old new old_w new_w → FaultsAt status old new old_w new_w
+faults-at s is_open status old new old_w new_w e h =
+    subst (λ (x : Status). FaultsAt x old new old_w new_w) (sym e) (faults-of s is_open old new old_w new_w h)
+
+-- where no fault rose before, those of what came then are those of all
+pub faults-behind : (status : Status) (old mid new old_w mid_w new_w : ℕ) → mid ≡ old → mid_w ≡ old_w → FaultsAt status mid new mid_w new_w
+    → FaultsAt status old new old_w new_w
+faults-behind status old mid new old_w mid_w new_w e f h =
+    subst (λ (x : ℕ). FaultsAt status x new old_w new_w) e (subst (λ (x : ℕ). FaultsAt status mid new x new_w) f h)

@@ -1,0 +1,36 @@
+-- The codes of the faults of steps. Want of memory has none.
+use Rattle.std.specs.Prelude.{Option, Some, None, Result, Ok, Err, unwrap_or}
+use Rattle.pm_value.specs.declared.fault.ValueError.{ValueError}
+use Rattle.pm_value.specs.declared.fault.ValueError.TheVariants as value
+use Rattle.pm_head.specs.declared.code.Code.{Code}
+use Rattle.pm_head.specs.declared.code.Code.TheVariants.{InputTooLong, WrongShape, UnknownName, BadAttribute}
+use Rattle.pm_head.specs.declared.fault.LineError.{LineError}
+use Rattle.pm_head.specs.declared.fault.LineError.TheVariants as line
+use Rattle.pm_head.specs.Codes.{node_code}
+use Rattle.pm_stepjson.specs.declared.fault.StepReadError.{StepReadError}
+use Rattle.pm_stepjson.specs.declared.fault.StepReadError.TheVariants.{Shape, UnknownKind, Slice, Mark, NoMemory, Value}
+
+-- a JSON value that is no value of an attribute
+abbrev pub value_code : ValueError → Option Code
+value_code value.Float = Some BadAttribute
+value_code value.Wide = Some BadAttribute
+value_code value.Deep = Some BadAttribute
+value_code value.NoMemory = None
+
+abbrev pub step_code : StepReadError → Option Code
+step_code Shape = Some WrongShape
+step_code UnknownKind = Some UnknownName
+step_code (Slice e) = node_code e
+step_code (Mark e) = node_code e
+step_code NoMemory = None
+step_code (Value e) = value_code e
+
+-- A step that was read, or the code of its fault. A reading has no want of memory, for which the code stands that no line has.
+abbrev pub coded : {A : Type 0} → Result A StepReadError → Result A Code
+coded (Ok x) = Ok x
+coded (Err e) = Err (unwrap_or (step_code e) InputTooLong)
+
+-- the fault of a line, by its code; want of memory has none
+abbrev pub fault_of : Option Code → LineError
+fault_of (Some code) = line.Code code
+fault_of None = line.NoMemory

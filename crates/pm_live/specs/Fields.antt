@@ -1,0 +1,33 @@
+-- The fields of a line. One that is absent, or of another kind than it must be, is of a wrong shape.
+use Rattle.std.specs.Prelude.{ℕ, Bool, true, false, not, List, codes, Result, Ok, Err, option_and_then, if◌then◌else◌}
+use Rattle.serde_json.specs.Data.{Data, null, boolean, number, string, array, object}
+use Rattle.serde_json.specs.Find.{get, as_str, is_float}
+use Rattle.serde_json.specs.Written.{compact_text}
+use Rattle.pm_list.specs.Readings.{◌>>=◌, or_fault}
+use Rattle.pm_slicejson.specs.Numbers.{as_count}
+use Rattle.pm_head.specs.declared.code.Code.{Code}
+use Rattle.pm_head.specs.declared.code.Code.TheVariants.{WrongShape}
+
+-- a text
+abbrev pub text_in : List ℕ → Data → Result (List ℕ) Code
+text_in key d = or_fault WrongShape (option_and_then as_str (get key d))
+
+-- a whole number from 0 to 4,294,967,295
+abbrev pub number_in : List ℕ → Data → Result ℕ Code
+number_in key d = or_fault WrongShape (option_and_then as_count (get key d))
+
+-- a text or a whole number may be a client's ID
+abbrev pub is_id : Data → Bool
+is_id null = false
+is_id (boolean b) = false
+is_id (number n) = not (is_float n)
+is_id (string s) = true
+is_id (array ds) = false
+is_id (object ms) = false
+
+-- An ID is kept as its JSON text, so that the text "1" and the number 1 differ.
+abbrev pub id_from : Data → Result (List ℕ) Code
+id_from d = if is_id d then Ok (compact_text d) else Err WrongShape
+
+abbrev pub id_in : Data → Result (List ℕ) Code
+id_in d = or_fault WrongShape (get (codes "clientID") d) >>= id_from

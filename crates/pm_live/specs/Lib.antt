@@ -1,0 +1,12 @@
+pub mod Codes
+pub mod Fields
+pub mod Asked
+pub mod Ids
+pub mod Texts
+pub mod Live
+pub mod Presenting
+pub mod Phases
+pub mod Awaiting
+pub mod Talks
+pub mod Openings
+pub mod Calls

@@ -1,0 +1,76 @@
+// The live authority as a process: a line in, a line out, in order. docs/LIVE.md describes the lines.
+
+"use strict"
+
+const path = require("path")
+const {spawn} = require("child_process")
+const {schemaLine, documentLine} = require("../tools/schema-line")
+
+const PROGRAM = [path.join(__dirname, "..", "pm"), "live"]
+
+/// The program and its words: what the variable PM_LIVE has, else `./pm live`, which builds the program where it is not built.
+function command() {
+  const given = (process.env.PM_LIVE || "").split(" ").filter(word => word)
+  return given.length ? given : PROGRAM
+}
+
+class Authority {
+  constructor([program, ...words]) {
+    this.process = spawn(program, words, {stdio: ["pipe", "pipe", "inherit"]})
+    this.waiting = []
+    this.parts = []
+    this.fault = null
+    this.ended = new Promise(resolve => this.process.on("close", resolve))
+    this.ended.then(status => this.fail(new Error(`the authority ended with status ${status}`)))
+    this.process.on("error", error => this.fail(error))
+    this.process.stdin.on("error", error => this.fail(error))
+    this.process.stdout.setEncoding("utf8").on("data", text => this.read(text))
+  }
+
+  // A long answer comes in many parts.
+  read(text) {
+    const [first, ...rest] = text.split("\n")
+    this.parts.push(first)
+    for (const next of rest) {
+      const line = this.parts.join("")
+      this.parts = [next]
+      const taker = this.waiting.shift()
+      if (taker) taker.resolve(line)
+    }
+  }
+
+  fail(error) {
+    this.fault = this.fault || error
+    for (const {reject} of this.waiting.splice(0)) reject(this.fault)
+  }
+
+  /// The answer to a line, which is a text without its LF.
+  askLine(line) {
+    if (this.fault) return Promise.reject(this.fault)
+    return new Promise((resolve, reject) => {
+      this.waiting.push({resolve, reject})
+      this.process.stdin.write(line + "\n")
+    })
+  }
+
+  /// The answer to a message, both as JSON values.
+  async ask(message) { return JSON.parse(await this.askLine(JSON.stringify(message))) }
+
+  /// Tells the process that no line comes any more. Gives the status with which it ends.
+  close() {
+    this.process.stdin.end()
+    return this.ended
+  }
+}
+
+/// Starts the process on a schema and a first document, or without one on the top type filled. An error where it refuses them.
+async function startAuthority(schema, doc = null, words = command()) {
+  const authority = new Authority(words)
+  // The answer comes behind the second line.
+  const opened = authority.askLine(`${schemaLine(schema)}\n${doc ? documentLine(doc) : "null"}`)
+  const answer = JSON.parse(await opened)
+  if (answer.fault !== undefined) throw new Error(`the authority refused line ${answer.line} with code ${answer.fault}`)
+  return authority
+}
+
+module.exports = {Authority, startAuthority, command}
