@@ -65,11 +65,7 @@ fn told(alloc: Global, command: Command, session: &Session) -> Result<String, Al
 }
 
 /// What the command writes of rooms.
-fn rooms_told(
-    alloc: Global,
-    command: Command,
-    rooms: &[RoomSession],
-) -> Result<String, AllocError>
+fn rooms_told(alloc: Global, command: Command, rooms: &[RoomSession]) -> Result<String, AllocError>
     requires { FoundRooms (form_of command) rooms.now }
     ensures { IfOk result (λ s. IsTextOf command (Ok (many rooms.now)) (string_bytes s)) }
 {

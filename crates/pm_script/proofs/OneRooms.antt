@@ -89,6 +89,7 @@ place-alike rs qs d h =
   where
     name : RoomSession → List ℕ
     name room = room.name
+
     places : (text : List ℕ) → position (λ r. pointwise nat_eq text r.name) rs ≡ position (λ r. pointwise nat_eq text r.name) qs
     places text = sym (position-map (pointwise nat_eq text) (λ (r : RoomSession). r.name) rs) ∙ ap (position (pointwise nat_eq text)) (names-alike rs qs h) ∙ position-map (pointwise nat_eq text) (λ (r : RoomSession). r.name) qs
 
@@ -110,8 +111,8 @@ unfolding rooms_with
 value-alike rs qs n d h =
     subst (λ z. Alike SameRooms (rooms_with rs n d) (z >>= (λ i. or_fault NoSuchRoom (slice_get qs i) >>= (λ room. room_with room n d >>= (λ more. Ok (slice_set qs i more)))))) (place-alike rs qs d h)
     (from-one SameRooms (room_in rs d) _ _ (λ i.
-      then-alike SameRoom SameRooms (or_fault NoSuchRoom (slice_get rs i)) (or_fault NoSuchRoom (slice_get qs i)) _ _ (get-alike rs qs i h) (λ r q s.
-        then-alike SameRoom SameRooms (room_with r n d) (room_with q n d) _ _ (room-alike r q n d s) (λ x y same. set-alike rs qs i x y h same))))
+    then-alike SameRoom SameRooms (or_fault NoSuchRoom (slice_get rs i)) (or_fault NoSuchRoom (slice_get qs i)) _ _ (get-alike rs qs i h) (λ r q s.
+    then-alike SameRoom SameRooms (room_with r n d) (room_with q n d) _ _ (room-alike r q n d s) (λ x y same. set-alike rs qs i x y h same))))
 
 in-line-alike : (last : ℕ) (rs qs : List RoomSession) (n : ℕ) (line : List ℕ) → SameRooms rs qs → Alike SameRooms (room_line last rs n line) (room_line last qs n line)
 unfolding room_line

@@ -101,6 +101,7 @@ module _ (last : ℕ) (rooms more : List RoomSession) (n : ℕ) (line : List ℕ
   one-line = by (nat_eq k.i r) refl
     where
       whose = is-own last rooms n line more k differ r room at
+
       by : (b : Bool) → nat_eq k.i r ≡ b → IsAfter n (line ∷ rest) room final
       by true e = here (eqb-true k.i r e) (whose ∙ e)
       by false e = elsewhere (eqb-false k.i r e) (whose ∙ e)
@@ -171,6 +172,7 @@ of-rooms (line ∷ lines) rooms h r room at = by (rooms_line line) refl h
         → as_rooms rooms ≡ all_behind (length names) hs (drop (3 * length names) lines) → IsOfOwnLines (line ∷ lines) (length rooms) r room
     heads names e (Err refusal) o k = absurd (cc)
     heads names e (Ok hs) o k = own-room line names lines e hs rooms (all-opened names 1 lines hs o) (sym k) r room at
+
     by : (names : Result (List (List ℕ)) Code) → rooms_line line ≡ names → BehindNames names lines (Ok rooms) → IsOfOwnLines (line ∷ lines) (length rooms) r room
     by (Err code) e k = absurd (cc)
     by (Ok names) e k = heads names e k.0 k.1 k.2

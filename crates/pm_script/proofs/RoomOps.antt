@@ -113,8 +113,10 @@ is-own last rooms n line more h differ r room at =
   where
     name : RoomSession → List ℕ
     name x = x.name
+
     same-place : h.i ≡ r → h.room ≡ room
     same-place e = let there : slice_get rooms r ≡ Some h.room = subst (λ k. slice_get rooms k ≡ Some h.room) e h.at in cc
+
     by : (b : Bool) → nat_eq h.i r ≡ b → (text : List ℕ) → text ≡ h.room.name → pointwise nat_eq text room.name ≡ b
     by true e text is = subst (λ z. pointwise nat_eq z room.name ≡ true) (sym (is ∙ ap name (same-place (eqb-true h.i r e)))) (text-same room.name)
     by false e text is = apart (pointwise nat_eq text room.name) refl

@@ -46,19 +46,22 @@ impl OpenRoom {
     }
 
     /// Adds the op line that a value is.
-    pub(crate) fn add(
-        &mut self,
-        alloc: Global,
-        number: u32,
-        json: &Value,
-    ) -> Result<(), LineError>
+    pub(crate) fn add(&mut self, alloc: Global, number: u32, json: &Value) -> Result<(), LineError>
         requires { vec_len self.old.earlier.lines < 2 ^ 32 }
         ensures read { Gives (λ u. room_of self.new) result (room_with (room_of self.old) number (view json.now)) }
         ensures len { OnOk result (vec_len self.new.earlier.lines ≡ vec_len self.old.earlier.lines + 1) }
     {
         let schema = &self.head.schema;
         let clients = self.head.clients.as_slice();
-        let op = op_in(alloc, Form::Plain, schema, clients, &self.earlier, number, json)?;
+        let op = op_in(
+            alloc,
+            Form::Plain,
+            schema,
+            clients,
+            &self.earlier,
+            number,
+            json,
+        )?;
         self.earlier.add(op)?;
         Ok(())
     }
