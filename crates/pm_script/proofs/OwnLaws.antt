@@ -41,11 +41,11 @@ record IsAfter (n : ℕ) (lines : List (List ℕ)) (room final : RoomSession) : 
   pub head : final.session.head ≡ room.session.head
   pub later : List (Line Op Step)
   pub read : own_ops room.session.head.schema.spec room.session.head.clients room.session.lines (own_lines room.name n lines) ≡ Ok later
-  pub lines : final.session.lines ≡ room.session.lines ++ later
+  pub ops : final.session.lines ≡ room.session.lines ++ later
 
 none-after : (n : ℕ) (room : RoomSession) → IsAfter n [] room room
 unfolding own_lines own_ops
-none-after n room = record { name = refl; head = refl; later = []; read = refl; lines = sym (append-nil room.session.lines) }
+none-after n room = record { name = refl; head = refl; later = []; read = refl; ops = sym (append-nil room.session.lines) }
 
 others-line : (n : ℕ) (line : List ℕ) (rest : List (List ℕ)) (room final : RoomSession) → is_of_room room.name line ≡ false → IsAfter (n + 1) rest room final → IsAfter n (line ∷ rest) room final
 unfolding own_lines
@@ -56,7 +56,7 @@ others-line n line rest room final other h =
       head = h.head;
       later = h.later;
       read = ap (own_ops room.session.head.schema.spec room.session.head.clients room.session.lines) skips ∙ h.read;
-      lines = h.lines;
+      ops = h.ops;
     }
 
 own-line : (n : ℕ) (line : List ℕ) (rest : List (List ℕ)) (room final : RoomSession) (d : Data) (op : Line Op Step) → is_of_room room.name line ≡ true → json_line line ≡ Ok d
@@ -74,7 +74,7 @@ own-line n line rest room final d op own value read h =
       head = h.head;
       later = op ∷ h.later;
       read = ap (own_ops s clients earlier) takes ∙ both;
-      lines = h.lines ∙ append_assoc earlier (op ∷ []) h.later;
+      ops = h.ops ∙ append_assoc earlier (op ∷ []) h.later;
     }
 
 some-same : (x y : RoomSession) → Some x ≡ Some y → x ≡ y
@@ -136,7 +136,7 @@ module _ (line : List ℕ) (names lines : List (List ℕ)) (listed : rooms_line 
     (behind : rooms_behind (last_head (length names) + MAX_OPS) heads (last_head (length names) + 1) (drop (3 * length names) lines) ≡ Ok rooms) where
   as-many : length rooms ≡ length names
   unfolding name_of
-  as-many = sym (length-map rooms name_of) ∙ ap length (names-behind _ heads _ _ rooms behind ∙ all.names)
+  as-many = sym (length-map rooms name_of) ∙ ap length (names-behind _ heads _ _ rooms behind ∙ all.named)
 
   behind-line : (k : ℕ) → drop (k + 1) (line ∷ lines) ≡ drop k lines
   behind-line k = rw (add-one k) refl
@@ -148,17 +148,17 @@ module _ (line : List ℕ) (names lines : List (List ℕ)) (listed : rooms_line 
       let first = map-got name_of heads r room.name named in
       let o = first.0 in
       let head = all.each r o first.1 in
-      let differ : NamesDiffer (names_in heads) = subst NamesDiffer (sym all.names) (line-differs line names listed) in
+      let differ : NamesDiffer (names_in heads) = subst NamesDiffer (sym all.named) (line-differs line names listed) in
       let after = own-behind (last_head (length names) + MAX_OPS) heads (last_head (length names) + 1) (drop (3 * length names) lines) rooms differ behind r o room first.1 at in
       let three : HeadIs Plain (take 3 (drop (3 * r) lines)) (Ok o.session.head) = head-three (drop (3 * r) lines) (Ok o.session.head) head.head in
       let here : HeadIs Plain (take 3 (drop (3 * r) lines)) (Ok room.session.head) = subst (λ h. HeadIs Plain (take 3 (drop (3 * r) lines)) (Ok h)) (sym after.head) three in
       let behind_heads : drop (last_head (length rooms)) (line ∷ lines) ≡ drop (3 * length names) lines = behind-line (3 * length rooms) ∙ ap (λ n. drop (3 * n) lines) as-many in
       let none : [] ≡ o.session.lines = sym head.none in
       let count : length rooms ≡ length names = as-many in
-      let all_later : room.session.lines ≡ after.later = after.lines ∙ ap (λ l. l ++ after.later) head.none in
+      let all_later : room.session.lines ≡ after.later = after.ops ∙ ap (λ l. l ++ after.later) head.none in
       record {
         head = subst (λ ls. HeadIs Plain (take 3 ls) (Ok room.session.head)) (sym (behind-line (3 * r))) here;
-        lines = (λ i. own_ops (after.head i).schema.spec (after.head i).clients (none i) (own_lines (after.name i) (last_head (count i) + 1) (behind_heads i))) ∙ after.read ∙ ap Ok (sym all_later);
+        ops = (λ i. own_ops (after.head i).schema.spec (after.head i).clients (none i) (own_lines (after.name i) (last_head (count i) + 1) (behind_heads i))) ∙ after.read ∙ ap Ok (sym all_later);
       }
 
 abbrev as_rooms : List RoomSession → Result (List RoomSession) Refusal
@@ -191,7 +191,7 @@ one-holds lines count r room h =
     record {
       valid = good.0;
       few = good.1;
-      suit = own-suit room.session.head.schema.spec room.session.head.clients good.2 [] (own_lines room.name (last_head count + 1) (drop (last_head count) lines)) room.session.lines h.lines;
+      suit = own-suit room.session.head.schema.spec room.session.head.clients good.2 [] (own_lines room.name (last_head count + 1) (drop (last_head count) lines)) room.session.lines h.ops;
     }
 
 pub rooms-hold : (input : List ℕ) (rooms : List RoomSession) → RoomsAre input (Ok rooms) → AllHold rooms

@@ -85,7 +85,7 @@ was-read n lines head h = at h.0 h.1 h.2
     at (Err refusal) is e = absurd (cc)
 
 further : (r : ℕ) (lines : List (List ℕ)) → drop (3 * r) (drop 3 lines) ≡ drop (3 * suc r) lines
-further r lines = let e : 3 + 3 * r ≡ 3 * suc r = omega arith in drop-drop lines 3 (3 * r) ∙ ap (λ k. drop k lines) e
+further r lines = let e : 3 + 3 * r ≡ 3 * suc r = omega arith in drop-drop (3 * r) 3 lines ∙ ap (λ k. drop k lines) e
 
 pub record IsOpened (lines : List (List ℕ)) (r : ℕ) (room : RoomSession) : Type 0 where
   pub head : HeadIs Plain (drop (3 * r) lines) (Ok room.session.head)
@@ -95,7 +95,7 @@ abbrev as_rooms : List RoomSession → Result (List RoomSession) Refusal
 as_rooms rooms = Ok rooms
 
 pub record AllOpened (names lines : List (List ℕ)) (rooms : List RoomSession) : Type 0 where
-  pub names : map (λ room. room.name) rooms ≡ names
+  pub named : map (λ room. room.name) rooms ≡ names
   pub each : (r : ℕ) (room : RoomSession) → slice_get rooms r ≡ Some room → IsOpened lines r room
 
 first-opened : (lines : List (List ℕ)) (name : List ℕ) (head : Head) (room : RoomSession) → HeadIs Plain lines (Ok head) → opened name head ≡ room → IsOpened lines 0 room
@@ -117,12 +117,12 @@ module _ (name : List ℕ) (names : List (List ℕ)) (n : ℕ) (lines : List (Li
   later-opened head is (Ok rest) h e =
       let same : opened name head ∷ rest ≡ rooms = cc in
       let all = rest-opened rest h in
-      subst (AllOpened (name ∷ names) lines) same (record { names = ap (λ l. name ∷ l) all.names; each = each-opened head rest is all })
+      subst (AllOpened (name ∷ names) lines) same (record { named = ap (λ l. name ∷ l) all.named; each = each-opened head rest is all })
 
   behind-opened : (head : Result Head Refusal) → HeadBehind n lines head → AfterHead (AreOpened names (n + 3) (drop 3 lines)) name head (Ok rooms) → AllOpened (name ∷ names) lines rooms
   behind-opened (Err refusal) behind after = absurd (cc)
   behind-opened (Ok head) behind after = later-opened head (was-read n lines head behind) after.0 after.1 after.2
 
 pub all-opened : (names : List (List ℕ)) (n : ℕ) (lines : List (List ℕ)) (rooms : List RoomSession) → AreOpened names n lines (Ok rooms) → AllOpened names lines rooms
-all-opened [] n lines rooms h = let none : [] ≡ rooms = cc in subst (AllOpened [] lines) none (record { names = refl; each = λ r room at. absurd (cc) })
+all-opened [] n lines rooms h = let none : [] ≡ rooms = cc in subst (AllOpened [] lines) none (record { named = refl; each = λ r room at. absurd (cc) })
 all-opened (name ∷ names) n lines rooms h = behind-opened name names n lines rooms (all-opened names (n + 3) (drop 3 lines)) h.0 h.1 h.2

@@ -38,7 +38,7 @@ own_ops s clients earlier (l ∷ rest) = do
 -- heads whose `room` is its name, with their numbers in the file.
 pub record IsOfOwnLines (lines : List (List ℕ)) (count r : ℕ) (room : RoomSession) : Type 0 where
   pub head : HeadIs Plain (take 3 (drop (3 * r + 1) lines)) (Ok room.session.head)
-  pub lines : own_ops room.session.head.schema.spec room.session.head.clients [] (own_lines room.name (last_head count + 1) (drop (last_head count) lines)) ≡ Ok room.session.lines
+  pub ops : own_ops room.session.head.schema.spec room.session.head.clients [] (own_lines room.name (last_head count + 1) (drop (last_head count) lines)) ≡ Ok room.session.lines
 
 -- so it is with each of these rooms
 abbrev pub AreOfOwnLines : List ℕ → List RoomSession → Type 0
