@@ -18,5 +18,6 @@ pub mod RoomLists
 pub mod RoomNames
 pub mod RoomHeads
 pub mod RoomOps
+pub mod OpenRooms
 pub mod OwnLaws
 pub mod OneRooms

@@ -4,7 +4,6 @@ use Rattle.std.specs.Prelude.{position, slice_get, slice_set, nat_lt, nat_eq, co
 use Rattle.std.specs.Cmp.Lexicographic.{pointwise}
 use Rattle.serde_json.specs.Data.{Data}
 use Rattle.pm_list.specs.Readings.{◌>>=◌, or_fault}
-use Rattle.pm_schema.proofs.Places.{position-map}
 use Rattle.pm_head.specs.declared.form.Form.TheVariants.{Plain}
 use Rattle.pm_head.specs.declared.code.Code.{Code}
 use Rattle.pm_head.specs.declared.code.Code.TheVariants.{InputTooLong, NoSuchRoom, TooManyLines}
@@ -29,6 +28,7 @@ use Rattle.pm_script.specs.Rooms.{opened, moved, HeadBehind, AfterHead, AreOpene
 use Rattle.pm_script.specs.OneMeaning.{SameSession}
 use Rattle.pm_script.specs.OneRooms.{SameRoom, SameRooms}
 use Rattle.pm_script.proofs.SameLines.{op-in-alike}
+use Rattle.pm_script.proofs.RoomLists.{position-map}
 use Rattle.pm_script.proofs.RoomOps.{names_in}
 
 -- two results, of which either both are these things, which are the same, or both are one fault
@@ -87,9 +87,6 @@ place-alike : (rs qs : List RoomSession) (d : Data) → SameRooms rs qs → room
 place-alike rs qs d h =
     λ i. text_in (codes "room") d >>= (λ text. or_fault NoSuchRoom (places text i))
   where
-    name : RoomSession → List ℕ
-    name room = room.name
-
     places : (text : List ℕ) → position (λ r. pointwise nat_eq text r.name) rs ≡ position (λ r. pointwise nat_eq text r.name) qs
     places text = sym (position-map (pointwise nat_eq text) (λ (r : RoomSession). r.name) rs) ∙ ap (position (pointwise nat_eq text)) (names-alike rs qs h) ∙ position-map (pointwise nat_eq text) (λ (r : RoomSession). r.name) qs
 

@@ -8,6 +8,9 @@ use Rattle.pm_schema.specs.declared.schema.Schema.{Schema}
 use Rattle.pm_head.specs.declared.form.Form.TheVariants.{Plain}
 use Rattle.pm_head.specs.declared.code.Code.{Code}
 use Rattle.pm_head.specs.declared.fault.Refusal.{Refusal}
+use Rattle.pm_head.specs.declared.fault.SessionError.{SessionError}
+use Rattle.pm_head.specs.declared.fault.SessionError.TheVariants as session
+use Rattle.pm_head.specs.Answers.{Refuses, Reads}
 use Rattle.pm_head.specs.Refusals.{refused}
 use Rattle.pm_head.specs.declared.clients.ClientEntry.{ClientEntry}
 use Rattle.pm_head.specs.declared.reading.Head.{Head}
@@ -75,6 +78,14 @@ module _ (P : Result (List RoomSession) Refusal → Type 0) (rooms : List RoomSe
 
   pub opened-fault : (refusal : Refusal) → HeadBehind n lines (Err refusal) → P (Err refusal)
   opened-fault refusal behind = so (Err refusal) (Err refusal, behind, refl)
+
+  pub fault-opened : (e : SessionError) → Refuses (HeadBehind n lines) e → Refuses P e
+  fault-opened (session.Refused refusal) h = opened-fault refusal h
+  fault-opened session.NoMemory h = tt
+
+-- what a call that fails like another one answers
+pub reads-fault : {X Y : Type 0} (P : Result Y Refusal → Type 0) (view : X → Y) (r : Result X SessionError) (e d : SessionError) → r ≡ Err e → e ≡ d → Refuses P d → Reads view P r
+reads-fault P view r e d is same h = subst (Reads view P) (sym is) (subst (Refuses P) (sym same) h)
 
 -- the head of the room at place r
 was-read : (n : ℕ) (lines : List (List ℕ)) (head : Head) → HeadBehind n lines (Ok head) → HeadIs Plain lines (Ok head)

@@ -1,6 +1,8 @@
 -- Items of a list at their places, of which one is put in anew.
-use Rattle.std.proofs.Common.{◌≡◌, ◌≢◌, ◌<◌, ℕ, zero, suc, Bool, true, false, List, [], ◌∷◌, ◌++◌, length, map, refl, ap, sym, ◌∙◌, arith}
-use Rattle.std.specs.Prelude.{slice_get, slice_set, Some, position, All}
+use Rattle.std.proofs.Common.{◌≡◌, ◌≢◌, ◌<◌, ◌+◌, ℕ, zero, suc, Bool, true, false, List, [], ◌∷◌, ◌++◌, length, map, refl, ap, sym, ◌∙◌, arith}
+use Rattle.std.specs.Prelude.{slice_get, slice_set, slice_index_or, Some, position, not, cond, All}
+use Rattle.std.specs.List.{prefix_len}
+use Rattle.std.proofs.lemmas.List.{length-map}
 use Rattle.std.proofs.Math.ListN.{get_or}
 use Rattle.std.proofs.lemmas.List.Quantifiers.{position-Some}
 use Rattle.std.proofs.lemmas.List.Elements.{All-nil, All-cons}
@@ -42,6 +44,19 @@ module _ {A : Type 0} where
   pub get-last : (xs : List A) (x : A) → slice_get (xs ++ x ∷ []) (length xs) ≡ Some x
   get-last [] x = refl
   get-last (y ∷ xs) x = get-last xs x
+
+pub index-get : {A : Type 0} (xs : List A) (i : ℕ) (d : A) → i < length xs → slice_get xs i ≡ Some (slice_index_or xs i d)
+index-get [] i d h = absurd (omega arith)
+index-get (x ∷ xs) zero d h = refl
+index-get (x ∷ xs) (suc i) d h = index-get xs i d (omega arith)
+
+module _ {A B : Type 0} (p : B → Bool) (f : A → B) where
+  prefix-map : (q : B → Bool) (xs : List A) → prefix_len q (map f xs) ≡ prefix_len (λ x. q (f x)) xs
+  prefix-map q [] = refl
+  prefix-map q (x ∷ xs) = ap (λ n. cond (q (f x)) (1 + n) 0) (prefix-map q xs)
+
+  pub position-map : (xs : List A) → position p (map f xs) ≡ position (λ x. p (f x)) xs
+  position-map xs = rw (prefix-map (λ y. not (p y)) xs, length-map xs f) refl
 
 module _ {A B : Type 0} (f : A → B) where
   pub map-set : (xs : List A) (i : ℕ) (v : A) → map f (slice_set xs i v) ≡ slice_set (map f xs) i (f v)

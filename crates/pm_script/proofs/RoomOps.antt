@@ -6,17 +6,18 @@ use Rattle.std.proofs.lemmas.List.{append_assoc, append-nil}
 use Rattle.std.proofs.lemmas.Bool.{eqb-true, eqb-false}
 use Rattle.serde_json.specs.Data.{Data}
 use Rattle.pm_list.specs.Readings.{◌>>=◌, or_fault}
-use Rattle.pm_schema.proofs.Places.{position-map}
 use Rattle.pm_head.specs.declared.form.Form.TheVariants.{Plain}
 use Rattle.pm_head.specs.declared.code.Code.{Code}
 use Rattle.pm_head.specs.declared.code.Code.TheVariants.{TooManyLines, LineTooLong, NotJson, NoSuchRoom, WrongShape}
 use Rattle.pm_head.specs.declared.fault.Refusal.{Refusal}
+use Rattle.pm_head.specs.declared.fault.SessionError.{SessionError}
+use Rattle.pm_head.specs.declared.fault.SessionError.TheVariants as session
 use Rattle.pm_head.specs.Lines.{json_line, json_of}
 use Rattle.pm_meaning.specs.Steps.{Step}
 use Rattle.pm_ops.specs.declared.op.Op.{Op}
 use Rattle.pm_session.specs.declared.line.Line.{Line}
-use Rattle.pm_head.specs.declared.lines.TheConstants.{MAX_LINE}
 use Rattle.pm_script.specs.declared.rooms.RoomSession.{RoomSession}
+use Rattle.pm_script.specs.Answers.{Gives}
 use Rattle.pm_script.specs.Entrants.{text_at, has_text}
 use Rattle.pm_script.specs.Fields.{text_in}
 use Rattle.pm_script.specs.Lines.{op_in}
@@ -47,6 +48,17 @@ unfolding rooms_behind
 lines-end last rooms n lines whole none h =
     let opened : rooms_behind last rooms n lines ≡ Ok rooms = rw none refl in
     sym h ∙ opened
+
+-- what a call answers that reads them, where one of them has this fault
+pub fault-lines : {X Y : Type 0} (view : X → List RoomSession) (other : Y → List RoomSession) (last : ℕ) (rooms : List RoomSession) (n : ℕ) (line : List ℕ) (lines rest : List (List ℕ))
+    (whole : Result (List RoomSession) Refusal) (r : Result X SessionError) (e d : SessionError) → lines ≡ line ∷ rest → r ≡ Err e → e ≡ d
+    → Gives other (Err d) (at_line n (room_line last rooms n line)) → rooms_behind last rooms n lines ≡ whole → Gives view r whole
+fault-lines view other last rooms n line lines rest whole r e d split is same h read =
+    subst (λ z. Gives view z whole) (sym is) (subst (λ x. Gives view (Err x) whole) (sym same) (by d h))
+  where
+    by : (x : SessionError) → Gives other (Err x) (at_line n (room_line last rooms n line)) → Gives view (Err x) whole
+    by (session.Refused refusal) f = lines-fault last rooms rooms n line lines rest split whole refusal f read
+    by session.NoMemory f = tt
 
 -- ---- one line
 
@@ -97,7 +109,7 @@ same-names last rooms n line more h =
 
 json-there : (line : List ℕ) (d : Data) → json_line line ≡ Ok d → json_of line ≡ Some d
 unfolding json_line
-json-there line d h = fault-ok NotJson (json_of line) d (unless-ok (nat_lt MAX_LINE (length line)) LineTooLong _ d h)
+json-there line d h = fault-ok NotJson (json_of line) d (unless-ok (nat_lt 1048576 (length line)) LineTooLong _ d h)
 
 of-room-is : (line name text : List ℕ) (d : Data) → json_of line ≡ Some d → text_at (codes "room") d ≡ Some text → is_of_room name line ≡ pointwise nat_eq text name
 of-room-is line name text d value at = rw (value, at) refl

@@ -67,13 +67,15 @@ with_op room op = record { name = room.name; session = record { head = room.sess
 abbrev pub room_with : RoomSession → ℕ → Data → Result RoomSession Code
 room_with room n d = room_op room n d >>= (λ op. Ok (with_op room op))
 
--- the rooms with the op line that a value is, in the room that it names: `room` is read first, and the other rooms stay
+-- the rooms with the op line that a value is in the one at place i; the others stay
+abbrev pub at_place : List RoomSession → ℕ → ℕ → Data → Result (List RoomSession) Code
+at_place rooms i n d = or_fault NoSuchRoom (slice_get rooms i) >>= (λ room. room_with room n d >>= (λ more. Ok (slice_set rooms i more)))
+
+-- the rooms with the op line that a value is, in the room that it names: `room` is read first
 unfoldable pub rooms_with : List RoomSession → ℕ → Data → Result (List RoomSession) Code
 rooms_with rooms n d = do
   i ← room_in rooms d
-  room ← or_fault NoSuchRoom (slice_get rooms i)
-  more ← room_with room n d
-  Ok (slice_set rooms i more)
+  at_place rooms i n d
 
 -- The same for a line. What stands behind the last line that may be there is refused, whatever it holds.
 unfoldable pub room_line : ℕ → List RoomSession → ℕ → List ℕ → Result (List RoomSession) Code

@@ -5,7 +5,7 @@ ghost use Rattle.serde_json.specs.View.{view};
 ghost use Rattle.pm_head.specs.Answers.{Gives as GivesLine};
 ghost use Rattle.pm_script.specs.Answers.{Gives};
 ghost use Rattle.pm_script.specs.Sessions.{at_line};
-ghost use Rattle.pm_script.specs.Rooms.{room_in, rooms_with, room_line};
+ghost use Rattle.pm_script.specs.Rooms.{room_in, at_place, rooms_with, room_line};
 ghost use Rattle.pm_script.specs.OpenRooms.{rooms_of, HaveAtMost};
 
 use crate::fields::text_in;
@@ -37,6 +37,7 @@ pub(crate) fn add_line(
 
 /// Adds an op line to the room that it names; else the code of its first fault. `TooManyLines` is decided first, then what its
 /// JSON value is, then the room.
+#[tactic(auto, unfolding(crate::specs::Rooms::room_line))]
 fn line_into(
     alloc: Global,
     rooms: &mut Vec<OpenRoom>,
@@ -57,6 +58,7 @@ fn line_into(
 }
 
 /// Adds the op line that a value is to the room that it names.
+#[tactic(auto, unfolding(crate::specs::Rooms::rooms_with))]
 fn value_into(
     alloc: Global,
     rooms: &mut Vec<OpenRoom>,
@@ -68,6 +70,22 @@ fn value_into(
     ensures few { OnOk result (HaveAtMost (number + 1) rooms.new.items) }
 {
     let place = room_in(rooms.as_slice(), json)?;
+    add_at(alloc, rooms, place, number, json)
+}
+
+/// Adds the op line that a value is to the room at a place.
+fn add_at(
+    alloc: Global,
+    rooms: &mut Vec<OpenRoom>,
+    place: usize,
+    number: u32,
+    json: &Value,
+) -> Result<(), LineError>
+    requires few { HaveAtMost number rooms.old.items }
+    requires within { place < vec_len rooms.old }
+    ensures read { GivesLine (λ u. rooms_of rooms.new.items) result (at_place (rooms_of rooms.old.items) place number (view json.now)) }
+    ensures few { OnOk result (HaveAtMost (number + 1) rooms.new.items) }
+{
     let room = &mut rooms[place];
     room.add(alloc, number, json)
 }
@@ -78,15 +96,23 @@ fn room_in(rooms: &[OpenRoom], json: &Value) -> Result<usize, LineError>
     ensures within { IfOk result (λ i. i < length rooms.now) }
 {
     let name = text_in(json, "room")?;
-    match place_of(name, rooms) {
+    match named(name, rooms) {
         Some(i) => Ok(i),
         None => Err(LineError::Code(Code::NoSuchRoom)),
     }
 }
 
+/// The place of the room of this name.
+fn named(name: &str, rooms: &[OpenRoom]) -> Option<usize>
+    ensures place { result ≡ position (λ r. pointwise nat_eq name.now r.name) (rooms_of rooms.now) }
+    ensures within { IfSome result (λ i. i < length rooms.now) }
+{
+    place_of(name, rooms)
+}
+
 #[tactic(auto, using(crate::proofs::Places::places))]
 fn place_of(name: &str, rooms: &[OpenRoom]) -> Option<usize>
-    ensures place { result ≡ position (λ r. pointwise nat_eq name.now r.name) (rooms_of rooms.now) }
+    ensures place { result ≡ position (λ r. pointwise nat_eq name.now r.name) rooms.now }
     ensures within { IfSome result (λ i. i < length rooms.now) }
 {
     rooms.iter().position(|r| name == r.name.as_str())
