@@ -100,6 +100,7 @@ module _ (last : ℕ) (rooms more : List RoomSession) (n : ℕ) (line : List ℕ
   one-line : IsAfter n (line ∷ rest) room final
   one-line = by (nat_eq k.i r) refl
     where
+      whose : is_of_room room.name line ≡ nat_eq k.i r
       whose = is-own last rooms n line more k differ r room at
 
       by : (b : Bool) → nat_eq k.i r ≡ b → IsAfter n (line ∷ rest) room final

@@ -134,5 +134,5 @@ is-own last rooms n line more h differ r room at =
     by false e text is = apart (pointwise nat_eq text room.name) refl
       where
         apart : (b : Bool) → pointwise nat_eq text room.name ≡ b → pointwise nat_eq text room.name ≡ false
-        apart false h = h
-        apart true h = absurd (eqb-false h.i r e (differ h.i r h.room.name room.name (map-get name rooms h.i h.room h.at) (map-get name rooms r room at) (subst (λ z. pointwise nat_eq z room.name ≡ true) is h)))
+        apart false t = t
+        apart true t = absurd (eqb-false h.i r e (differ h.i r h.room.name room.name (map-get name rooms h.i h.room h.at) (map-get name rooms r room at) (subst (λ z. pointwise nat_eq z room.name ≡ true) is t)))

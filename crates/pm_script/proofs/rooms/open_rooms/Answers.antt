@@ -24,10 +24,10 @@ returns-in_err-head-clause-read c =
     let front : drop c.loop-name.name-index c.args.names.now ≡ c.name-item.result ∷ drop (c.loop-name.name-index + 1) c.args.names.now = front-drop names i name within c.name-item.is in
     let P : Result (List RoomSession) Refusal → Type 0 = λ r. AreOpened c.args.names.now 1 (lines_of c.args.input.now) r in
     let so = λ (r : Result (List RoomSession) Refusal) (h : AreOpened (c.name-item.result ∷ drop (c.loop-name.name-index + 1) c.args.names.now) c.loop-name.line (lines_of c.loop-name.rest.now) r).
-        c.loop-name.invariant.read r (subst (λ l. AreOpened l c.loop-name.line (lines_of c.loop-name.rest.now) r) (sym front) h) in
+    c.loop-name.invariant.read r (subst (λ l. AreOpened l c.loop-name.line (lines_of c.loop-name.rest.now) r) (sym front) h) in
     let p = err_from_is_err_and c.from_residual.result c.from_residual.ensures.1 in
     reads-fault P _ c.from_residual.result p.0 c.in_err-head.field-0.0 p.1 p.2
-        (fault-opened P (rooms_of c.loop-name.rooms.items) name (drop (i + 1) names) c.loop-name.line (lines_of c.loop-name.rest.now) so c.in_err-head.field-0.0 c.in_err-head.ensures.read)
+    (fault-opened P (rooms_of c.loop-name.rooms.items) name (drop (i + 1) names) c.loop-name.line (lines_of c.loop-name.rest.now) so c.in_err-head.field-0.0 c.in_err-head.ensures.read)
 
 pub loop-name-preserved : goal.loop-name-preserved
 loop-name-preserved c =
@@ -42,9 +42,9 @@ loop-name-preserved c =
     let front : drop c.loop-name.name-index c.args.names.now ≡ c.name-item.result ∷ drop (c.loop-name.name-index + 1) c.args.names.now = front-drop names i name within c.name-item.is in
     let P : Result (List RoomSession) Refusal → Type 0 = λ r. AreOpened c.args.names.now 1 (lines_of c.args.input.now) r in
     let so = λ (r : Result (List RoomSession) Refusal) (h : AreOpened (c.name-item.result ∷ drop (c.loop-name.name-index + 1) c.args.names.now) c.loop-name.line (lines_of c.loop-name.rest.now) r).
-        inv.read r (subst (λ l. AreOpened l c.loop-name.line (lines_of c.loop-name.rest.now) r) (sym front) h) in
+    inv.read r (subst (λ l. AreOpened l c.loop-name.line (lines_of c.loop-name.rest.now) r) (sym front) h) in
     let more : rooms_of c.push.new.self.items ≡ rooms_of c.loop-name.rooms.items ++ opened c.name-item.result c.in_ok-head.head ∷ [] =
-        ap (λ (l : List OpenRoom). rooms_of l) c.in_ok-push.ensures.items ∙ map-append room_of had (c.in_ok-new.field-0 ∷ []) ∙ ap (λ x. rooms_of had ++ x ∷ []) c.in_ok-new.ensures.room in
+    ap (λ (l : List OpenRoom). rooms_of l) c.in_ok-push.ensures.items ∙ map-append room_of had (c.in_ok-new.field-0 ∷ []) ∙ ap (λ x. rooms_of had ++ x ∷ []) c.in_ok-new.ensures.room in
     let three : 3 * i + 3 ≡ 3 * (i + 1) = omega arith in
     let none : vec_len c.in_ok-new.field-0.earlier.lines ≤ 0 = search rules in
     record {

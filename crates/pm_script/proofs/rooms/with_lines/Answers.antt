@@ -10,7 +10,7 @@ use Rattle.pm_script.proofs.rooms.with_lines.Goals as goal
 pub returns-in_err-add_line : goal.returns-in_err-add_line
 returns-in_err-add_line c =
     let p = err_from_is_err_and c.from_residual.result c.from_residual.ensures.1 in
-    fault-lines (λ v. v.items) (λ u. rooms_of c.add_line.new.rooms.items) c.args.last (rooms_of c.loop-line.rooms.items) c.loop-line.number c.in-Some.line.now (lines_of c.loop-line.rest.now) (lines_of c.in-Some.after.now)
+    fault-lines {Y = Unit {0}} (λ v. v.items) (λ u. rooms_of c.add_line.new.rooms.items) c.args.last (rooms_of c.loop-line.rooms.items) c.loop-line.number c.in-Some.line.now (lines_of c.loop-line.rest.now) (lines_of c.in-Some.after.now)
     (rooms_behind c.args.last (rooms_of c.args.rooms.items) c.args.first (lines_of c.args.input.now)) c.from_residual.result p.0 c.in_err-add_line.field-0.0
     c.in-Some.ensures.lines p.1 p.2 c.in_err-add_line.ensures.read c.loop-line.invariant.read
 
