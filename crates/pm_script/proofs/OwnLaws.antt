@@ -191,7 +191,8 @@ one-holds lines count r room h =
     let good = head-good Plain (take 3 (drop (3 * r + 1) lines)) room.session.head h.head in
     record {
       valid = good.0;
-      few = good.1;
+      some = good.1.0;
+      few = good.1.1;
       suit = own-suit room.session.head.schema.spec room.session.head.clients good.2 [] (own_lines room.name (last_head count + 1) (drop (last_head count) lines)) room.session.lines h.ops;
     }
 
