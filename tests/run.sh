@@ -69,6 +69,18 @@ limit "an op line too many" check 1 "refused 100004 4"
 limit "an op line too long" check 1 "refused 4 3"
 { head -n 3 "$head" && filled 1048576 ' '; } >"$large"
 limit "an op line of blanks" check 1 "refused 4 5"
+# The same of a file of two rooms, whose op lines are counted together.
+rooms() {
+  echo '["x","y"]'
+  head -n 3 "$head"
+  head -n 3 "$head"
+}
+{ rooms && yes '{"c":"ann","op":"push","room":"x"}' | head -n 50000 && yes '{"c":"ann","op":"push","room":"y"}' | head -n 50001; } >"$large"
+limit "an op line of rooms too many" rooms 1 "refused 100008 4"
+{ rooms && filled 1048577 ' '; } >"$large"
+limit "an op line of rooms too long" rooms 1 "refused 8 3"
+filled 67108865 ' ' >"$large"
+limit "an input of rooms of one byte too many" rooms 1 "refused 0 1"
 letters 499997 >"$large"
 limit "a step that fills the document" replay 0 "4 made 1"
 letters 499998 >"$large"

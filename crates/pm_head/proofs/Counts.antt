@@ -8,6 +8,7 @@ use Rattle.serde_json.specs.declared.value.Value.{Value}
 use Rattle.serde_json.specs.View.{items_view}
 use Rattle.pm_head.specs.declared.form.Form.{Form}
 use Rattle.pm_head.specs.Clients.{count_of, entries_of, clients_of}
+use Rattle.pm_head.specs.Rooms.{rooms_from, rooms_of}
 
 -- a list has as many items as its values
 pub count_of-items : (vs : List Value) → count_of (items_view vs) ≡ length vs
@@ -26,3 +27,11 @@ few n h = grind (arith, nat_tests)
 pub some-clients : (form : Form) (d : Data) (vs : List Value) → as_array d ≡ Some (items_view vs) → 0 < length vs → length vs ≤ 32 → clients_of form d ≡ entries_of form [] (items_view vs)
 unfolding clients_of
 some-clients form d vs is some most = rw (is, count_of-items vs, filled (length vs) some, few (length vs) most) refl
+
+few-rooms : (n : ℕ) → n ≤ 16 → nat_le n 16 ≡ true
+few-rooms n h = grind (arith, nat_tests)
+
+-- a value that is a list of 1 to 16 values gives their names
+pub some-rooms : (d : Data) (vs : List Value) → as_array d ≡ Some (items_view vs) → 0 < length vs → length vs ≤ 16 → rooms_of d ≡ rooms_from [] (items_view vs)
+unfolding rooms_of
+some-rooms d vs is some most = rw (is, count_of-items vs, filled (length vs) some, few-rooms (length vs) most) refl

@@ -5,6 +5,7 @@ pub mod Codes
 pub mod Answers
 pub mod Names
 pub mod Clients
+pub mod Rooms
 pub mod Entries
 pub mod Schemas
 pub mod Documents

@@ -23,4 +23,6 @@ number_of code.InvalidDocument = 16
 number_of code.NoSuchMessage = 17
 number_of code.OpNotAllowed = 18
 number_of code.BadClients = 19
+number_of code.BadRooms = 23
+number_of code.NoSuchRoom = 24
 number_of code.WrongEnter = 25

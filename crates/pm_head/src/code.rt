@@ -7,11 +7,11 @@ ghost use Rattle.pm_head.specs.Numbers.{number_of};
 pub enum Code {
     /// The input passes 67,108,864 bytes. It is no line's code.
     InputTooLong,
-    /// Line 1, 2 or 3 is missing.
+    /// A line before the op lines is missing: line 1, 2 or 3, or in a file of many rooms line 1 or one of a room's three.
     MissingLine,
     /// The line passes 1,048,576 bytes, its LF not counted.
     LineTooLong,
-    /// The line is behind line 100,003.
+    /// The line is behind the 100,000th op line that there may be.
     TooManyLines,
     /// The line is not UTF-8 or no JSON, or nests more than 127 lists and objects.
     NotJson,
@@ -43,12 +43,16 @@ pub enum Code {
     OpNotAllowed,
     /// There is no client or there are more than 32, or a client's name is ill-formed or repeated.
     BadClients,
+    /// There is no room or there are more than 16, or a room's name is ill-formed or repeated.
+    BadRooms,
+    /// A line names no room.
+    NoSuchRoom,
     /// A late client does not enter, or does not do so by its first line and by that alone; or another client enters.
     WrongEnter,
 }
 
 impl Code {
-    /// The number by which a report tells the code, 1 to 19 and 25.
+    /// The number by which a report tells the code, 1 to 19 and 23 to 25.
     pub fn number(self) -> u32
         ensures { result ≡ number_of self }
     {
@@ -72,6 +76,8 @@ impl Code {
             Code::NoSuchMessage => 17,
             Code::OpNotAllowed => 18,
             Code::BadClients => 19,
+            Code::BadRooms => 23,
+            Code::NoSuchRoom => 24,
             Code::WrongEnter => 25,
         }
     }

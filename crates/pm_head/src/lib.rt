@@ -1,4 +1,5 @@
-//! The first three lines of a session file: the schema, the first document and the clients.
+//! The first three lines of a session file: the schema, the first document and the clients. And the line that lists the rooms of a
+//! file of many.
 #![tactic(auto)]
 
 mod clients;
@@ -11,6 +12,7 @@ mod laws;
 mod lines;
 mod names;
 mod reading;
+mod rooms;
 mod schema;
 
 pub use clients::{ClientEntry, raw_flags};
@@ -23,4 +25,5 @@ pub use laws::{head_means_one, schema_means_one};
 pub use lines::{first_line, json_line, json_of};
 pub use names::is_name;
 pub use reading::{Head, read_head};
+pub use rooms::rooms_line;
 pub use schema::schema_line;

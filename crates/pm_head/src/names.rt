@@ -1,9 +1,9 @@
-//! Names of clients.
+//! Names of clients and rooms.
 ghost use Rattle.std.specs.Prelude.{◌≡◌};
 ghost use Rattle.std.specs.List.{list_all};
 ghost use Rattle.pm_head.specs.Names.{is_name as name_of, is_name_letter as name_letter};
 
-/// Whether a text is a client's name: 1 to 16 characters of `a` to `z` and `0` to `9`.
+/// Whether a text is the name of a client or a room: 1 to 16 characters of `a` to `z` and `0` to `9`.
 pub fn is_name(text: &str) -> bool
     ensures { result ≡ name_of text.now }
 {

@@ -8,8 +8,7 @@ use Rattle.pm_program.specs.declared.words.Command.{Command}
 use Rattle.pm_program.specs.Files.{file_of, form_of}
 use Rattle.pm_program.specs.Headline.{Writes, Agrees}
 use Rattle.pm_head.specs.declared.fault.Refusal.{Refusal}
-use Rattle.pm_script.specs.declared.session.Session.{Session}
-use Rattle.pm_script.specs.Sessions.{SessionIs}
+use Rattle.pm_program.specs.Contents.{Content, FileIs}
 use Rattle.pm_program.specs.Output.{IsTextOf, status_for, IsOutput, IsWritten, Answered, AnswersRead, IsAnswer}
 
 pub answered : (asked : Command) (input text : List ℕ) (right status : Status) (old new : Option (List ℕ)) → IsOutput asked input text right → Writes status old new text → Agrees status right → Answered asked input status old new
@@ -21,8 +20,8 @@ answered asked input text right WriteFault old new o w a = record { text = text;
 answered asked input text right NoMemory old new o w a = w
 
 -- the answer to what the file is belongs to the command that was asked for
-pub answered-found : (command asked : Command) (input text : List ℕ) (found : Result Session Refusal) (right status : Status) (old new : Option (List ℕ))
-    → command ≡ asked → SessionIs (form_of command) (file_of command input) found → IsTextOf command found text → right ≡ status_for found
+pub answered-found : (command asked : Command) (input text : List ℕ) (found : Result Content Refusal) (right status : Status) (old new : Option (List ℕ))
+    → command ≡ asked → FileIs (form_of command) (file_of command input) found → IsTextOf command found text → right ≡ status_for found
     → Writes status old new text → Agrees status right → Answered asked input status old new
 answered-found command asked input text found right status old new same is written says w a =
     subst (λ (c : Command). Answered c input status old new) same

@@ -45,7 +45,7 @@ module _ (form : Form) where
   after-schema (Err code) (Ok s) (line ∷ lines) h f e = absurd (cc)
   after-schema (Ok d) (Ok s) (line ∷ lines) h f e = after-doc s e.0 lines h f.1 e.2
 
-  head-built : (lines : List (List ℕ)) (h : Head) → HeadIs form lines (Ok h) → IsBuilt h.schema
+  pub head-built : (lines : List (List ℕ)) (h : Head) → HeadIs form lines (Ok h) → IsBuilt h.schema
   head-built [] h e = absurd (cc)
   head-built (line ∷ lines) h e = after-schema (json_line line) e.0 lines h e.1 e.2
 

@@ -5,6 +5,8 @@ use Rattle.pm_head.specs.declared.fault.Refusal.{Refusal}
 use Rattle.pm_head.specs.declared.form.Form.TheVariants as form
 use Rattle.pm_script.specs.declared.session.Session.{Session}
 use Rattle.pm_script.specs.Sessions.{SessionIs}
+use Rattle.pm_program.specs.Contents.{Content, FileIs}
+use Rattle.pm_program.proofs.Contents.{file-apart, as_content, read-text}
 use Rattle.pm_script.specs.OneMeaning.{SameSession}
 use Rattle.pm_script.proofs.OneSession.{session-apart, one-refusal, one-session}
 use Rattle.pm_report.specs.Words.{◌&◌, line}
@@ -18,18 +20,18 @@ use Rattle.pm_program.specs.Cases.{IsByCase, Tells}
 
 -- ---- the status
 
-of-session : (command : Command) (input text : List ℕ) (s : Session) → SessionIs (form_of command) (file_of command input) (Ok s) → IsOutput command input text SessionRefused → ⊥
+of-session : (command : Command) (input text : List ℕ) (s : Content) → FileIs (form_of command) (file_of command input) (Ok s) → IsOutput command input text SessionRefused → ⊥
 of-session command input text s is o = at o.found o.is o.says
   where
-    at : (found : Result Session Refusal) → SessionIs (form_of command) (file_of command input) found → SessionRefused ≡ status_for found → ⊥
+    at : (found : Result Content Refusal) → FileIs (form_of command) (file_of command input) found → SessionRefused ≡ status_for found → ⊥
     at (Ok t) h e = absurd (cc)
-    at (Err fault) h e = session-apart (form_of command) (file_of command input) s fault is h
+    at (Err fault) h e = file-apart (form_of command) (file_of command input) s fault is h
 
-of-refused : (command : Command) (input text : List ℕ) (fault : Refusal) → SessionIs (form_of command) (file_of command input) (Err fault) → IsOutput command input text Done → ⊥
+of-refused : (command : Command) (input text : List ℕ) (fault : Refusal) → FileIs (form_of command) (file_of command input) (Err fault) → IsOutput command input text Done → ⊥
 of-refused command input text fault is o = at o.found o.is o.says
   where
-    at : (found : Result Session Refusal) → SessionIs (form_of command) (file_of command input) found → Done ≡ status_for found → ⊥
-    at (Ok s) h e = session-apart (form_of command) (file_of command input) s fault h is
+    at : (found : Result Content Refusal) → FileIs (form_of command) (file_of command input) found → Done ≡ status_for found → ⊥
+    at (Ok s) h e = file-apart (form_of command) (file_of command input) s fault h is
     at (Err other) h e = absurd (cc)
 
 -- what was written tells what the file is
@@ -60,17 +62,20 @@ counts-same s t e = λ i. line (codes "ok" & decimal (length (e.lines i)) & deci
 pub one-status : (command : Command) (input text other : List ℕ) (a b : Status) → IsOutput command input text a → IsOutput command input other b → a ≡ b
 one-status command input text other a b x y = x.says ∙ at x.found y.found x.is y.is ∙ sym y.says
   where
-    at : (f g : Result Session Refusal) → SessionIs (form_of command) (file_of command input) f → SessionIs (form_of command) (file_of command input) g → status_for f ≡ status_for g
+    at : (f g : Result Content Refusal) → FileIs (form_of command) (file_of command input) f → FileIs (form_of command) (file_of command input) g → status_for f ≡ status_for g
     at (Ok s) (Ok t) h k = refl
-    at (Ok s) (Err fault) h k = absurd (session-apart (form_of command) (file_of command input) s fault h k)
-    at (Err fault) (Ok t) h k = absurd (session-apart (form_of command) (file_of command input) t fault k h)
+    at (Ok s) (Err fault) h k = absurd (file-apart (form_of command) (file_of command input) s fault h k)
+    at (Err fault) (Ok t) h k = absurd (file-apart (form_of command) (file_of command input) t fault k h)
     at (Err fault) (Err g) h k = refl
 
 -- what `check` writes is one
 pub one-check : (input text other : List ℕ) (a b : Status) → IsOutput Check input text a → IsOutput Check input other b → text ≡ other
-one-check input text other a b x y = at x.found y.found x.is y.is x.written y.written
+one-check input text other a b x y =
+    let p = read-text Check form.Plain input text x.found x.is x.written in
+    let q = read-text Check form.Plain input other y.found y.is y.written in
+    at p.0 q.0 p.1 q.1 p.2 q.2
   where
-    at : (f g : Result Session Refusal) → SessionIs form.Plain input f → SessionIs form.Plain input g → IsTextOf Check f text → IsTextOf Check g other → text ≡ other
+    at : (f g : Result Session Refusal) → SessionIs form.Plain input f → SessionIs form.Plain input g → IsTextOf Check (as_content f) text → IsTextOf Check (as_content g) other → text ≡ other
     at (Ok s) (Ok t) h k v w = v ∙ counts-same s t (one-session form.Plain input s t h k) ∙ sym w
     at (Ok s) (Err fault) h k v w = absurd (session-apart form.Plain input s fault h k)
     at (Err fault) (Ok t) h k v w = absurd (session-apart form.Plain input t fault k h)

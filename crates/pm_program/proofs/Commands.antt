@@ -2,7 +2,7 @@
 use Rattle.std.proofs.Common.{◌≡◌, refl}
 use Rattle.std.specs.Prelude.{Option, None, Some}
 use Rattle.pm_program.specs.declared.words.Command.{Command}
-use Rattle.pm_program.specs.declared.words.Command.TheVariants.{Check, Replay, Select, Run, Gen, Late, At}
+use Rattle.pm_program.specs.declared.words.Command.TheVariants.{Check, Replay, Select, Run, Gen, Late, At, Rooms}
 use Rattle.pm_program.specs.Words.{without_threads}
 
 -- a command that is known without threads is not `run`
@@ -15,6 +15,7 @@ no-threads (Some Run) command e r = absurd (cc)
 no-threads (Some (Gen asked)) command e r = absurd (cc)
 no-threads (Some Late) command e r = absurd (cc)
 no-threads (Some (At n)) command e r = absurd (cc)
+no-threads (Some Rooms) command e r = absurd (cc)
 
 -- every other command is
 pub same-command : (o : Option Command) → (o ≡ Some Run → ⊥) → without_threads o ≡ o
@@ -26,3 +27,4 @@ same-command (Some Run) h = absurd (h refl)
 same-command (Some (Gen asked)) h = refl
 same-command (Some Late) h = refl
 same-command (Some (At n)) h = refl
+same-command (Some Rooms) h = refl

@@ -6,6 +6,7 @@ pub mod Runs
 pub mod TooLong
 pub mod Answered
 pub mod Obeyed
+pub mod Contents
 pub mod Cases
 pub mod TwinWraps
 pub mod SameWrappings
@@ -13,5 +14,6 @@ pub mod SameSteps
 pub mod SameTexts
 pub mod Built
 pub mod SameReports
+pub mod RoomReports
 pub mod OneOutput
 pub mod Made

@@ -7,8 +7,7 @@ use Rattle.pm_io.specs.declared.whole.ReadError.{ReadError}
 use Rattle.pm_head.specs.declared.code.Code.TheVariants.{InputTooLong}
 use Rattle.pm_head.specs.declared.fault.Refusal.{Refusal}
 use Rattle.pm_head.specs.Refusals.{refused}
-use Rattle.pm_script.specs.declared.session.Session.{Session}
-use Rattle.pm_script.specs.Sessions.{SessionIs}
+use Rattle.pm_program.specs.Contents.{Content, FileIs}
 use Rattle.pm_program.specs.declared.call.Status.{Status}
 use Rattle.pm_program.specs.declared.call.Status.TheVariants.{Done, SessionRefused, Usage, ReadFault, WriteFault, NoMemory}
 use Rattle.pm_program.specs.declared.finding.Found.{Found}
@@ -66,9 +65,9 @@ out-of-memory asked left rest f g old w same made = record {
 }
 
 -- what is known of the file: of a source that tells its bytes, of the bytes that were taken, and how far it was read
-pub record IsFound (asked : Command) (found : Result Session Refusal) (left rest : Option (List ℕ)) : Type 0 where
-  pub is : (input : List ℕ) → left ≡ Some input → SessionIs (form_of asked) (file_of asked input) found
-  pub took : (input : List ℕ) × Consumes left rest input × SessionIs (form_of asked) (file_of asked input) found
+pub record IsFound (asked : Command) (found : Result Content Refusal) (left rest : Option (List ℕ)) : Type 0 where
+  pub is : (input : List ℕ) → left ≡ Some input → FileIs (form_of asked) (file_of asked input) found
+  pub took : (input : List ℕ) × Consumes left rest input × FileIs (form_of asked) (file_of asked input) found
   pub to_end : ReadsInput asked → IsAtEnd rest ⊎ ((found ≡ Err (refused 0 InputTooLong)) × IsPastLimit left rest)
 
 silent : (status : Status) (old new : Option (List ℕ)) (text : List ℕ) → Writes status old new text
@@ -80,7 +79,7 @@ silent ReadFault old new text w u r m = absurd (r refl)
 silent WriteFault old new text w u r m = tt
 silent NoMemory old new text w u r m = absurd (m refl)
 
-whole : (right status : Status) (found : Result Session Refusal) (X Y : Type 0) → status ≡ Done → Agrees status right → right ≡ status_for found
+whole : (right status : Status) (found : Result Content Refusal) (X Y : Type 0) → status ≡ Done → Agrees status right → right ≡ status_for found
     → X ⊎ ((found ≡ Err (refused 0 InputTooLong)) × Y) → X
 whole right Done found X Y e a says (inl end) = end
 whole right Done found X Y e a says (inr past) = let same = past.0 in absurd (cc)
@@ -100,7 +99,7 @@ enough (inl end) = inl end
 enough (inr past) = inr past.1
 
 -- the answer to what the file is was written, or a front of it
-pub delivered : (asked : Command) (text : List ℕ) (found : Result Session Refusal) (right status : Status)
+pub delivered : (asked : Command) (text : List ℕ) (found : Result Content Refusal) (right status : Status)
     (left rest : Option (List ℕ)) (f g : ℕ) (old new : Option (List ℕ)) (w v : ℕ)
     → IsFound asked found left rest → g ≡ f → ReadsInput asked ⊎ ((rest ≡ left) × (g ≡ f))
     → IsTextOf asked found text → right ≡ status_for found → Writes status old new text → Agrees status right
@@ -109,7 +108,7 @@ pub delivered : (asked : Command) (text : List ℕ) (found : Result Session Refu
     → Obeyed asked status left rest f g old new w v
 delivered asked text found right status left rest f g old new w v file same made written says writes agrees fault no_fault usage read memory =
     let took = file.took in
-    let answered = λ (input : List ℕ) (is : SessionIs (form_of asked) (file_of asked input) found). answered-found asked asked input text found right status old new refl is written says writes agrees in
+    let answered = λ (input : List ℕ) (is : FileIs (form_of asked) (file_of asked input) found). answered-found asked asked input text found right status old new refl is written says writes agrees in
     record {
       no_usage = usage;
       silent = silent status old new text writes usage read memory;

@@ -74,7 +74,7 @@ rooms-sound s valid all =
     }
 
 -- the lines of a session that is read suit its room
-lines-suit : (s : Session) → Holds s → LinesSuit (room_of s) s.lines
+pub lines-suit : (s : Session) → Holds s → LinesSuit (room_of s) s.lines
 lines-suit s held = opened-suits Schema Doc Reason Step s.head.doc (raw_flags s.head.clients) s.lines held.suit
 
 -- the rooms of every session

@@ -4,11 +4,12 @@ use Rattle.std.specs.Prelude.{nat_lt, Option, None, Some, Err}
 use Rattle.std.specs.Io.KnownBytes.{Consumes, IsAtEnd}
 use Rattle.std.proofs.lemmas.List.{append-nil}
 use Rattle.std.proofs.lemmas.Bool.Decides.{nat_tests}
-use Rattle.pm_head.specs.declared.form.Form.{Form}
+use Rattle.pm_program.specs.declared.files.FileForm.{FileForm}
+use Rattle.pm_program.specs.declared.files.FileForm.TheVariants.{OneRoom, ManyRooms}
 use Rattle.pm_head.specs.declared.code.Code.TheVariants.{InputTooLong}
 use Rattle.pm_head.specs.Refusals.{refused}
 use Rattle.pm_script.specs.declared.session.TheConstants.{MAX_INPUT}
-use Rattle.pm_script.specs.Sessions.{SessionIs}
+use Rattle.pm_program.specs.Contents.{FileIs}
 
 to_end : (new : Option (List ℕ)) (bytes input : List ℕ) → Consumes (Some input) new bytes → IsAtEnd new → bytes ≡ input
 to_end None bytes input h e = absurd h
@@ -36,5 +37,6 @@ nothing-read None = tt
 nothing-read (Some bytes) = refl
 
 -- it is no session
-pub no_session : (f : Form) (input : List ℕ) → nat_lt MAX_INPUT (length input) ≡ true → SessionIs f input (Err (refused 0 InputTooLong))
-no_session f input h = rw h refl
+pub no_session : (f : FileForm) (input : List ℕ) → nat_lt MAX_INPUT (length input) ≡ true → FileIs f input (Err (refused 0 InputTooLong))
+no_session (OneRoom form) input h = rw h refl
+no_session ManyRooms input h = rw h refl

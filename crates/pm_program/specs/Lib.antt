@@ -1,9 +1,12 @@
 pub mod Words
 pub mod Files
+pub mod Contents
 pub mod Making
 pub mod Makers
 pub mod Playing
 pub mod Sounds
+pub mod RoomReports
+pub mod RoomSounds
 pub mod LatePlaying
 pub mod LateSounds
 pub mod Summing

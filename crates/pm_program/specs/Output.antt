@@ -6,14 +6,15 @@ use Rattle.pm_head.specs.declared.fault.Refusal.{Refusal}
 use Rattle.pm_head.specs.Numbers.{number_of}
 use Rattle.pm_script.specs.declared.session.TheConstants.{MAX_INPUT}
 use Rattle.pm_script.specs.declared.session.Session.{Session}
-use Rattle.pm_script.specs.Sessions.{SessionIs}
 use Rattle.pm_report.specs.Words.{◌&◌, line}
 use Rattle.pm_program.specs.declared.call.Status.{Status}
 use Rattle.pm_program.specs.declared.call.Status.TheVariants.{Done, SessionRefused, Usage, ReadFault, WriteFault, NoMemory}
 use Rattle.pm_program.specs.declared.words.Command.{Command}
-use Rattle.pm_program.specs.declared.words.Command.TheVariants.{Check, Replay, Select, Run, Gen, Late, At}
+use Rattle.pm_program.specs.declared.words.Command.TheVariants.{Check, Replay, Select, Run, Gen, Late, At, Rooms}
+use Rattle.pm_program.specs.Contents.{Content, one, many, FileIs}
 use Rattle.pm_program.specs.Files.{file_of, form_of}
 use Rattle.pm_program.specs.Playing.{report_of}
+use Rattle.pm_program.specs.RoomReports.{rooms_report}
 use Rattle.pm_program.specs.LatePlaying.{late_report_of, IsVersionText}
 use Rattle.pm_program.specs.Selecting.{IsSelected}
 use Rattle.pm_program.specs.Summing.{summary_of}
@@ -27,27 +28,29 @@ refusal r = line (codes "refused" & decimal r.line & decimal (number_of r.code))
 abbrev pub counts_of : Session → List ℕ
 counts_of s = line (codes "ok" & decimal (length s.lines) & decimal (length s.head.doc.tokens))
 
--- What a command may write of what its file is found to be. Of `check`, `replay`, `gen`, `late` and `at` it is one text; what
--- `select` writes tells lines, and what `run` writes is of an order.
-abbrev pub IsTextOf : Command → Result Session Refusal → List ℕ → Type 0
-IsTextOf Check (Ok s) text = text ≡ counts_of s
-IsTextOf Replay (Ok s) text = text ≡ report_of s
-IsTextOf Select (Ok s) text = IsSelected s text
-IsTextOf Run (Ok s) text = IsRun s text
-IsTextOf (Gen asked) (Ok s) text = text ≡ summary_of asked s
-IsTextOf Late (Ok s) text = text ≡ late_report_of s
-IsTextOf (At n) (Ok s) text = IsVersionText s n text
+-- What a command may write of what its file is found to be. Of `check`, `replay`, `gen`, `late`, `at` and `rooms` it is one
+-- text; what `select` writes tells lines, and what `run` writes is of an order. No other file is found than one of the command's form.
+abbrev pub IsTextOf : Command → Result Content Refusal → List ℕ → Type 0
+IsTextOf Check (Ok (one s)) text = text ≡ counts_of s
+IsTextOf Replay (Ok (one s)) text = text ≡ report_of s
+IsTextOf Select (Ok (one s)) text = IsSelected s text
+IsTextOf Run (Ok (one s)) text = IsRun s text
+IsTextOf (Gen asked) (Ok (one s)) text = text ≡ summary_of asked s
+IsTextOf Late (Ok (one s)) text = text ≡ late_report_of s
+IsTextOf (At n) (Ok (one s)) text = IsVersionText s n text
+IsTextOf Rooms (Ok (many rooms)) text = text ≡ rooms_report rooms
 IsTextOf command (Err r) text = text ≡ refusal r
+IsTextOf command (Ok other) text = ⊥
 
--- Done for a session, SessionRefused for any other input
-abbrev pub status_for : Result Session Refusal → Status
-status_for (Ok s) = Done
+-- Done for a session or for rooms, SessionRefused for any other input
+abbrev pub status_for : Result Content Refusal → Status
+status_for (Ok content) = Done
 status_for (Err r) = SessionRefused
 
--- what a command writes for an input, and the status that says so: its file is a session, or it is refused
+-- what a command writes for an input, and the status that says so: its file is a session, or rooms, or it is refused
 pub record IsOutput (command : Command) (input text : List ℕ) (status : Status) : Type 0 where
-  pub found : Result Session Refusal
-  pub is : SessionIs (form_of command) (file_of command input) found
+  pub found : Result Content Refusal
+  pub is : FileIs (form_of command) (file_of command input) found
   pub written : IsTextOf command found text
   pub says : status ≡ status_for found
 

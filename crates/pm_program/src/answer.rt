@@ -9,10 +9,11 @@ use crate::call::Status;
 use crate::finding::Found;
 use crate::late::{replay_late, tell_version};
 use crate::replaying::replay;
+use crate::rooms::replay_rooms;
 use crate::selecting::select;
 use crate::summing::summarize;
 use crate::words::Command;
-use pm_script::{Refusal, Session};
+use pm_script::{Refusal, RoomSession, Session};
 use std::alloc::{AllocError, Global};
 
 /// What is to be written, and the status that says so.
@@ -34,18 +35,23 @@ pub fn answer_to(alloc: Global, command: Command, found: &Found) -> Result<Answe
             status: Status::Done,
             text: told(alloc, command, session)?,
         }),
+        Found::AreRooms(rooms) => Ok(Answer {
+            status: Status::Done,
+            text: rooms_told(alloc, command, rooms.as_slice())?,
+        }),
         Found::Refused(refused) => refusal(alloc, *refused),
     }
 }
 
 ghost use Rattle.std.specs.Prelude.{Ok, length};
-ghost use Rattle.pm_program.specs.Finding.{HoldsIn};
+ghost use Rattle.pm_program.specs.Contents.{one, many};
+ghost use Rattle.pm_program.specs.Finding.{FoundSession, FoundRooms};
 
 /// What the command writes of a session.
 fn told(alloc: Global, command: Command, session: &Session) -> Result<String, AllocError>
     requires alone { command ≡ Command.Run → ⊥ }
-    requires holds { HoldsIn (form_of command) session.now }
-    ensures { IfOk result (λ s. IsTextOf command (Ok session.now) (string_bytes s)) }
+    requires holds { FoundSession (form_of command) session.now }
+    ensures { IfOk result (λ s. IsTextOf command (Ok (one session.now)) (string_bytes s)) }
 {
     match command {
         Command::Check => counts(alloc, session.lines.len(), session.head.doc.size()),
@@ -54,7 +60,24 @@ fn told(alloc: Global, command: Command, session: &Session) -> Result<String, Al
         Command::Gen(asked) => summarize(alloc, asked, session),
         Command::Late => replay_late(alloc, session),
         Command::At(version) => tell_version(alloc, version, session),
-        Command::Run => unreachable!(),
+        Command::Run | Command::Rooms => unreachable!(),
+    }
+}
+
+/// What the command writes of rooms.
+fn rooms_told(alloc: Global, command: Command, rooms: &[RoomSession]) -> Result<String, AllocError>
+    requires { FoundRooms (form_of command) rooms.now }
+    ensures { IfOk result (λ s. IsTextOf command (Ok (many rooms.now)) (string_bytes s)) }
+{
+    match command {
+        Command::Rooms => replay_rooms(alloc, rooms),
+        Command::Check
+        | Command::Replay
+        | Command::Select
+        | Command::Run
+        | Command::Gen(_)
+        | Command::Late
+        | Command::At(_) => unreachable!(),
     }
 }
 

@@ -9,6 +9,7 @@ ghost use Rattle.pm_program.specs.Output.{IsAnswer, Answered, AnswersRead, IsPas
 ghost use Rattle.pm_program.specs.Cases.{Tells, IsByCase};
 ghost use Rattle.pm_program.specs.Sounds.{AllSound};
 ghost use Rattle.pm_program.specs.LateSounds.{AllLateSound};
+ghost use Rattle.pm_program.specs.RoomSounds.{AllRoomsSound, AllRoomsApart};
 ghost use Rattle.pm_program.specs.Headline.{Silent, number_of};
 
 use crate::making::EditMaker;
@@ -56,7 +57,7 @@ impl Status {
 /// Does what the words say. A session that `run` names is played with a thread for each client, raw clients too, and the gate
 /// is asked before each message that a line presents. All other words are handed to `plain`. Under `run` it may wait, and
 /// returns if the threads do.
-#[tactic(auto, using(crate::proofs::Reports::all_sound, crate::proofs::LateReports::all_late_sound))]
+#[tactic(auto, using(crate::proofs::Reports::all_sound, crate::proofs::LateReports::all_late_sound, crate::proofs::RoomReports::all_rooms_sound, crate::proofs::RoomReports::all_rooms_apart))]
 pub fn run<R: Source, W: Sink, G: Gate + Sync, T: Threads + Wait + Sync>(
     alloc: Global,
     rt: &T,
@@ -79,6 +80,9 @@ pub fn run<R: Source, W: Sink, G: Gate + Sync, T: Threads + Wait + Sync>(
     ensures sound { (input : List ℕ) → AllSound input }
     // The same of every session that clients may enter late, and that a late client is as one that pulled all.
     ensures late_sound { (input : List ℕ) → AllLateSound input }
+    // The same of each room of every file of many, and that its session is that of the room's own lines.
+    ensures rooms_sound { (input : List ℕ) → AllRoomsSound input }
+    ensures rooms_apart { (input : List ℕ) → AllRoomsApart input }
     // Faults only where they rose.
     ensures read_fault { result ≡ Status.ReadFault → Rose (R.faults source.old) (R.faults source.new) }
     ensures write_fault { result ≡ Status.WriteFault → Rose (W.faults sink.old) (W.faults sink.new) }
@@ -130,7 +134,7 @@ pub fn run<R: Source, W: Sink, G: Gate + Sync, T: Threads + Wait + Sync>(
 }
 
 /// Does what the words say, without threads: to it the word `run` is none of the forms. It returns for every input.
-#[tactic(auto, using(crate::proofs::Reports::all_sound, crate::proofs::LateReports::all_late_sound))]
+#[tactic(auto, using(crate::proofs::Reports::all_sound, crate::proofs::LateReports::all_late_sound, crate::proofs::RoomReports::all_rooms_sound, crate::proofs::RoomReports::all_rooms_apart))]
 pub fn plain<R: Source, W: Sink>(
     alloc: Global,
     words: &[String],
@@ -151,6 +155,9 @@ pub fn plain<R: Source, W: Sink>(
     ensures sound { (input : List ℕ) → AllSound input }
     // The same of every session that clients may enter late, and that a late client is as one that pulled all.
     ensures late_sound { (input : List ℕ) → AllLateSound input }
+    // The same of each room of every file of many, and that its session is that of the room's own lines.
+    ensures rooms_sound { (input : List ℕ) → AllRoomsSound input }
+    ensures rooms_apart { (input : List ℕ) → AllRoomsApart input }
     // Faults only where they rose.
     ensures read_fault { result ≡ Status.ReadFault → Rose (R.faults source.old) (R.faults source.new) }
     ensures write_fault { result ≡ Status.WriteFault → Rose (W.faults sink.old) (W.faults sink.new) }

@@ -1,4 +1,4 @@
-//! What an input is: a session, or none.
+//! What an input is: a session, or many rooms, or none.
 ghost use Rattle.std.specs.Prelude.{◌≡◌, ◌⊎◌, ℕ, List, IfOk, IsErrOf, Some, Err};
 ghost use Rattle.pm_gen.specs.Bounds.{InBounds};
 ghost use Rattle.pm_gen.specs.Session.{generated};
@@ -8,16 +8,21 @@ ghost use Rattle.pm_head.specs.declared.code.Code.TheVariants.{InputTooLong};
 ghost use Rattle.pm_head.specs.Answers.{Reads};
 ghost use Rattle.pm_head.specs.Refusals.{refused};
 ghost use Rattle.pm_script.specs.Sessions.{SessionIs};
+ghost use Rattle.pm_program.specs.Contents.{FileIs};
 ghost use Rattle.pm_program.specs.Finding.{found_of, HoldsIn, FoundHolds};
 ghost use Rattle.pm_program.specs.Files.{file_of, form_of, ReadsInput};
 ghost use Rattle.pm_program.specs.Output.{IsPastLimit};
 ghost use Rattle.pm_program.specs.Words.{IsBounded};
 
+use crate::files::FileForm;
 use crate::words::Command;
 use pm_gen::{Asked, generate};
 use pm_head::Form;
 use pm_io::{ReadError, Source, read_all};
-use pm_script::{Code, MAX_INPUT, Refusal, Session, SessionError, read_late, read_session};
+use pm_script::{
+    Code, MAX_INPUT, Refusal, RoomSession, Session, SessionError, read_late, read_rooms,
+    read_session,
+};
 use std::alloc::{AllocError, Global};
 
 /// What an input was found to be.
@@ -25,7 +30,9 @@ use std::alloc::{AllocError, Global};
 pub enum Found {
     /// A session.
     IsSession(Session),
-    /// None: the least faulty line, and the code of its first fault.
+    /// Many rooms, each with a session.
+    AreRooms(Vec<RoomSession>),
+    /// Neither: the least faulty line, and the code of its first fault.
     Refused(Refusal),
 }
 
@@ -36,9 +43,9 @@ pub fn found_for<R: Source>(
     source: &mut R,
 ) -> Result<Found, ReadError>
     requires { IsBounded command }
-    ensures is { IfOk result (λ f. (input : List ℕ) → R.left source.old ≡ Some input → SessionIs (form_of command) (file_of command input) (found_of f)) }
+    ensures is { IfOk result (λ f. (input : List ℕ) → R.left source.old ≡ Some input → FileIs (form_of command) (file_of command input) (found_of f)) }
     ensures took { IfOk result (λ f. (input : List ℕ) × Consumes (R.left source.old) (R.left source.new) input
-        × SessionIs (form_of command) (file_of command input) (found_of f)) }
+        × FileIs (form_of command) (file_of command input) (found_of f)) }
     ensures holds { IfOk result (FoundHolds (form_of command)) }
     ensures fault { IsErrOf result ReadError.ReadFault → Rose (R.faults source.old) (R.faults source.new) }
     ensures no_fault { IsErrOf result ReadError.ReadFault ⊎ (R.faults source.new ≡ R.faults source.old) }
@@ -55,25 +62,30 @@ pub fn found_for<R: Source>(
         | Command::Select
         | Command::Run
         | Command::Late
-        | Command::At(_) => found_in(alloc, command.form(), source),
+        | Command::At(_)
+        | Command::Rooms => found_in(alloc, command.form(), source),
     }
 }
 
 /// What the session file made from these numbers is found to be.
 fn found_made(alloc: Global, asked: Asked) -> Result<Found, AllocError>
     requires { InBounds asked.clients asked.rounds }
-    ensures is { IfOk result (λ f. SessionIs Form.Plain (generated asked.clients asked.rounds asked.number) (found_of f)) }
-    ensures holds { IfOk result (FoundHolds Form.Plain) }
+    ensures is { IfOk result (λ f. FileIs (FileForm.OneRoom Form.Plain) (generated asked.clients asked.rounds asked.number) (found_of f)) }
+    ensures holds { IfOk result (FoundHolds (FileForm.OneRoom Form.Plain)) }
 {
     let file = generate(alloc, asked.clients, asked.rounds, asked.number)?;
-    found_of(alloc, Form::Plain, file.as_bytes())
+    found_of(alloc, FileForm::OneRoom(Form::Plain), file.as_bytes())
 }
 
 /// Reads a source to its end, and says what its bytes are in files of this form. Of an input past the limit one byte more than the limit is read.
-pub fn found_in<R: Source>(alloc: Global, form: Form, source: &mut R) -> Result<Found, ReadError>
-    ensures is { IfOk result (λ f. (input : List ℕ) → R.left source.old ≡ Some input → SessionIs form input (found_of f)) }
+pub fn found_in<R: Source>(
+    alloc: Global,
+    form: FileForm,
+    source: &mut R,
+) -> Result<Found, ReadError>
+    ensures is { IfOk result (λ f. (input : List ℕ) → R.left source.old ≡ Some input → FileIs form input (found_of f)) }
     ensures took { IfOk result (λ f. (input : List ℕ) × Consumes (R.left source.old) (R.left source.new) input
-        × SessionIs form input (found_of f)) }
+        × FileIs form input (found_of f)) }
     ensures holds { IfOk result (FoundHolds form) }
     ensures fault { IsErrOf result ReadError.ReadFault → Rose (R.faults source.old) (R.faults source.new) }
     ensures no_fault { IsErrOf result ReadError.ReadFault ⊎ (R.faults source.new ≡ R.faults source.old) }
@@ -92,9 +104,32 @@ pub fn found_in<R: Source>(alloc: Global, form: Form, source: &mut R) -> Result<
 }
 
 /// What an input is in files of this form.
-fn found_of(alloc: Global, form: Form, input: &[u8]) -> Result<Found, AllocError>
-    ensures is { IfOk result (λ f. SessionIs form input.now (found_of f)) }
+fn found_of(alloc: Global, form: FileForm, input: &[u8]) -> Result<Found, AllocError>
+    ensures is { IfOk result (λ f. FileIs form input.now (found_of f)) }
     ensures holds { IfOk result (FoundHolds form) }
+{
+    match form {
+        FileForm::OneRoom(form) => session_in(alloc, form, input),
+        FileForm::ManyRooms => rooms_in(alloc, input),
+    }
+}
+
+/// What an input is as a file of many rooms.
+fn rooms_in(alloc: Global, input: &[u8]) -> Result<Found, AllocError>
+    ensures is { IfOk result (λ f. FileIs FileForm.ManyRooms input.now (found_of f)) }
+    ensures holds { IfOk result (FoundHolds FileForm.ManyRooms) }
+{
+    match read_rooms(alloc, input) {
+        Ok(rooms) => Ok(Found::AreRooms(rooms)),
+        Err(SessionError::Refused(refusal)) => Ok(Found::Refused(refusal)),
+        Err(SessionError::NoMemory) => Err(AllocError),
+    }
+}
+
+/// What an input is as a session of this form.
+fn session_in(alloc: Global, form: Form, input: &[u8]) -> Result<Found, AllocError>
+    ensures is { IfOk result (λ f. FileIs (FileForm.OneRoom form) input.now (found_of f)) }
+    ensures holds { IfOk result (FoundHolds (FileForm.OneRoom form)) }
 {
     match read(alloc, form, input) {
         Ok(session) => Ok(Found::IsSession(session)),

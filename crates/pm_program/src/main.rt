@@ -3,12 +3,14 @@
 
 mod answer;
 mod call;
+mod files;
 mod finding;
 mod late;
 mod making;
 mod obeying;
 mod one_output;
 mod replaying;
+mod rooms;
 mod running;
 mod selecting;
 mod summing;
@@ -40,7 +42,7 @@ fn main(rt: HostRuntime) -> io::Result<ExitCode> {
     let _told = match status {
         Status::Done | Status::SessionRefused => Ok(()),
         Status::Usage => eprintln!(rt;
-            "usage: check | replay | run | gen CLIENTS LINES NUMBER | select | late | at VERSION"
+            "usage: check | replay | run | gen CLIENTS LINES NUMBER | select | late | at VERSION | rooms"
         ),
         Status::ReadFault => eprintln!(rt; "read fault"),
         Status::WriteFault => eprintln!(rt; "write fault"),

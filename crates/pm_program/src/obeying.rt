@@ -8,6 +8,7 @@ ghost use Rattle.pm_program.specs.Words.{IsBounded};
 
 use crate::answer::{Answer, answer_to};
 use crate::call::Status;
+use crate::files::FileForm;
 use crate::finding::{found_for, found_in};
 use crate::making::EditMaker;
 use crate::running::answer_on_threads;
@@ -52,7 +53,7 @@ pub fn obey_on_threads<R: Source, W: Sink, G: Gate + Sync, T: Threads + Wait + S
     ensures { Obeyed Command.Run result (R.left source.old) (R.left source.new) (R.faults source.old) (R.faults source.new)
         (W.written sink.old) (W.written sink.new) (W.faults sink.old) (W.faults sink.new) }
 {
-    let found = match found_in(alloc, Form::Plain, source) {
+    let found = match found_in(alloc, FileForm::OneRoom(Form::Plain), source) {
         Ok(found) => found,
         Err(ReadError::ReadFault) => return Status::ReadFault,
         Err(_) => return Status::NoMemory,

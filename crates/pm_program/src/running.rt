@@ -8,6 +8,7 @@ ghost use Rattle.pm_script.specs.Held.{Holds};
 
 use crate::answer::{Answer, refusal};
 use crate::call::Status;
+use crate::files::FileForm;
 use crate::finding::Found;
 use crate::making::EditMaker;
 use pm_apply::DocChange;
@@ -31,7 +32,7 @@ pub fn answer_on_threads<G, T>(
 where
     G: Gate + Sync,
     T: Threads + Wait + Sync,
-    requires { FoundHolds Form.Plain found }
+    requires { FoundHolds (FileForm.OneRoom Form.Plain) found }
     ensures text { IfOk result (λ a. IsTextOf Command.Run (found_of found) (string_bytes a.text)) }
     ensures says { IfOk result (λ a. a.status ≡ status_for (found_of found)) }
 {
@@ -40,6 +41,10 @@ where
             status: Status::Done,
             text: run(alloc, crew, session)?,
         }),
+        Found::AreRooms(rooms) => {
+            drop(rooms);
+            unreachable!()
+        }
         Found::Refused(refused) => refusal(alloc, refused),
     }
 }

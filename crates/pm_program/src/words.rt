@@ -3,6 +3,7 @@ ghost use Rattle.std.specs.Prelude.{◌≡◌, map, string_bytes, IfSome};
 ghost use Rattle.pm_program.specs.Files.{form_of};
 ghost use Rattle.pm_program.specs.Words.{command_named, at_named, gen_named, command_of, without_threads, plain_command_of, IsBounded};
 
+use crate::files::FileForm;
 use crate::version::version_of;
 use pm_gen::{Asked, asked_of};
 use pm_head::Form;
@@ -24,23 +25,26 @@ pub enum Command {
     Late,
     /// Plays such a session, and writes the document after the first steps of the log, so many.
     At(u64),
+    /// Plays the rooms of a file of many with their lines in file order, and writes each room's report.
+    Rooms,
 }
 
 impl Command {
-    /// The form of the session file that the command plays.
-    pub fn form(self) -> Form
+    /// The form of the file that the command plays.
+    pub fn form(self) -> FileForm
         ensures { result ≡ form_of self }
     {
         match self {
-            Command::Late | Command::At(_) => Form::Late,
+            Command::Late | Command::At(_) => FileForm::OneRoom(Form::Late),
+            Command::Rooms => FileForm::ManyRooms,
             Command::Check | Command::Replay | Command::Select | Command::Run | Command::Gen(_) => {
-                Form::Plain
+                FileForm::OneRoom(Form::Plain)
             }
         }
     }
 }
 
-/// The one word `check`, `replay`, `select`, `run` or `late`, `at` with a number below 2^64 of one to twenty decimal digits, or
+/// The one word `check`, `replay`, `select`, `run`, `late` or `rooms`, `at` with a number below 2^64 of one to twenty decimal digits, or
 /// `gen` with three numbers that a session may be made from. All other words are none of the forms.
 pub fn command_of(words: &[String]) -> Option<Command>
     ensures named { result ≡ command_of (map string_bytes words.now) }
@@ -117,6 +121,8 @@ fn command_named(word: &str) -> Option<Command>
         Some(Command::Run)
     } else if word == "late" {
         Some(Command::Late)
+    } else if word == "rooms" {
+        Some(Command::Rooms)
     } else {
         None
     }

@@ -6,3 +6,16 @@ pub mod StandLines
 pub mod StandPlays
 pub mod Playings
 pub mod Workings
+pub mod Dealt
+pub mod Shares
+pub mod Handings
+pub mod Newcomers
+pub mod Readiness
+pub mod Endings
+pub mod Wholes
+pub mod Highest
+pub mod Partings
+pub mod Mergings
+pub mod Openeds
+pub mod Closings
+pub mod Gatherings

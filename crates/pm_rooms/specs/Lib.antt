@@ -2,3 +2,9 @@ pub mod Lines
 pub mod Halls
 pub mod Stands
 pub mod People
+pub mod Handed
+pub mod Opened
+pub mod Openings
+pub mod Shared
+pub mod Parted
+pub mod Played

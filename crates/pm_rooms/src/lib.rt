@@ -1,16 +1,26 @@
 //! Many rooms in one hall. Each line is played in its own room, and what becomes of a room is what its own lines make of it.
 //!
 //! `Hall` plays the lines on one thread. `run_hall` gives each person a thread of its own, and each room a desk.
+//! `play_rooms_on_threads` plays a whole session so, from its opening on.
 #![tactic(auto)]
 
+mod ending;
 mod hall;
 mod line;
+mod merging;
+mod new_room;
+mod opening;
+mod parting;
 mod person;
 mod running;
+mod sharing;
 mod stand;
+mod threaded;
 
 pub use hall::Hall;
 pub use line::RoomLine;
+pub use new_room::NewRoom;
 pub use person::Person;
 pub use running::run_hall;
 pub use stand::Stand;
+pub use threaded::play_rooms_on_threads;

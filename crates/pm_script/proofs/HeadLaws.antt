@@ -1,7 +1,7 @@
--- What the first three lines give: a valid document, and at most 32 clients, of which none comes late and is raw.
-use Rattle.std.proofs.Common.{◌≡◌, ◌≤◌, ℕ, suc, Bool, true, false, List, [], ◌∷◌, ◌++◌, length, refl, ap, subst, sym, arith, Result, Ok, Err}
+-- What the first three lines give: a valid document, and from 1 to 32 clients, of which none comes late and is raw.
+use Rattle.std.proofs.Common.{◌≡◌, ◌≤◌, ◌<◌, ℕ, suc, Bool, true, false, List, [], ◌∷◌, ◌++◌, length, refl, ap, subst, sym, arith, Result, Ok, Err}
 use Rattle.std.specs.Prelude.{◌==◌, ◌&&◌, nat_lt, nat_le, codes, Option, Some, None, is_none, is_some, option_map, option_and_then, if◌then◌else◌}
-use Rattle.std.proofs.lemmas.Bool.{leb-true}
+use Rattle.std.proofs.lemmas.Bool.{ltb-true, leb-true}
 use Rattle.serde_json.specs.Data.{Data, null, boolean, number, string, array, object, Items, no_items, item}
 use Rattle.serde_json.specs.Find.{get, as_str, as_array}
 use Rattle.pm_list.specs.Readings.{or_fault}
@@ -29,6 +29,10 @@ use Rattle.pm_script.proofs.Came.{then-ok, fault-ok, when-ok, both-true}
 use Rattle.pm_script.proofs.Suited.{NoneBoth}
 
 -- ---- clients
+
+-- from 1 to 32
+abbrev pub IsFew : List ClientEntry → Type 0
+IsFew cs = (0 < length cs) × (length cs ≤ 32)
 
 -- the client doesn't come late, or is not raw
 abbrev IsOne : ClientEntry → Type 0
@@ -72,7 +76,7 @@ module _ (form : Form) where
       let rest = entries-read (earlier ++ one.0 ∷ []) ds two.0 two.1 in
       subst (λ (xs : List ClientEntry). (length xs ≡ suc (count_of ds)) × NoneBoth xs) is (ap suc rest.0, (next-one earlier d one.0 one.1, rest.1))
 
-  few-clients : (d : Data) (cs : List ClientEntry) → clients_of form d ≡ Ok cs → (length cs ≤ 32) × NoneBoth cs
+  few-clients : (d : Data) (cs : List ClientEntry) → clients_of form d ≡ Ok cs → IsFew cs × NoneBoth cs
   unfolding clients_of
   few-clients d cs h =
       let one = then-ok (or_fault WrongShape (as_array d)) _ cs h in
@@ -81,11 +85,14 @@ module _ (form : Form) where
       let b = both-true (nat_lt 0 (count_of one.0)) (nat_le (count_of one.0) 32) w.0 in
       let few : count_of one.0 ≤ 32 = leb-true (count_of one.0) 32 b.1 in
       let few' : count_of two.0 ≤ 32 = subst (λ ds. count_of ds ≤ 32) w.1 few in
+      let some : 0 < count_of one.0 = ltb-true 0 (count_of one.0) b.0 in
+      let some' : 0 < count_of two.0 = subst (λ ds. 0 < count_of ds) w.1 some in
       let read = entries-read [] two.0 cs two.2 in
       let most : length cs ≤ 32 = omega (arith, read.0, few') in
-      (most, read.1)
+      let least : 0 < length cs = omega (arith, read.0, some') in
+      ((least, most), read.1)
 
-  few-line : (line : List ℕ) (cs : List ClientEntry) → clients_line form line ≡ Ok cs → (length cs ≤ 32) × NoneBoth cs
+  few-line : (line : List ℕ) (cs : List ClientEntry) → clients_line form line ≡ Ok cs → IsFew cs × NoneBoth cs
   unfolding clients_line
   few-line line cs h = let one = then-ok (json_line line) (clients_of form) cs h in few-clients one.0 cs one.2
 
@@ -110,13 +117,13 @@ valid-line s doc (Err code) h = absurd (cc)
 -- ---- the head
 
 abbrev Good : Head → Type 0
-Good h = Valid (documents_of h.schema.spec) h.doc × (length h.clients ≤ 32) × NoneBoth h.clients
+Good h = Valid (documents_of h.schema.spec) h.doc × IsFew h.clients × NoneBoth h.clients
 
 abbrev lifted : Head → Result Head Refusal
 lifted h = Ok h
 
 with-good : (s : Schema) (doc : Doc) (r : Result (List ClientEntry) Code) (h : Head) → Valid (documents_of s.spec) doc
-    → ((cs : List ClientEntry) → r ≡ Ok cs → (length cs ≤ 32) × NoneBoth cs) → lifted h ≡ with_clients s doc r → Good h
+    → ((cs : List ClientEntry) → r ≡ Ok cs → IsFew cs × NoneBoth cs) → lifted h ≡ with_clients s doc r → Good h
 with-good s doc (Ok cs) h valid few e =
     let is : record { schema = s; doc = doc; clients = cs } ≡ h = cc in
     let read = few cs refl in

@@ -14,3 +14,10 @@ pub mod SessionLaws
 pub mod SameSteps
 pub mod SameLines
 pub mod OneSession
+pub mod RoomLists
+pub mod RoomNames
+pub mod RoomHeads
+pub mod RoomOps
+pub mod OpenRooms
+pub mod OwnLaws
+pub mod OneRooms

@@ -136,7 +136,7 @@ module _ (s t : SchemaSpec) (h : HaveSameTypes s t) where
   act-alike word.Forge d = forge-alike d
   act-alike word.Enter d = refl
 
-  op-in-alike : (form : Form) (clients : List ClientEntry) (earlier : List (Line Op Step)) (n : ℕ) (d : Data) → op_in form s clients earlier n d ≡ op_in form t clients earlier n d
+  pub op-in-alike : (form : Form) (clients : List ClientEntry) (earlier : List (Line Op Step)) (n : ℕ) (d : Data) → op_in form s clients earlier n d ≡ op_in form t clients earlier n d
   unfolding op_in
   op-in-alike form clients earlier n d = λ i. client_in clients d >>= (λ client. word_in form d >>= (λ found. said clients earlier client found >>= (λ allowed. turned clients earlier client allowed >>= (λ w. act-alike w d i >>= (λ read. named earlier client read >>= (λ done. Ok (record { number = n; client = client; act = done })))))))
 

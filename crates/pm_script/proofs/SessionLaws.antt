@@ -22,7 +22,7 @@ use Rattle.pm_script.specs.declared.session.TheConstants.{MAX_INPUT}
 use Rattle.pm_script.specs.Entrants.{all_enter}
 use Rattle.pm_script.specs.Sessions.{ops_of, with_ops, behind, behind_head, SessionOf, SessionIs}
 use Rattle.pm_head.specs.declared.fault.SessionError.{SessionError}
-use Rattle.pm_script.proofs.HeadLaws.{head-good}
+use Rattle.pm_script.proofs.HeadLaws.{IsFew, head-good}
 use Rattle.pm_script.proofs.Suited.{AllAre, ops-suit}
 
 -- readings of sessions
@@ -38,12 +38,12 @@ abbrev pub Held : Form → Session → Type 0
 Held Plain s = Holds s
 Held Late s = HoldsLate s
 
-held : (form : Form) (s : Session) → Valid (documents_of s.head.schema.spec) s.head.doc → length s.head.clients ≤ 32 → AllAre form (raw_flags s.head.clients) [] s.lines → Held form s
-held Plain s valid few suit = record { valid = valid; few = few; suit = suit }
-held Late s valid few suit = record { valid = valid; few = few; suit = suit }
+held : (form : Form) (s : Session) → Valid (documents_of s.head.schema.spec) s.head.doc → IsFew s.head.clients → AllAre form (raw_flags s.head.clients) [] s.lines → Held form s
+held Plain s valid few suit = record { valid = valid; some = few.0; few = few.1; suit = suit }
+held Late s valid few suit = record { valid = valid; some = few.0; few = few.1; suit = suit }
 
 module _ (form : Form) where
-  with-holds : (h : Head) (r : Result (List (Line Op Step)) Refusal) (s : Session) → Valid (documents_of h.schema.spec) h.doc → length h.clients ≤ 32
+  with-holds : (h : Head) (r : Result (List (Line Op Step)) Refusal) (s : Session) → Valid (documents_of h.schema.spec) h.doc → IsFew h.clients
       → ((ops : List (Line Op Step)) → r ≡ Ok ops → AllAre form (raw_flags h.clients) [] ops) → with_ops h r ≡ Ok s → Held form s
   with-holds h (Ok ops) s valid few suit e =
       let made : record { head = h; lines = ops } ≡ s = cc in

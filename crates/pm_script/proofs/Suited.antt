@@ -24,6 +24,8 @@ use Rattle.pm_script.specs.Acts.{act_in}
 use Rattle.pm_script.specs.declared.lines.TheConstants.{LAST_LINE}
 use Rattle.pm_script.specs.Lines.{client_in, word_in, cursors_by, is_raw, is_late, is_due, said, turned, named, op_in, op_line}
 use Rattle.pm_script.specs.Sessions.{at_line, ops_of}
+use Rattle.pm_list.specs.Readings.{◌>>=◌}
+use Rattle.pm_script.specs.OwnLines.{own_ops}
 use Rattle.pm_script.proofs.Came.{then-ok, fault-ok, when-ok, unless-ok, line-ok, both-true}
 use Rattle.pm_script.proofs.Places.{position-within}
 use Rattle.pm_script.proofs.Saying.{IsMade, says_forge, is_enter, act-made, kind-said, due-said, plain-other, names}
@@ -174,3 +176,18 @@ module _ (form : Form) (s : SchemaSpec) (clients : List ClientEntry) (apart : No
       let first = line-suits form s clients apart earlier n line one.0 (line-ok n (op_line form s clients earlier n line) one.0 one.1) in
       let all = more-are form (raw_flags clients) earlier one.0 two.0 first (ops-suit (earlier ++ one.0 ∷ []) (n + 1) rest two.0 two.1) in
       subst (λ l. AllAre form (raw_flags clients) earlier l) is all
+
+-- the op lines that numbered lines are
+module _ (s : SchemaSpec) (clients : List ClientEntry) (apart : NoneBoth clients) where
+  pub own-suit : (earlier : List (Line Op Step)) (lines : List (ℕ × List ℕ)) (ops : List (Line Op Step)) → own_ops s clients earlier lines ≡ Ok ops → AllSuit (raw_flags clients) earlier ops
+  unfolding own_ops
+  own-suit earlier [] ops h = let none : [] ≡ ops = cc in subst (λ l. AllSuit (raw_flags clients) earlier l) none tt
+  own-suit earlier (l ∷ rest) ops h =
+      let line = json_line l.1 >>= (λ d. op_in Plain s clients earlier l.0 d) in
+      let one = then-ok (at_line l.0 line) _ ops h in
+      let two = then-ok (own_ops s clients (earlier ++ one.0 ∷ []) rest) _ ops one.2 in
+      let value = then-ok (json_line l.1) (λ d. op_in Plain s clients earlier l.0 d) one.0 (line-ok l.0 line one.0 one.1) in
+      let is : one.0 ∷ two.0 ≡ ops = cc in
+      let first : Suits (raw_flags clients) earlier one.0 = op-suits Plain s clients apart earlier l.0 value.0 one.0 value.2 in
+      let all : AllSuit (raw_flags clients) earlier (one.0 ∷ two.0) = (first, own-suit (earlier ++ one.0 ∷ []) rest two.0 two.1) in
+      subst (λ l. AllSuit (raw_flags clients) earlier l) is all

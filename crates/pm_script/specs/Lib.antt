@@ -10,5 +10,9 @@ pub mod Entrants
 pub mod Entered
 pub mod Sessions
 pub mod Held
+pub mod Rooms
+pub mod OwnLines
+pub mod OpenRooms
 pub mod Answers
 pub mod OneMeaning
+pub mod OneRooms

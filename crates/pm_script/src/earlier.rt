@@ -75,6 +75,24 @@ impl Earlier {
         self.own[client] > 0
     }
 
+    /// The lines.
+    pub fn into_lines(self) -> Vec<Line<Op, DocChange>>
+        ensures { result.items ≡ self.lines.items }
+    {
+        let Earlier {
+            lines,
+            composed,
+            answered,
+            cursors,
+            own,
+        } = self;
+        drop(composed);
+        drop(answered);
+        drop(cursors);
+        drop(own);
+        lines
+    }
+
     /// Adds the next line.
     pub fn add(&mut self, line: Line<Op, DocChange>) -> Result<(), AllocError>
         requires composed { line.client < vec_len self.old.composed }

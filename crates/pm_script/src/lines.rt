@@ -51,7 +51,7 @@ pub(crate) fn op_line(
 
 /// The op line that a value is.
 #[tactic(auto, unfolding(crate::specs::Lines::op_in))]
-fn op_in(
+pub(crate) fn op_in(
     alloc: Global,
     form: Form,
     schema: &Schema,

@@ -114,18 +114,7 @@ fn ops_from(
         rest = after;
         number += 1;
     }
-    let Earlier {
-        lines,
-        composed,
-        answered,
-        cursors,
-        own,
-    } = earlier;
-    drop(composed);
-    drop(answered);
-    drop(cursors);
-    drop(own);
-    Ok(lines)
+    Ok(earlier.into_lines())
 }
 
 ghost use Rattle.std.specs.Prelude.{◌<◌, vec_len};

@@ -6,7 +6,7 @@ use Rattle.pm_desk.specs.declared.history.Past.{Past}
 use Rattle.pm_desk.specs.declared.history.Joined.{Joined}
 use Rattle.pm_desk.specs.Desks.{DeskValue, SeatValue, IsSeatOf, first_seat}
 use Rattle.pm_desk.specs.Histories.{calls_of, StartsWith}
-use Rattle.pm_workers.specs.Seatings.{unused_seats, as_joined, IsCovered}
+use Rattle.pm_workers.specs.Seatings.{unused_seats, seats_for, as_joined, IsCovered}
 use Rattle.pm_workers.proofs.Loops.{all-elements}
 
 module _ {M R Q : Type 0} (d : DeskValue M R) where
@@ -50,9 +50,10 @@ module _ {M R Q : Type 0} where
   joined-within n (s ∷ ss) h zero x at = let e : as_joined s ≡ x = cc in subst (λ (y : Joined Q). y.number < n) e (h 0 s (omega arith))
   joined-within n (s ∷ ss) h (suc j) x at = joined-within n ss (λ k d lt. h (suc k) d (omega (arith, lt))) j x at
 
--- the first seat and so many others
-pub unused-count : {M R : Type 0} (Q : Type 0) (d : DeskValue M R) (n : ℕ) → length (record (first_seat {Q = Q} d) { splits = n } ∷ unused_seats {Q = Q} d 1 n) ≡ n + 1
-unused-count Q d n = let e : suc (length (unused_seats {Q = Q} d 1 n)) ≡ suc n = ap suc (count 1 n) in omega (arith, e)
+-- as many seats as clients
+pub seats-count : {M R : Type 0} (Q : Type 0) (d : DeskValue M R) (n : ℕ) → length (seats_for {Q = Q} d n) ≡ n
+seats-count Q d zero = refl
+seats-count Q d (suc n) = ap suc (count 1 n)
   where
     count : (k n : ℕ) → length (unused_seats {Q = Q} d k n) ≡ n
     count k zero = refl
@@ -77,8 +78,20 @@ module _ {M R Q : Type 0} (d : DeskValue M R) where
       subst (λ t. Fresh (k + zero) t) e (record { seat = (refl, refl); number = f; seen = refl; joined = refl })
   unused-at k (suc n) (suc i) s h = let e : (k + 1) + i ≡ k + suc i = omega arith in subst (λ j. Fresh j s) e (unused-at (k + 1) n i s h)
 
-  pub fresh-at : (n i : ℕ) (s : SeatValue M R Q) → slice_get (record (first_seat d) { splits = n } ∷ unused_seats d 1 n) i ≡ Some s → Fresh i s
+  fresh-at : (n i : ℕ) (s : SeatValue M R Q) → slice_get (record (first_seat d) { splits = n } ∷ unused_seats d 1 n) i ≡ Some s → Fresh i s
   fresh-at n zero s h =
       let e : record (first_seat d) { splits = n } ≡ s = one-of (record (first_seat d) { splits = n }) s h in
       subst (λ t. Fresh zero t) e (record { seat = (refl, refl); number = refl; seen = refl; joined = refl })
   fresh-at n (suc i) s h = let e : 1 + i ≡ suc i = omega arith in subst (λ j. Fresh j s) e (unused-at 1 n i s h)
+
+  -- each client's seat has the client's number and has seen nothing
+  pub fresh-seat : (n i : ℕ) (s : SeatValue M R Q) → slice_get (seats_for d n) i ≡ Some s → Fresh i s
+  fresh-seat zero i s h = absurd (cc)
+  fresh-seat (suc n) i s h = fresh-at n i s h
+
+  -- the first seat counts the others
+  pub first-splits : (n : ℕ) (s : SeatValue M R Q) → slice_get (seats_for d n) zero ≡ Some s → s.splits + 1 ≡ n
+  first-splits zero s h = absurd (cc)
+  first-splits (suc n) s h =
+      let e : n ≡ s.splits = ap (λ (t : SeatValue M R Q). t.splits) (one-of (record (first_seat d) { splits = n }) s h) in
+      omega (arith, e)

@@ -6,4 +6,6 @@ pub mod Suiting
 pub mod Worked
 pub mod Seatings
 pub mod Gathered
+pub mod Filed
 pub mod Hired
+pub mod Orderly

@@ -11,6 +11,11 @@ module _ {M R Q : Type 0} where
   unused_seats d k zero = []
   unused_seats d k (suc n) = record (first_seat d) { number = k } ∷ unused_seats d (k + 1) n
 
+  -- the seats of n clients of a desk, number by number: nobody has called, and the first seat counts that the others were split
+  abbrev pub seats_for : DeskValue M R → ℕ → List (SeatValue M R Q)
+  seats_for d zero = []
+  seats_for d (suc n) = record (first_seat d) { splits = n } ∷ unused_seats d 1 n
+
   -- a seat that was joined, as the first seat keeps it
   abbrev pub as_joined : SeatValue M R Q → Joined Q
   as_joined s = record { number = s.number; seen = s.seen }

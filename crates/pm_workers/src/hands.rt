@@ -67,11 +67,7 @@ pub(crate) fn pick(alloc: Global, clients: &[u32], order: &[u32]) -> Result<Vec<
 }
 
 /// One item for each turn: the next from the hand whose turn it is, if that has one left.
-pub(crate) fn deal<T: Drop>(
-    alloc: Global,
-    turns: &[u32],
-    hands: Vec<Vec<T>>,
-) -> Result<Vec<T>, AllocError>
+pub fn deal<T: Drop>(alloc: Global, turns: &[u32], hands: Vec<Vec<T>>) -> Result<Vec<T>, AllocError>
     requires { All (λ turn. turn < vec_len hands) turns.now }
     ensures { IfOk result (λ v. v.items ≡ dealt turns.now (map (λ l. l.items) hands.items)) }
 {
@@ -86,7 +82,7 @@ pub(crate) fn deal<T: Drop>(
 }
 
 /// The same items, to be taken from the front.
-fn queues<T: Drop>(alloc: Global, hands: Vec<Vec<T>>) -> Result<Vec<VecDeque<T>>, AllocError>
+pub fn queues<T: Drop>(alloc: Global, hands: Vec<Vec<T>>) -> Result<Vec<VecDeque<T>>, AllocError>
     ensures { IfOk result (λ v. map (λ q. q.items) v.items ≡ map (λ l. l.items) hands.items) }
 {
     let mut queues = Vec::new(alloc);

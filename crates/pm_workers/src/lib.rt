@@ -2,7 +2,9 @@
 #![tactic(auto)]
 
 mod apart;
+mod close;
 mod crew;
+mod file;
 mod hands;
 mod hiring;
 mod host;
@@ -12,8 +14,12 @@ pub mod seating;
 mod threaded;
 mod worker;
 
+pub use close::close_room;
 pub use crew::Crew;
+pub use file::{File, file_of};
+pub use hands::{deal, queues};
 pub use host::DeskHost;
+pub use opening::{Seated, open_desk};
 pub use order::merge;
 pub use threaded::{Threaded, play_on_threads};
 pub use worker::{Worker, run_lines};

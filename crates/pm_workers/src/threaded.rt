@@ -1,19 +1,22 @@
 //! A session whose clients run on threads of their own.
-ghost use Rattle.std.specs.Prelude.{◌≡◌, ◌≤◌, List, Result, length, map, IfOk};
-ghost use Rattle.pm_session.specs.Events.{state_of};
+ghost use Rattle.std.specs.Prelude.{◌≡◌, ◌<◌, ◌≤◌, List, Result, length, All, IfOk, OnOk};
 ghost use Rattle.pm_change.specs.declared.no_step.NoStep.{NoStep};
-ghost use Rattle.pm_session.specs.Sessions.{opened, session};
-ghost use Rattle.pm_session.specs.Sounds.{Sound};
+ghost use Rattle.pm_session.specs.Sessions.{opened};
 ghost use Rattle.pm_session.specs.Suits.{LinesSuit};
-ghost use Rattle.pm_workers.specs.Merges.{numbers, merged, IsOrder};
-ghost use Rattle.pm_workers.specs.Threads.{by_client, callers, in_order};
+ghost use Rattle.pm_workers.specs.Hired.{Hired, AllWorked};
+ghost use Rattle.pm_workers.specs.Orderly.{IsOrderly};
+ghost use Rattle.pm_workers.specs.Worked.{IsReady};
 
-use crate::apart::{Apart, play_apart};
+use crate::close::close_room;
 use crate::crew::Crew;
-use crate::hands::{clients_of, deal, file_lines, pick};
-use crate::order::merge;
+use crate::file::file_of;
+use crate::hands::hand_out;
+use crate::hiring::hire;
+use crate::opening::{Seated, open_desk};
+use crate::worker::{Worker, run_lines};
 use pm_authority::Authority;
 use pm_change::Change;
+use pm_desk::Desk;
 use pm_io::Gate;
 use pm_session::{Line, Maker, Outcome, Room};
 use std::alloc::{AllocError, Global};
@@ -63,39 +66,64 @@ where
     requires good { C.means.is_good rules doc }
     requires few { length raw.now ≤ 32 }
     requires suit { LinesSuit {Rules = C.Rules} {Reason = C.Reason} (opened doc raw.now) lines.items }
-    ensures rules { IfOk result (λ t. t.rules ≡ rules) }
-    ensures order { IfOk result (λ t. t.order.items ≡ merged (callers t.lines.items) (by_client 0 (length raw.now) lines.items)) }
-    ensures once { IfOk result (λ t. IsOrder (map numbers (by_client 0 (length raw.now) lines.items)) t.order.items) }
-    ensures lines { IfOk result (λ t. t.lines.items ≡ in_order lines.items t.order.items) }
-    ensures suit { IfOk result (λ t. LinesSuit {Rules = C.Rules} {Reason = C.Reason} (opened doc raw.now) t.lines.items) }
-    ensures plays { IfOk result (λ t. (t.outcomes.items, state_of t.room) ≡ session C.means t.rules (K.makes crew.now.maker.now t.rules) (opened doc raw.now) t.lines.items) }
-    ensures sound { IfOk result (λ t. Sound C.means t.rules (state_of t.room)) }
+    ensures { IfOk result (λ t. IsOrderly C.means (K.makes crew.now.maker.now) rules doc raw.now lines.items t) }
 {
     if raw.is_empty() {
         return no_clients(alloc, rules, doc, raw, lines);
     }
-    if lines.len() > u32::MAX as usize {
-        return Err(AllocError);
-    }
-    let filed = file_lines(alloc, raw.len(), lines.as_slice())?;
-    let clients = clients_of(alloc, lines.as_slice())?;
-    let Apart {
-        rules,
-        authority,
-        history,
+    let file = file_of(alloc, raw.len(), lines.as_slice())?;
+    let (desk, mut workers) = hire_all(alloc, rules, doc, raw, lines)?;
+    play_all_lines(alloc, crew, &desk, &mut workers)?;
+    close_room(alloc, desk, &file, workers)
+}
+
+/// A desk over a new authority at this document, and a worker for each client, which has its own of these lines.
+fn hire_all<C: Change, O: Drop>(
+    alloc: Global,
+    rules: C::Rules,
+    doc: C::Doc,
+    raw: &[bool],
+    lines: Vec<Line<O, C>>,
+) -> Result<(Desk<Authority<C>>, Vec<Worker<C, O>>), AllocError>
+where
+    C::Rules: Drop,
+    requires some { 0 < length raw.now }
+    requires good { C.means.is_good rules doc }
+    requires few { length raw.now ≤ 32 }
+    requires suit { LinesSuit {Rules = C.Rules} {Reason = C.Reason} (opened doc raw.now) lines.items }
+    ensures rules { IfOk result (λ p. p.0.opening.rules ≡ rules) }
+    ensures hired { IfOk result (λ p. Hired C.means p.0 doc raw.now lines.items p.1.items) }
+{
+    let own = hand_out(alloc, raw.len(), lines)?;
+    let Seated {
+        desk,
         members,
-        lines,
-        outcomes,
-    } = play_apart(alloc, crew, rules, doc, raw, lines)?;
-    let order = merge(alloc, history.as_slice(), filed.as_slice())?;
-    let turns = pick(alloc, clients.as_slice(), order.as_slice())?;
-    Ok(Threaded {
-        rules,
-        order,
-        lines: deal(alloc, turns.as_slice(), lines)?,
-        outcomes: deal(alloc, turns.as_slice(), outcomes)?,
-        room: Room::of(members, authority),
-    })
+        seats,
+    } = open_desk(alloc, rules, doc, raw)?;
+    let workers = hire(alloc, members, seats, own)?;
+    Ok((desk, workers))
+}
+
+/// The workers play all their lines at the desk.
+fn play_all_lines<C, K, G, R>(
+    alloc: Global,
+    crew: &Crew<K, G, R>,
+    desk: &Desk<Authority<C>>,
+    workers: &mut Vec<Worker<C, K::Op>>,
+) -> Result<(), AllocError>
+where
+    R: Threads + Wait + Sync,
+    G: Gate + Sync,
+    K: Maker<C> + Sync,
+    C: Change + Send + Sync,
+    C::Rules: Send + Sync + Drop,
+    C::Doc: Send + Sync,
+    C::Reason: Send + Sync,
+    K::Op: Send + Sync,
+    requires { All (λ w. IsReady C.means desk.now w.lines.items w.member w.seat w.outcomes.items) workers.old.items }
+    ensures { OnOk result (AllWorked C.means (K.makes crew.now.maker.now desk.now.opening.rules) desk.now workers.old.items workers.new.items) }
+{
+    run_lines(alloc, crew, desk, workers.as_mut_slice())
 }
 
 /// A session with no clients, in which there are no lines.
@@ -112,13 +140,7 @@ where
     requires good { C.means.is_good rules doc }
     requires none { length raw.now ≡ 0 }
     requires suit { LinesSuit {Rules = C.Rules} {Reason = C.Reason} (opened doc raw.now) lines.items }
-    ensures rules { IfOk result (λ t. t.rules ≡ rules) }
-    ensures order { IfOk result (λ t. t.order.items ≡ merged (callers t.lines.items) (by_client 0 (length raw.now) lines.items)) }
-    ensures once { IfOk result (λ t. IsOrder (map numbers (by_client 0 (length raw.now) lines.items)) t.order.items) }
-    ensures lines { IfOk result (λ t. t.lines.items ≡ in_order lines.items t.order.items) }
-    ensures suit { IfOk result (λ t. LinesSuit {Rules = C.Rules} {Reason = C.Reason} (opened doc raw.now) t.lines.items) }
-    ensures plays { (makes : C.Rules → C.Doc → O → Result (List C) NoStep) → IfOk result (λ t. (t.outcomes.items, state_of t.room) ≡ session C.means t.rules (makes t.rules) (opened doc raw.now) t.lines.items) }
-    ensures sound { IfOk result (λ t. Sound C.means t.rules (state_of t.room)) }
+    ensures { (makes : C.Rules → C.Doc → O → Result (List C) NoStep) → IfOk result (λ t. IsOrderly C.means makes rules doc raw.now lines.items t) }
 {
     let room = Room::new(alloc, &rules, doc, raw)?;
     Ok(Threaded {

@@ -1,7 +1,7 @@
 use Rattle.std.proofs.Common.{ap, ◌≡◌, ◌∙◌, true, length, subst}
 use Rattle.std.specs.Prelude.{nat_lt, Err}
 use Rattle.pm_script.specs.declared.session.TheConstants.{MAX_INPUT}
-use Rattle.pm_script.specs.Sessions.{SessionIs}
+use Rattle.pm_program.specs.Contents.{FileIs}
 use Rattle.pm_program.specs.Finding.{found_of}
 use Rattle.pm_program.proofs.TooLong.{whole_input, past_limit, no_session}
 use Rattle.pm_program.proofs.finding.found_in.Goals as goal
@@ -16,4 +16,4 @@ pub returns-in_ok-found_of-in-Ok-clause-is : goal.returns-in_ok-found_of-in-Ok-c
 returns-in_ok-found_of-in-Ok-clause-is g c input is =
     let all = c.in-Ok.ensures.all in
     let same : c.in-Ok.input.items ≡ input = whole_input _ (g.R.Source.left c.read_all.new.source) c.in-Ok.input.items input all.0 all.1 is in
-    subst (λ i. SessionIs c.args.form i (found_of c.in_ok-found_of-in-Ok.field-0)) (c.deref.ensures.value ∙ same) c.in_ok-found_of-in-Ok.ensures.is
+    subst (λ i. FileIs c.args.form i (found_of c.in_ok-found_of-in-Ok.field-0)) (c.deref.ensures.value ∙ same) c.in_ok-found_of-in-Ok.ensures.is

@@ -1,5 +1,5 @@
 use Rattle.pm_program.proofs.SameReports.{one-report}
-use Rattle.pm_program.proofs.OneOutput.{one-count, check-output, replay-output, gen-output, late-output, at-output}
+use Rattle.pm_program.proofs.OneOutput.{one-count, check-output, replay-output, gen-output, late-output, at-output, rooms-output}
 use Rattle.pm_program.proofs.one_output.output_is_one.Goals as goal
 
 pub returns-clause-one_report : goal.returns-clause-one_report
@@ -22,3 +22,6 @@ returns-clause-late c = λ text other a b x y. late-output c.args.input.now text
 
 pub returns-clause-version : goal.returns-clause-version
 returns-clause-version c = λ n text other a b x y. at-output n c.args.input.now text other a b x y
+
+pub returns-clause-rooms : goal.returns-clause-rooms
+returns-clause-rooms c = λ text other a b x y. rooms-output c.args.input.now text other a b x y

@@ -1,0 +1,29 @@
+-- A session that was played on threads.
+use Rattle.std.specs.Prelude.{◌≡◌, Bool, List, length, map, Result}
+use Rattle.pm_change.specs.Changes.{Meaning}
+use Rattle.pm_change.specs.declared.no_step.NoStep.{NoStep}
+use Rattle.pm_session.specs.declared.line.Line.{Line}
+use Rattle.pm_session.specs.Events.{state_of}
+use Rattle.pm_session.specs.Sessions.{opened, session}
+use Rattle.pm_session.specs.Sounds.{Sound}
+use Rattle.pm_session.specs.Suits.{LinesSuit}
+use Rattle.pm_workers.specs.declared.threaded.Threaded.{Threaded}
+use Rattle.pm_workers.specs.Merges.{numbers, merged, IsOrder}
+use Rattle.pm_workers.specs.Threads.{by_client, callers, in_order}
+
+-- The lines of `file` were played by the clients of a room that was opened at this document under the given rules. Of these clients `raw`
+-- says of each whether it is a raw one.
+-- `order`: the order is what the calls of its own presenting lines make of the clients' lines.
+-- `once`: each line stands in the order once, and each client's lines stand in their order.
+-- `suit`, `plays`: the lines suit the room in that order, and the outcomes and the room are what the session on one thread comes
+-- to in that order.
+-- `sound`: the room is sound.
+pub record IsOrderly {Rules Doc Reason C Op : Type 0} (m : Meaning Rules Doc Reason C) (makes : Rules → Doc → Op → Result (List C) NoStep) (given : Rules) (doc : Doc)
+    (raw : List Bool) (file : List (Line Op C)) (t : Threaded C Op Rules Doc Reason) : Type 0 where
+  pub rules : t.rules ≡ given
+  pub order : t.order.items ≡ merged (callers t.lines.items) (by_client 0 (length raw) file)
+  pub once : IsOrder (map numbers (by_client 0 (length raw) file)) t.order.items
+  pub lines : t.lines.items ≡ in_order file t.order.items
+  pub suit : LinesSuit (opened {Rules = Rules} {Reason = Reason} {C = C} doc raw) t.lines.items
+  pub plays : (t.outcomes.items, state_of t.room) ≡ session m t.rules (makes t.rules) (opened doc raw) t.lines.items
+  pub sound : Sound m t.rules (state_of t.room)
