@@ -3,6 +3,7 @@ use Rattle.pm_program.specs.declared.words.Command.TheVariants.{Gen}
 use Rattle.pm_program.specs.Words.{IsBounded}
 use Rattle.pm_program.proofs.Obeyed.{as-asked, tells-of, by-case-of}
 use Rattle.pm_program.proofs.Made.{made-session}
+use Rattle.pm_program.proofs.RoomReports.{all_rooms_apart}
 use Rattle.pm_program.proofs.call.plain.Goals as goal
 
 pub returns-clause-silent : goal.returns-clause-silent
@@ -64,3 +65,9 @@ pub returns-clause-session : goal.returns-clause-session
 returns-clause-session g c numbers is e =
     let same : c.in-Some.command ≡ Gen numbers = cc in
     made-session numbers c.obey.result _ _ _ _ (subst IsBounded same c.in-Some.ensures.bounds) (returns-clause-answers g c (Gen numbers) is (inr e)) e
+
+pub returns-clause-rooms_apart : goal.returns-clause-rooms_apart
+returns-clause-rooms_apart g c input = all_rooms_apart input
+
+pub returns-in_default-clause-rooms_apart : goal.returns-in_default-clause-rooms_apart
+returns-in_default-clause-rooms_apart g c input = all_rooms_apart input

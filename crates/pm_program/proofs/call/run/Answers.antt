@@ -4,6 +4,7 @@ use Rattle.std.proofs.lemmas.Grind.{common_steps}
 use Rattle.pm_program.specs.declared.words.Command.TheVariants.{Run, Gen}
 use Rattle.pm_program.specs.Words.{plain_command_of}
 use Rattle.pm_program.proofs.Obeyed.{as-asked, tells-of, by-case-of}
+use Rattle.pm_program.proofs.RoomReports.{all_rooms_apart}
 use Rattle.pm_program.proofs.call.run.Goals as goal
 
 pub returns-in-Some-Run-clause-silent : goal.returns-in-Some-Run-clause-silent
@@ -120,3 +121,9 @@ pub returns-in_default-clause-session : goal.returns-in_default-clause-session
 returns-in_default-clause-session g c numbers is e =
     let known : plain_command_of (map string_bytes c.args.words.now) ≡ Some (Gen numbers) = grind (arith, common_steps) in
     c.plain.ensures.session numbers known e
+
+pub returns-in-Some-Run-clause-rooms_apart : goal.returns-in-Some-Run-clause-rooms_apart
+returns-in-Some-Run-clause-rooms_apart g c input = all_rooms_apart input
+
+pub returns-in_default-clause-rooms_apart : goal.returns-in_default-clause-rooms_apart
+returns-in_default-clause-rooms_apart g c input = all_rooms_apart input
