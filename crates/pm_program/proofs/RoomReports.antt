@@ -22,7 +22,7 @@ use Rattle.pm_program.proofs.SameReports.{reports-alike}
 
 pub all_rooms_sound : (input : List ℕ) → AllRoomsSound input
 all_rooms_sound input rooms is =
-    All-weaker (λ room. Holds room.session) (λ room. RoomsSound room.session) (λ room held. rooms-sound room.session held.valid (lines-suit room.session held)) rooms (rooms-hold input rooms is)
+    All-weaker (λ (room : RoomSession). Holds room.session) (λ (room : RoomSession). RoomsSound room.session) (λ room held. rooms-sound room.session held.valid (lines-suit room.session held)) rooms (rooms-hold input rooms is)
 
 pub all_rooms_apart : (input : List ℕ) → AllRoomsApart input
 all_rooms_apart input rooms is = rooms-own input rooms is
