@@ -6,6 +6,7 @@ ghost use Rattle.pm_session.specs.Sounds.{Sound};
 ghost use Rattle.pm_script.specs.OwnLines.{AllHold};
 ghost use Rattle.pm_program.specs.Finding.{found_of, FoundHolds};
 ghost use Rattle.pm_program.specs.Output.{IsTextOf, status_for};
+ghost use Rattle.pm_program.specs.declared.words.Command.TheVariants.{RunRooms};
 ghost use Rattle.pm_program.specs.Handing.{entry_of, opening_in, opening_of, EntriesTold};
 ghost use Rattle.pm_program.specs.RoomReports.{room_line};
 ghost use Rattle.pm_program.specs.RoomRuns.{AreRun};
@@ -55,7 +56,7 @@ where
     G: Gate + Sync,
     T: Threads + Wait + Sync,
     requires { FoundHolds FileForm.ManyRooms found }
-    ensures text { IfOk result (λ a. IsTextOf Command.RunRooms (found_of found) (string_bytes a.text)) }
+    ensures text { IfOk result (λ a. IsTextOf RunRooms (found_of found) (string_bytes a.text)) }
     ensures says { IfOk result (λ a. a.status ≡ status_for (found_of found)) }
 {
     match found {
