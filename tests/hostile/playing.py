@@ -73,16 +73,20 @@ def is_compact(text):
     return json.dumps(json.loads(text), sort_keys=True, separators=(",", ":"), ensure_ascii=False) == text
 
 
-def fault_of_report(text):
-    """What is wrong with the form of a report; None where nothing is."""
+def fault_of_report(text, first=4):
+    """What is wrong with the form of a report; None where nothing is. The outcomes are those of the lines from number `first` on;
+    of a room, for which `first` is None, they have rising numbers."""
     lines = text.split("\n")
     if lines.pop() != "":
         return "the last line does not end"
     at = 0
     if lines and lines[0].startswith("order"):
         at = 1
-    ops = at
-    while at < len(lines) and (told := OUTCOME.fullmatch(lines[at])) and int(told[1]) == at - ops + 4:
+    ops, last = at, 0
+    while at < len(lines) and (told := OUTCOME.fullmatch(lines[at])):
+        if int(told[1]) <= last if first is None else int(told[1]) != at - ops + first:
+            break
+        last = int(told[1])
         at += 1
     names = []
     while at < len(lines) and (told := CLIENT.fullmatch(lines[at])) and is_compact(told[3]):
@@ -107,6 +111,15 @@ def fault_of_report(text):
     return None
 
 
+def fault_of_rooms(text):
+    """What is wrong with the form of the reports of many rooms, each behind the line with its name."""
+    before, *parts = re.split(r"^room ([a-z0-9]{1,16})\n", text, flags=re.M)
+    if before or not 1 <= len(parts) // 2 <= 16:
+        return "the rooms are told in no form"
+    faults = ((name, fault_of_report(part, None)) for name, part in zip(parts[::2], parts[1::2]))
+    return next((f"room {name}: {fault}" for name, fault in faults if fault), None)
+
+
 def is_version(number, text):
     """Whether a text is the line of this version, or says that there are fewer steps."""
     told = VERSION.fullmatch(text.removesuffix("\n"))
@@ -126,13 +139,13 @@ def fault_of(word, played):
     text = played.out.decode()
     if played.status == 1:
         told = re.fullmatch(r"refused (\d+) (\d+)\n", text)
-        codes = [*range(1, 20), 25] if takes_late(word) else range(1, 20)
+        codes = [*range(1, 20), *([25] if takes_late(word) else [23, 24] if word == "rooms" else [])]
         return None if told and int(told[2]) in codes else f"{word} refused by {text[:100]!r}"
     if word == "check":
         return None if re.fullmatch(r"ok \d+ \d+\n", text) else f"check wrote {text[:100]!r}"
     if word.startswith("at "):
         return None if is_version(int(word.split()[1]), text) else f"{word} wrote {text[:100]!r}"
-    fault = fault_of_report(text)
+    fault = fault_of_rooms(text) if word == "rooms" else fault_of_report(text)
     return fault and f"{word}: {fault}"
 
 
