@@ -8,7 +8,7 @@ use pm_edit::steps_for;
 use pm_node::Document;
 use pm_ops::Op;
 use pm_schema::Schema;
-use pm_session::Maker;
+use pm_session::{Made, Maker};
 use pm_step::Step;
 use std::alloc::{AllocError, Global};
 
@@ -29,10 +29,10 @@ impl Maker<DocChange> for EditMaker {
         schema: &Schema,
         doc: &Document,
         op: &Op,
-    ) -> Result<Vec<DocChange>, MakeError> {
+    ) -> Result<Made<DocChange>, MakeError> {
         match steps_for(alloc, schema, doc, op) {
             Ok(steps) => match as_changes(alloc, steps) {
-                Ok(changes) => Ok(changes),
+                Ok(steps) => Ok(Made { steps, end: None }),
                 Err(AllocError) => Err(MakeError::NoMemory),
             },
             Err(MakeError::NoStep(reason)) => Err(MakeError::NoStep(reason)),

@@ -21,11 +21,6 @@ use Rattle.pm_client.specs.Causes.{PastVersion, AreLost, IsTaken}
 use Rattle.pm_client.proofs.Advances.{confirm-applies, accepted-may, entries-fit}
 use Rattle.pm_client.proofs.Plannings.{meets-found}
 
--- a plan that was carried out gives what it stands for
-pub carried-through : {T E A : Type 0} (r : Result T E) (new : A) (via to : T × A) → via ≡ to → IfOk r (λ t. (t, new) ≡ via) → IfOk r (λ t. (t, new) ≡ to)
-carried-through (Ok t) new via to e h = h ∙ e
-carried-through (Err x) new via to e h = tt
-
 module _ {Rules Doc Reason C : Type 0} (c : Client C Rules Doc Reason) (since : ℕ) (entries : List (Named C)) where
   -- what is past the version is own steps and then others'
   past-rest : (p : PastVersion c since entries) → drop (c.version - since) entries ≡ p.own ++ p.foreign

@@ -14,6 +14,7 @@ pub mod Answering
 pub mod LogNames
 mod Names
 mod Advances
+mod Handed
 mod Plannings
 mod Causings
 mod Rebasings

@@ -87,12 +87,12 @@ plan-is {Rules} {Doc} {Reason} {C} m rules c rest own foreign base r dropped cur
           },
         )) at.same ∙ rw (applies, lost_are, cursors_are, others, foreign_are, count) refl
 
--- A plan was carried out, or memory ran out and nothing changed. What holds in both cases holds.
-pub either-way : {T E A : Type 0} (P : A → Type 0) (r : Result T E) (old new : A) (via to : T × A) → via ≡ to → IfOk r (λ t. (t, new) ≡ via) → OnErr r (new ≡ old) → P old → P to.1 → P new
-either-way P (Ok t) old new via to e h k a b = subst P (sym (ap (λ x. x.1) (h ∙ e))) b
-either-way P (Err x) old new via to e h k a b = subst P (sym k) a
+-- It was done, or memory ran out and nothing changed. What holds in both cases holds.
+pub either-way : {T E A : Type 0} (P : A → Type 0) (Q : T → Type 0) (r : Result T E) (old new : A) → IfOk r Q → OnErr r (new ≡ old) → P old → ((t : T) → Q t → P new) → P new
+either-way P Q (Ok t) old new h k a b = b t h
+either-way P Q (Err x) old new h k a b = subst P (sym k) a
 
--- what holds once it was carried out
-pub on-way : {T E A : Type 0} (P : A → Type 0) (r : Result T E) (new : A) (via to : T × A) → via ≡ to → IfOk r (λ t. (t, new) ≡ via) → P to.1 → OnOk r (P new)
-on-way P (Ok t) new via to e h b = subst P (sym (ap (λ x. x.1) (h ∙ e))) b
-on-way P (Err x) new via to e h b = tt
+-- what holds once it was done
+pub on-way : {T E P : Type 0} (Q : T → Type 0) (r : Result T E) → IfOk r Q → ((t : T) → Q t → P) → OnOk r P
+on-way Q (Ok t) h b = b t h
+on-way Q (Err x) h b = tt

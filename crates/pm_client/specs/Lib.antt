@@ -4,6 +4,7 @@ pub mod Serials
 pub mod Timelines
 pub mod Clients
 pub mod Kins
+pub mod Leads
 pub mod Causes
 pub mod Rebasables
 pub mod Plans

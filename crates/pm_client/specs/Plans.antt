@@ -3,6 +3,7 @@ use Rattle.std.specs.Prelude.{ℕ, ◌+◌, ◌-◌, ◌≤◌, ◌<◌, ◌^◌
 use Rattle.pm_change.specs.Changes.{Meaning}
 use Rattle.pm_authority.specs.declared.named.Named.{Named}
 use Rattle.pm_authority.specs.declared.message.Answer.{Answer}
+use Rattle.pm_authority.specs.declared.message.Answer.TheVariants.{Entries}
 use Rattle.pm_authority.specs.Runs.{AllApply}
 use Rattle.pm_client.specs.declared.client.Client.{Client}
 use Rattle.pm_client.specs.declared.plan.Plan.{Plan}
@@ -47,6 +48,11 @@ module _ {Rules Doc Reason C : Type 0} (m : Meaning Rules Doc Reason C) (rules :
     pub short : length log < 2 ^ 64
     pub kin : Kin m rules first log c
     pub stands : AnswerStands log c.version kin.standing answer
+
+  -- What these entries hold past the version leads from the base to this document.
+  abbrev pub Reaches : Client C Rules Doc Reason → Answer C Rules Doc Reason → Doc → Type 0
+  Reaches c (Entries since entries) end = c.version - since < length entries → AllApply m rules c.base (drop (c.version - since) entries) end
+  Reaches c answer end = Unit {0}
 
   -- The first so many pending steps may be confirmed: they apply to the base, which is good, and the version stays a
   -- number of 64 bits.

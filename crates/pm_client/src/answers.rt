@@ -1,5 +1,5 @@
 //! Taking answers.
-ghost use Rattle.std.specs.Prelude.{◌≡◌, ◌↔◌, ◌+◌, ◌-◌, ◌<◌, ◌≤◌, ◌^◌, List, length, Some, Ok, IfOk, OnOk, OnErr};
+ghost use Rattle.std.specs.Prelude.{◌≡◌, ◌↔◌, ◌+◌, ◌-◌, ◌<◌, ◌≤◌, ◌^◌, List, length, take, Some, Ok, IfOk, IfSome, OnOk, OnErr};
 ghost use Rattle.pm_authority.specs.Runs.{AllApply};
 ghost use Rattle.pm_authority.specs.declared.named.Named.{Named};
 ghost use Rattle.pm_authority.specs.declared.message.Answer.TheVariants.{Accepted, Entries};
@@ -7,7 +7,8 @@ ghost use Rattle.pm_client.specs.Clients.{answer_at, taken, taken_at, rest_taken
 ghost use Rattle.pm_client.specs.Causes.{IsTaken};
 ghost use Rattle.pm_client.specs.TokenNames.{KeepsTokens};
 ghost use Rattle.pm_client.specs.Kins.{Kin, Stands};
-ghost use Rattle.pm_client.specs.Plans.{carried_out, MayCarryOut, Meets, MayConfirm, Fits};
+ghost use Rattle.pm_client.specs.Leads.{Leads};
+ghost use Rattle.pm_client.specs.Plans.{carried_out, MayCarryOut, Meets, MayConfirm, Fits, Reaches};
 
 use crate::client::Client;
 use crate::cursors::move_all;
@@ -49,36 +50,91 @@ impl<C: Change> Client<C> {
         ensures causes { (answer : _) (t : _) → answer_at self.old i ≡ Some answer
             → IfOk result (λ told. (told ≡ t) ↔ IsTaken C.means rules.now self.old answer t) }
     {
-        let plan = self.plan(alloc, rules, i)?;
+        self.take_given(alloc, rules, i, None)
+    }
+
+    /// Takes the answer of this number, as `take` does, where the document is in hand that the answer's entries lead to. Then
+    /// no step of theirs is applied a second time. Other answers lead to no document, and `end` is let go.
+    ///
+    /// Where the answer is entries, the client must stand to a log that they end, and that gives the document.
+    pub fn take_to(
+        &mut self,
+        alloc: Global,
+        rules: &C::Rules,
+        i: u64,
+        end: C::Doc,
+    ) -> Result<Taken, AllocError>
+        requires kept { (0 < i) × (i ≤ length self.old.answers) }
+        requires stands { Stands C.means rules.now self.old }
+        requires leads { Leads C.means rules.now self.old i end }
+        ensures takes { IfOk result (λ t. (t, self.new) ≡ taken_at C.means rules.now self.old i) }
+        ensures err { OnErr result (self.new ≡ self.old) }
+        // To what log the client stood, it stands.
+        ensures kin { (first : C.Doc) (log : List (Named C)) → Kin C.means rules.now first log self.old
+            → Kin C.means rules.now first log self.new }
+        // A cursor with side `After` that stood before a token stands before it, where that is still there.
+        ensures tokens { OnOk result ((first : C.Doc) (log : List (Named C)) → Kin C.means rules.now first log self.old
+            → KeepsTokens C.means log self.old self.new (C.means.size self.old.base)) }
+        // Of the answer of this number, each thing is told exactly where its cause holds.
+        ensures causes { (answer : _) (t : _) → answer_at self.old i ≡ Some answer
+            → IfOk result (λ told. (told ≡ t) ↔ IsTaken C.means rules.now self.old answer t) }
+    {
+        self.take_given(alloc, rules, i, Some(end))
+    }
+
+    /// Takes the answer of this number, to this document where one is in hand.
+    fn take_given(
+        &mut self,
+        alloc: Global,
+        rules: &C::Rules,
+        i: u64,
+        end: Option<C::Doc>,
+    ) -> Result<Taken, AllocError>
+        requires kept { (0 < i) × (i ≤ length self.old.answers) }
+        requires stands { Stands C.means rules.now self.old }
+        requires leads { IfSome end (Leads C.means rules.now self.old i) }
+        ensures takes { IfOk result (λ t. (t, self.new) ≡ taken_at C.means rules.now self.old i) }
+        ensures err { OnErr result (self.new ≡ self.old) }
+    {
+        let plan = self.plan(alloc, rules, i, end)?;
         self.carry_out(alloc, plan)
     }
 
     /// What taking the answer of this number is to do.
-    fn plan(&self, alloc: Global, rules: &C::Rules, i: u64) -> Result<Plan<C>, AllocError>
+    fn plan(
+        &self,
+        alloc: Global,
+        rules: &C::Rules,
+        i: u64,
+        end: Option<C::Doc>,
+    ) -> Result<Plan<C>, AllocError>
         requires kept { (0 < i) × (i ≤ length self.now.answers) }
         requires stands { Stands C.means rules.now self.now }
+        requires leads { IfSome end (Leads C.means rules.now self.now i) }
         ensures plan { IfOk result (λ p. carried_out self.now p ≡ taken_at C.means rules.now self.now i) }
         ensures may { IfOk result (MayCarryOut self.now) }
     {
         let answer = &self.answers.as_slice()[i as usize - 1];
-        self.plan_for(alloc, rules, answer)
+        self.plan_for(alloc, rules, answer, end)
     }
 
-    /// What taking this answer is to do.
+    /// What taking this answer is to do. What its entries hold past the version leads to `end`, where that is in hand.
     fn plan_for(
         &self,
         alloc: Global,
         rules: &C::Rules,
         answer: &Answer<C>,
+        end: Option<C::Doc>,
     ) -> Result<Plan<C>, AllocError>
-        requires { Meets C.means rules.now self.now answer.now }
+        requires meets { Meets C.means rules.now self.now answer.now }
+        requires reaches { IfSome end (Reaches C.means rules.now self.now answer.now) }
         ensures plan { IfOk result (λ p. carried_out self.now p ≡ taken C.means rules.now self.now answer.now) }
         ensures may { IfOk result (MayCarryOut self.now) }
     {
         match answer {
             Answer::Accepted { from, count } => self.plan_accepted(alloc, rules, *from, *count),
             Answer::Entries { since, entries } => {
-                self.plan_entries(alloc, rules, *since, entries.as_slice())
+                self.plan_entries(alloc, rules, *since, entries.as_slice(), end)
             }
             Answer::WrongVersion { length: _ } => Ok(Plan::TellRefused),
             Answer::StepRefused {
@@ -113,8 +169,10 @@ impl<C: Change> Client<C> {
         rules: &C::Rules,
         since: u64,
         entries: &[Named<C>],
+        end: Option<C::Doc>,
     ) -> Result<Plan<C>, AllocError>
-        requires { Meets C.means rules.now self.now (Entries since entries.now) }
+        requires meets { Meets C.means rules.now self.now (Entries since entries.now) }
+        requires reaches { IfSome end (Reaches C.means rules.now self.now (Entries since entries.now)) }
         ensures plan { IfOk result (λ p. carried_out self.now p ≡ taken C.means rules.now self.now (Entries since entries.now)) }
         ensures may { IfOk result (MayCarryOut self.now) }
     {
@@ -122,7 +180,7 @@ impl<C: Change> Client<C> {
         if entries.len() as u64 <= skipped {
             return Ok(Plan::PassOver);
         }
-        self.plan_rest(alloc, rules, &entries[skipped as usize..])
+        self.plan_rest(alloc, rules, &entries[skipped as usize..], end)
     }
 
     /// What taking the entries past the version is to do.
@@ -131,8 +189,10 @@ impl<C: Change> Client<C> {
         alloc: Global,
         rules: &C::Rules,
         rest: &[Named<C>],
+        end: Option<C::Doc>,
     ) -> Result<Plan<C>, AllocError>
-        requires { Fits C.means rules.now self.now rest.now }
+        requires fits { Fits C.means rules.now self.now rest.now }
+        requires leads { IfSome end (AllApply C.means rules.now self.now.base rest.now) }
         ensures plan { IfOk result (λ p. carried_out self.now p ≡ rest_taken C.means rules.now self.now rest.now (own_run self.now.name rest.now)) }
         ensures may { IfOk result (MayCarryOut self.now) }
     {
@@ -140,7 +200,7 @@ impl<C: Change> Client<C> {
         if own == rest.len() {
             return self.plan_confirm(alloc, rules, own);
         }
-        let base = advance(alloc, rules, &self.base, rest)?;
+        let base = reach(alloc, rules, &self.base, rest, end)?;
         let later = &self.pending.as_slice()[own..];
         let rebasing = rebase_over(alloc, rules, &base, &rest[own..], later)?;
         Ok(Plan::Rebase {
@@ -164,11 +224,21 @@ impl<C: Change> Client<C> {
         ensures plan { IfOk result (λ p. carried_out self.now p ≡ confirmed_first C.means rules.now self.now own) }
         ensures may { IfOk result (MayCarryOut self.now) }
     {
-        let base = advance(alloc, rules, &self.base, &self.pending.as_slice()[..own])?;
         Ok(Plan::Confirm {
             own: own as u64,
-            base,
+            base: self.base_behind(alloc, rules, own)?,
         })
+    }
+
+    /// The document behind the first pending steps. Behind all of them it is the client's own.
+    fn base_behind(&self, alloc: Global, rules: &C::Rules, own: usize) -> Result<C::Doc, AllocError>
+        requires { MayConfirm C.means rules.now self.now own }
+        ensures { IfOk result (AllApply C.means rules.now self.now.base (take own self.now.pending)) }
+    {
+        if own == self.pending.len() {
+            return C::copy_doc(alloc, &self.doc);
+        }
+        advance(alloc, rules, &self.base, &self.pending.as_slice()[..own])
     }
 
     /// Carries a plan out, and tells what it did. For want of memory the client is as it was.
@@ -235,6 +305,25 @@ fn carry_history<C: Change>(
     let at = history.items().len().saturating_sub(gone);
     let tied = tie(kept.into_vec(), &history.items()[at..]);
     history.rebased(alloc, gone, foreign, tied)
+}
+
+/// The document after steps that are known to apply: this one, where it is in hand.
+fn reach<C: Change>(
+    alloc: Global,
+    rules: &C::Rules,
+    doc: &C::Doc,
+    steps: &[Named<C>],
+    end: Option<C::Doc>,
+) -> Result<C::Doc, AllocError>
+    requires good { C.means.is_good rules.now doc.now }
+    requires applies { ((end : C.Doc) × AllApply C.means rules.now doc.now steps.now end) }
+    requires leads { IfSome end (AllApply C.means rules.now doc.now steps.now) }
+    ensures { IfOk result (AllApply C.means rules.now doc.now steps.now) }
+{
+    match end {
+        Some(end) => Ok(end),
+        None => advance(alloc, rules, doc, steps),
+    }
 }
 
 /// The document after steps that are known to apply.

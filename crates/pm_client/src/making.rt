@@ -1,5 +1,6 @@
 //! Own steps made one after another, with their items.
-ghost use Rattle.std.specs.Prelude.{◌≡◌, None, Ok, IfOk, All};
+ghost use Rattle.std.specs.Prelude.{◌≡◌, ◌∷◌, [], None, Ok, IfOk, IfSome, All};
+ghost use Rattle.pm_authority.specs.Runs.{AllApply};
 ghost use Rattle.pm_change.specs.Failing.{Answers};
 ghost use Rattle.pm_history.specs.Undos.{own_item};
 ghost use Rattle.pm_client.specs.Makes.{made_all};
@@ -48,6 +49,47 @@ pub fn make_all<C: Change>(
         index += 1;
     }
     Ok(so_far)
+}
+
+/// Makes own steps of an edit, as `make_all` does, where the document that they lead to may be in hand. One step that leads
+/// to it is not applied again.
+pub fn make_to<C: Change>(
+    alloc: Global,
+    rules: &C::Rules,
+    doc: &C::Doc,
+    steps: &[Named<C>],
+    end: Option<C::Doc>,
+) -> Result<Made<C::Doc, C>, Failed<Refusal<C::Reason>>>
+    requires good { C.means.is_good rules.now doc.now }
+    requires leads { IfSome end (AllApply C.means rules.now doc.now steps.now) }
+    ensures { Answers (made_all C.means rules.now doc.now steps.now) result }
+{
+    match end {
+        Some(end) => {
+            if steps.len() != 1 {
+                return make_all(alloc, rules, doc, steps);
+            }
+            Ok(made_one(alloc, rules, doc, &steps[0], end)?)
+        }
+        None => make_all(alloc, rules, doc, steps),
+    }
+}
+
+/// What one step of an edit makes, which leads to this document.
+fn made_one<C: Change>(
+    alloc: Global,
+    rules: &C::Rules,
+    doc: &C::Doc,
+    step: &Named<C>,
+    end: C::Doc,
+) -> Result<Made<C::Doc, C>, AllocError>
+    requires good { C.means.is_good rules.now doc.now }
+    requires leads { C.means.outcome rules.now step.now.change doc.now ≡ Ok end }
+    ensures { IfOk result (λ made. made_all C.means rules.now doc.now (step.now ∷ []) ≡ Ok made) }
+{
+    let mut items = Listed::new(alloc);
+    items.push(item_of(alloc, rules, doc, step.name, &step.change)?)?;
+    Ok(Made { doc: end, items })
 }
 
 /// The item of an own step that was made on this document, and not to undo another.

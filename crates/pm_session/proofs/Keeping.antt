@@ -97,8 +97,10 @@ get-last [] x = refl
 get-last (y ∷ xs) x = get-last xs x
 
 -- the answer just kept is the one of the last number
+pub answer-last : {Rules Doc Reason C : Type 0} (c : Client C Rules Doc Reason) (a : Answer C Rules Doc Reason) (n : ℕ) → n ≡ length c.answers + 1 → answer_at (kept c a) n ≡ Some a
+answer-last c a n is = let e : n - 1 ≡ length c.answers = omega (arith, is) in rw e (get-last c.answers a)
+
+-- so it is taken
 pub taken-last : {Rules Doc Reason C : Type 0} (m : Meaning Rules Doc Reason C) (rules : Rules) (c : Client C Rules Doc Reason) (a : Answer C Rules Doc Reason) (n : ℕ)
     → n ≡ length c.answers + 1 → taken_at m rules (kept c a) n ≡ taken m rules (kept c a) a
-taken-last m rules c a n is =
-    let e : n - 1 ≡ length c.answers = omega (arith, is) in
-    rw (e, get-last c.answers a) refl
+taken-last m rules c a n is = rw (answer-last c a n is) refl

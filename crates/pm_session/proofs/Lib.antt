@@ -10,6 +10,7 @@ pub mod Stays
 pub mod Forging
 pub mod MemberMoves
 pub mod Hosted
+mod Lasts
 pub mod Unrefusing
 pub mod Opening
 pub mod Playing

@@ -1,5 +1,5 @@
 -- What a host of clients' messages keeps, and what an act at a host comes to.
-use Rattle.std.specs.Prelude.{◌≡◌, ℕ, ◌<◌, ◌^◌, ◌++◌, List, length, Option, Some, None, Result}
+use Rattle.std.specs.Prelude.{◌≡◌, ℕ, ◌+◌, ◌<◌, ◌^◌, ◌++◌, List, length, Option, Some, None, Result}
 use Rattle.std.specs.List.{AllByRecursion as Each}
 use Rattle.pm_change.specs.Changes.{Meaning}
 use Rattle.pm_change.specs.declared.no_step.NoStep.{NoStep}
@@ -7,6 +7,7 @@ use Rattle.pm_authority.specs.declared.named.Named.{Named}
 use Rattle.pm_authority.specs.declared.authority.Authority.{Authority}
 use Rattle.pm_authority.specs.declared.message.Message.{Message}
 use Rattle.pm_authority.specs.declared.message.Answer.{Answer}
+use Rattle.pm_authority.specs.declared.message.Answer.TheVariants.{Entries}
 use Rattle.pm_authority.specs.Kept.{IsKept}
 use Rattle.pm_authority.specs.Presents.{presented}
 use Rattle.pm_authority.specs.Runs.{AllApply}
@@ -15,6 +16,11 @@ use Rattle.pm_session.specs.declared.line.Act.{Act}
 use Rattle.pm_session.specs.declared.member.Member.{Member}
 use Rattle.pm_session.specs.declared.outcome.Outcome.{Outcome}
 use Rattle.pm_session.specs.Events.{asked, finished}
+
+-- Where the answer is entries, the log ends with them.
+abbrev pub EndsWith : {Rules Doc Reason C : Type 0} → List (Named C) → Option (Answer C Rules Doc Reason) → Type 0
+EndsWith log (Some (Entries since entries)) = since + length entries ≡ length log
+EndsWith log x = Unit {0}
 
 module _ {Rules Doc Reason C : Type 0} (m : Meaning Rules Doc Reason C) (rules : Rules) where
   -- The first document is good, the log's steps apply to it one after another, and the log's length is a number of 64 bits.

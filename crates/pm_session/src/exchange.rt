@@ -3,8 +3,9 @@ ghost use Rattle.std.specs.Prelude.{◌≡◌, ◌<◌, ◌≤◌, length, Some,
 ghost use Rattle.pm_authority.specs.declared.message.Message.{Message};
 ghost use Rattle.pm_authority.specs.declared.message.Answer.{Answer};
 ghost use Rattle.pm_authority.specs.Kept.{IsKept};
-ghost use Rattle.pm_client.specs.Clients.{message_of, message_at};
+ghost use Rattle.pm_client.specs.Clients.{message_of, message_at, answer_at, taken_at};
 ghost use Rattle.pm_session.specs.Events.{told, keeps, exchanges, member_exchanges};
+ghost use Rattle.pm_session.specs.Hosts.{EndsWith};
 ghost use Rattle.pm_session.specs.Left.{LeftPresenting, LeftExchanging, LeftByMember, AuthorityTells};
 ghost use Rattle.pm_session.specs.Refusals.{RefusesNoStep, GetsNoRefusal};
 ghost use Rattle.pm_session.specs.Sounds.{EditorStands, MemberStands};
@@ -15,7 +16,7 @@ use crate::member::Member;
 use crate::outcome::{AnswerSummary, Outcome};
 use pm_authority::{Answer, Authority};
 use pm_change::{Change, NoStep};
-use pm_client::{Client, MessageKind};
+use pm_client::{Client, MessageKind, Taken};
 use std::alloc::{AllocError, Global};
 
 /// The client presents its message of this number, and keeps the answer. Want of memory leaves all as it was, or the
@@ -77,11 +78,33 @@ pub fn exchange<C: Change, H: Host<C>>(
     if lost {
         return Ok(Outcome::Exchanged { told, taken: None });
     }
-    let taken = client.take(alloc, rules, number)?;
+    let taken = take_last(alloc, rules, host, client, number)?;
     Ok(Outcome::Exchanged {
         told,
         taken: Some(taken),
     })
+}
+
+/// The client takes the answer of this number, which this host gave last. The document that the host has at hand is what the
+/// answer's entries lead to.
+fn take_last<C: Change, H: Host<C>>(
+    alloc: Global,
+    rules: &C::Rules,
+    host: &H,
+    client: &mut Client<C>,
+    number: u64,
+) -> Result<Taken, AllocError>
+    requires served { H.serves host.now rules.now client.old.name }
+    requires stands { EditorStands C.means rules.now (H.first host.now) (H.log host.now) client.old }
+    requires kept { (0 < number) × (number ≤ length client.old.answers) }
+    requires last { EndsWith (H.log host.now) (answer_at client.old number) }
+    ensures takes { IfOk result (λ t. (t, client.new) ≡ taken_at C.means rules.now client.old number) }
+    ensures err { OnErr result (client.new ≡ client.old) }
+{
+    match host.end(alloc, rules, client.name())? {
+        Some(end) => client.take_to(alloc, rules, number, end),
+        None => client.take(alloc, rules, number),
+    }
 }
 
 /// The answer, as an outcome tells it. No editor's submission is refused for a step.

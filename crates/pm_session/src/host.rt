@@ -5,7 +5,8 @@ use std::alloc::{AllocError, Global};
 
 /// Answers the messages of clients, as an authority does. It has a log of steps, which others may add to between two calls.
 pub trait Host<C: Change> {
-    ghost use Rattle.std.specs.Prelude.{◌≡◌, ℕ, List, IfOk, OnErr};
+    ghost use Rattle.std.specs.Prelude.{◌≡◌, ℕ, List, IfOk, IfSome, OnErr};
+    ghost use Rattle.pm_authority.specs.Runs.{AllApply};
     ghost use Rattle.pm_authority.specs.declared.named.Named.{Named};
     ghost use Rattle.pm_authority.specs.declared.message.Message.{Message};
     ghost use Rattle.pm_authority.specs.declared.message.Answer.{Answer};
@@ -45,6 +46,16 @@ pub trait Host<C: Change> {
         ensures first { first self.new ≡ first self.old }
         ensures served { serves self.new rules.now client };
 
+    /// The document that its log gives, where it has it at hand. A host that others call beside may have none.
+    fn end(
+        &self,
+        alloc: Global,
+        rules: &C::Rules,
+        client: u32,
+    ) -> Result<Option<C::Doc>, AllocError>
+        requires served { serves self.now rules.now client }
+        ensures { IfOk result (λ o. IfSome o (AllApply C.means rules.now (first self.now) (log self.now))) };
+
     /// Where it serves a client, its log is one by these rules.
     ghost kept: { (host : Self) (rules : C.Rules) (client : ℕ) → serves host rules client → IsLog C.means rules (first host) (log host) };
 
@@ -79,6 +90,15 @@ impl<C: Change> Host<C> for Authority<C> {
         // A log that is held has a length of 64 bits.
         let _length = self.log().len();
         Ok(answer)
+    }
+
+    fn end(
+        &self,
+        alloc: Global,
+        _rules: &C::Rules,
+        _client: u32,
+    ) -> Result<Option<C::Doc>, AllocError> {
+        Ok(Some(C::copy_doc(alloc, self.doc())?))
     }
 
     ghost kept = { λ a rules client s. record { first_good = s.0.first_good; applies = (a.doc, s.0.folded); short = s.1 } };

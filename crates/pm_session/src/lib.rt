@@ -15,7 +15,7 @@ mod room;
 pub use acting::act;
 pub use host::Host;
 pub use line::{Act, Line};
-pub use maker::Maker;
+pub use maker::{Made, Maker};
 pub use member::Member;
 pub use outcome::{AnswerSummary, Outcome};
 pub use room::Room;

@@ -1,11 +1,12 @@
 //! Acts that are local to a client.
-ghost use Rattle.std.specs.Prelude.{◌≡◌, ◌<◌, ◌≤◌, ◌^◌, length, IfOk, OnErr};
-ghost use Rattle.pm_client.specs.Clients.{undone_last, redone_last, undone_event};
+ghost use Rattle.std.specs.Prelude.{◌≡◌, ◌<◌, ◌≤◌, ◌^◌, length, Some, Ok, IfOk, IfErr, IfSome, OnErr};
+ghost use Rattle.pm_change.specs.Changes.{fold};
+ghost use Rattle.pm_client.specs.Clients.{edited, IsRefusal, undone_last, redone_last, undone_event};
 ghost use Rattle.pm_client.specs.Cursors.{AreWithin};
 ghost use Rattle.pm_client.specs.Kins.{Stands};
 ghost use Rattle.pm_session.specs.Events.{edits, turns, sets, composes, takes};
 
-use crate::maker::Maker;
+use crate::maker::{Made, Maker};
 use crate::outcome::Outcome;
 use pm_change::{Change, MakeError, NoStep};
 use pm_client::{Client, CursorError, EditError, MessageKind, UndoError};
@@ -26,15 +27,38 @@ pub fn edit<C: Change, K: Maker<C>>(
     ensures edits { IfOk result (λ o. (o, client.new) ≡ edits C.means rules.now client.old event (K.makes maker.now rules.now client.old.doc op.now)) }
     ensures err { OnErr result (client.new ≡ client.old) }
 {
-    let steps = match maker.steps(alloc, rules, client.doc(), op) {
-        Ok(steps) => steps,
+    let made = match maker.steps(alloc, rules, client.doc(), op) {
+        Ok(made) => made,
         Err(MakeError::NoStep(reason)) => return Ok(Outcome::NoStep(reason)),
         Err(MakeError::NoMemory) => return Err(AllocError),
     };
-    match client.edit(alloc, rules, steps, event) {
+    match edit_by(alloc, rules, client, made, event) {
         Ok(count) => Ok(Outcome::Made { count }),
         Err(EditError::Refused { index, reason }) => Ok(Outcome::Refused { index, reason }),
         Err(EditError::NoMemory) => Err(AllocError),
+    }
+}
+
+/// The client makes the steps that a maker gave.
+fn edit_by<C: Change>(
+    alloc: Global,
+    rules: &C::Rules,
+    client: &mut Client<C>,
+    made: Made<C>,
+    event: Option<u32>,
+) -> Result<u64, EditError<C::Reason>>
+    requires good { C.means.is_good rules.now client.old.doc }
+    requires cursors { AreWithin (C.means.size client.old.doc) client.old.cursors }
+    requires leads { IfSome made.end (λ end. fold C.means rules.now client.old.doc made.steps.items ≡ Some end) }
+    ensures count { IfOk result (λ n. n ≡ length made.steps.items) }
+    ensures made { IfOk result (λ n. edited C.means rules.now client.old made.steps.items event ≡ Ok client.new) }
+    ensures refused { IfErr result (IsRefusal C.means rules.now (edited C.means rules.now client.old made.steps.items event)) }
+    ensures err { OnErr result (client.new ≡ client.old) }
+{
+    let Made { steps, end } = made;
+    match end {
+        Some(end) => client.edit_to(alloc, rules, steps, end, event),
+        None => client.edit(alloc, rules, steps, event),
     }
 }
 

@@ -118,6 +118,16 @@ where
         }
     }
 
+    // The desk keeps its authority's document.
+    fn end(
+        &self,
+        _alloc: Global,
+        _rules: &C::Rules,
+        _client: u32,
+    ) -> Result<Option<C::Doc>, AllocError> {
+        Ok(None)
+    }
+
     ghost kept = { λ h rules client s. s.log_is };
 
     ghost rests = { λ h. (refl, refl, (refl, ([], sym (append-nil h.seat.now.seen)))) };

@@ -1,7 +1,7 @@
 //! Who types letters.
 use pm_change::MakeError;
 use pm_flat::{Letters, Replace};
-use pm_session::Maker;
+use pm_session::{Made, Maker};
 use std::alloc::Global;
 
 /// Puts letters in front of a paragraph's text.
@@ -20,13 +20,16 @@ impl Maker<Replace> for Typist {
         _rules: &(),
         _doc: &Letters,
         op: &Letters,
-    ) -> Result<Vec<Replace>, MakeError> {
+    ) -> Result<Made<Replace>, MakeError> {
         let step = Replace {
             from: 1,
             to: 1,
             text: op.copy(alloc)?,
         };
-        Ok(vec![in alloc; step]?)
+        Ok(Made {
+            steps: vec![in alloc; step]?,
+            end: None,
+        })
     }
 
     ghost some = { λ maker rules doc op. types op };

@@ -1,9 +1,11 @@
-use Rattle.std.proofs.Common.{◌+◌, length, sym, subst, ◌∙◌, ap, inl, inr}
-use Rattle.pm_client.specs.Clients.{message_of, composed, kept}
+use Rattle.std.proofs.Common.{◌≡◌, ◌+◌, length, Some, sym, subst, ◌∙◌, ap, inl, inr}
+use Rattle.pm_client.specs.Clients.{message_of, composed, kept, answer_at}
 use Rattle.pm_session.specs.Sounds.{EditorStands}
 use Rattle.pm_session.specs.declared.member.Member.TheVariants.{Editor}
 use Rattle.pm_session.proofs.Exchanges.{on-err, last-message, lost-ends, taken-ends}
 use Rattle.pm_session.proofs.Hosted.{at-both, same-host, composer-stands, sending, taken-stands}
+use Rattle.pm_session.proofs.Keeping.{answer-last}
+use Rattle.pm_session.proofs.Lasts.{last-ends}
 use Rattle.pm_session.proofs.Unrefusing.{told-none}
 use Rattle.pm_session.proofs.exchange.exchange.Goals as goal
 
@@ -103,8 +105,8 @@ returns-then-lost-clause-stands g c =
     c.in_ok-answer.ensures.answered (g.H.Host.first c.present.new.self) c.present.ensures.first in
     subst (EditorStands m rules_now (g.H.Host.first c.present.new.self) (g.H.Host.log c.present.new.self)) (sym c.in_ok-number.ensures.kept) h.keeping
 
-pub take-requires-clause-stands : goal.take-requires-clause-stands
-take-requires-clause-stands g c =
+pub take_last-requires-clause-stands : goal.take_last-requires-clause-stands
+take_last-requires-clause-stands g c =
     let m = g.C.Change.means in
     let laws = g.met.C.Change.laws in
     let rules_now = c.args.rules.now in
@@ -115,13 +117,24 @@ take-requires-clause-stands g c =
     let h = sending m rules_now laws (g.H.Host.first host) (g.H.Host.log host) old c.requires.stands kind c.compose.new.self c.in_ok-message.ensures.composed
     c.in_ok-message.message x c.message_at.ensures c.name.result c.name.ensures c.in_ok-answer.answer (g.H.Host.log c.present.new.self)
     c.in_ok-answer.ensures.answered (g.H.Host.first c.present.new.self) c.present.ensures.first in
-    let keeper = subst (EditorStands m rules_now (g.H.Host.first c.present.new.self) (g.H.Host.log c.present.new.self)) (sym c.in_ok-number.ensures.kept) h.keeping in
-    record {
-      first = g.H.Host.first c.present.new.self;
-      log = g.H.Host.log c.present.new.self;
-      short = (g.met.H.Host.kept c.present.new.self rules_now c.name.result c.present.ensures.served).short;
-      kin = keeper.kin;
-    }
+    subst (EditorStands m rules_now (g.H.Host.first c.present.new.self) (g.H.Host.log c.present.new.self)) (sym c.in_ok-number.ensures.kept) h.keeping
+
+pub take_last-requires-clause-served : goal.take_last-requires-clause-served
+take_last-requires-clause-served g c =
+    let same = c.name.ensures ∙ sym (ap (λ k. k.name) c.in_ok-number.ensures.kept) in
+    subst (λ n. g.H.Host.serves c.present.new.self c.args.rules.now n) same c.present.ensures.served
+
+pub take_last-requires-clause-last : goal.take_last-requires-clause-last
+take_last-requires-clause-last g c =
+    let m = g.C.Change.means in
+    let rules_now = c.args.rules.now in
+    let host = c.args.host.now in
+    let log = g.H.Host.log c.present.new.self in
+    let stands = take_last-requires-clause-stands g c in
+    let at : answer_at c.keep.new.self c.in_ok-number.number ≡ Some c.in_ok-answer.answer =
+    ap (λ k. answer_at k c.in_ok-number.number) c.in_ok-number.ensures.kept ∙ answer-last c.compose.new.self c.in_ok-answer.answer c.in_ok-number.number c.in_ok-number.ensures.number in
+    last-ends m rules_now c.name.result (g.H.Host.first host) (g.H.Host.log host) log c.message_at.result.now c.in_ok-answer.answer c.in_ok-answer.ensures.answered
+    (g.H.Host.first c.present.new.self) c.keep.new.self stands.kin c.in_ok-number.number at
 
 pub returns-in_err-taken-clause-err : goal.returns-in_err-taken-clause-err
 returns-in_err-taken-clause-err g c =
@@ -171,7 +184,7 @@ returns-clause-exchanges g c =
       c.in_ok-answer.answer,
       asked,
       taken-ends m rules_now old kind c.in_ok-answer.answer c.told-told.result c.told-told.ensures c.keep.new.self keeps c.args.lost c.if-lost.false
-          c.in_ok-number.number number c.in_ok-taken.taken c.take.new.self c.in_ok-taken.ensures.takes,
+          c.in_ok-number.number number c.in_ok-taken.taken c.take_last.new.client c.in_ok-taken.ensures.takes,
     )
 
 pub returns-clause-unrefused : goal.returns-clause-unrefused

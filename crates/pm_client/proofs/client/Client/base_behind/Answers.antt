@@ -1,5 +1,5 @@
 use Rattle.pm_client.proofs.Advances.{confirm-applies}
-use Rattle.pm_client.proofs.client.Client.plan_confirm.Goals as goal
+use Rattle.pm_client.proofs.client.Client.base_behind.Goals as goal
 
 pub advance-requires-clause-applies : goal.advance-requires-clause-applies
 advance-requires-clause-applies g c =
