@@ -10,7 +10,7 @@ pub mod Ties
 pub mod Numbers
 pub mod Turned
 pub mod TiedLaws
-pub mod Lanes
+pub mod Leading
 pub mod Tables
 pub mod Starts
 pub mod Events
@@ -22,7 +22,6 @@ pub mod Agrees
 pub mod Showing
 pub mod Mades
 pub mod Steps
-pub mod Singles
 pub mod Trimmings
 pub mod Settled
 pub mod Whole

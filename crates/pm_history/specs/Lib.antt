@@ -11,7 +11,7 @@ pub mod Made
 pub mod Restores
 pub mod Standing
 pub mod Shows
-pub mod Lanes
+pub mod Laters
 pub mod Undoers
 pub mod Starts
 pub mod Tries

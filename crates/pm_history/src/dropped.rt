@@ -4,8 +4,7 @@ ghost use Rattle.pm_history.specs.Histories.{holds, is_dropped, still_named, wit
 ghost use Rattle.pm_history.specs.Drops.{any_dropped, is_lost};
 
 use crate::branch::{Branch, Event};
-use crate::item::Item;
-use crate::lane::one_step;
+use crate::item::{Item, one_step};
 use pm_change::Name;
 use pm_list::Listed;
 use pm_map::StepMap;

@@ -1,4 +1,7 @@
 //! A step of the timeline, as a history keeps it.
+ghost use Rattle.std.specs.Prelude.{◌≡◌};
+ghost use Rattle.pm_history.specs.Items.{one_step};
+
 use pm_change::Name;
 use pm_list::Listed;
 use pm_map::StepMap;
@@ -12,4 +15,14 @@ pub struct Item<C> {
     pub map: StepMap,
     pub inverse: Listed<C>,
     pub undoes: Option<Name>,
+}
+
+/// Whether these are names of one step.
+pub fn one_step(a: Option<Name>, b: Option<Name>) -> bool
+    ensures { result ≡ one_step a b }
+{
+    match (a, b) {
+        (Some(n), Some(m)) => n.client == m.client && n.serial == m.serial,
+        _ => false,
+    }
 }

@@ -2,8 +2,7 @@
 ghost use Rattle.std.specs.Prelude.{◌≡◌};
 ghost use Rattle.pm_history.specs.Tied.{undoes_of, all_tied};
 
-use crate::item::Item;
-use crate::lane::one_step;
+use crate::item::{Item, one_step};
 use pm_change::Name;
 
 /// Each item undoes what the old item of its name undoes. An item without an old one undoes no step. It takes no memory.
