@@ -11,6 +11,7 @@ pub mod Numbers
 pub mod Turned
 pub mod TiedLaws
 pub mod Leading
+pub mod Smalls
 pub mod Tables
 pub mod Starts
 pub mod Events

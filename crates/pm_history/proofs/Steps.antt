@@ -60,12 +60,6 @@ module _ {Rules Doc Reason C : Type 0} (m : Meaning Rules Doc Reason C) (rules :
   may-at laws n items more end i rest bs h f e =
       subst (λ x. MayUndo m rules x (rest ++ more) end) (sym e) (may-found m rules laws n items more h.0 end h.1 h.2 i rest f)
 
-  pub found-same : (n : Name) (items more : List (Item C)) (doc : Doc) (serial : ℕ) (i : Item C) (rest : List (Item C)) (bs : List C)
-      → find n items ≡ Some (i, rest) → bs ≡ i.inverse
-      → undo_steps m rules client n bs (rest ++ more) doc serial ≡ undo_found m rules client n (find n items) more doc serial
-  found-same n items more doc serial i rest bs f e =
-      ap (λ x. undo_steps m rules client n x (rest ++ more) doc serial) e ∙ ap (λ o. undo_found m rules client n o more doc serial) (sym f)
-
   -- the steps that an undo makes are shown
   steps-show : (n : Name) (bs : List C) (later : List (Item C)) (doc : Doc) (serial : ℕ) (base : Doc) (all : List (Item C)) → Shows m rules base all doc
       → Shows m rules base (all ++ (undo_steps m rules client n bs later doc serial).items) (undo_steps m rules client n bs later doc serial).doc
@@ -118,9 +112,6 @@ pub drop-before : {A : Type 0} (xs : List A) (i : ℕ) (d : A) → 0 < i → i �
 drop-before xs i d z l =
     let e : suc (i - 1) ≡ i = omega (arith, z) in
     drop-cons xs (i - 1) d (omega (arith, z, l)) ∙ ap (λ j. get_or xs (i - 1) d ∷ drop j xs) e
-
-pub inverse-of : {C : Type 0} (bs : List C) (i j : Item C) → bs ≡ j.inverse → i ≡ j → bs ≡ i.inverse
-inverse-of {C} bs i j e f = e ∙ ap (λ (x : Item C). x.inverse) (sym f)
 
 at-start : {Rules Doc Reason C : Type 0} (m : Meaning Rules Doc Reason C) (rules : Rules) (client : ℕ) (names : List Name) (items : List (Item C)) (doc : Doc) (serial : ℕ)
     → (i : ℕ) (w : Undone Doc C) → i ≤ 0 → w ≡ undo_event m rules client (drop i names) items doc serial → w ≡ undo_event m rules client names items doc serial

@@ -1,3 +1,5 @@
+pub mod Kept
+pub mod Forms
 pub mod Items
 pub mod Pairs
 pub mod Undos

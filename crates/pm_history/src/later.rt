@@ -75,7 +75,7 @@ impl<'a, C> Later<'a, C> {
         ensures { result ≡ (entry_at (items_of self.now) i).later }
     {
         let item = self.at(i);
-        match (&self.undoers, item.name) {
+        match (&self.undoers, item.name()) {
             (Some(undoers), Some(name)) => self.search(undoers, item, name, i),
             _ => None,
         }
@@ -106,7 +106,7 @@ impl<'a, C> Later<'a, C> {
             → result ≡ (nat_lt i place && (one_step item.now.name x.undoes && may_mirror item.now.map x.map)) }
     {
         let other = self.at(place);
-        i < place && one_step(item.name, other.undoes) && other.map.mirrors(&item.map)
+        i < place && one_step(item.name(), other.undoes()) && other.map().mirrors(&item.map())
     }
 
     /// Where the position `pos` goes over all maps by its side, as `Mapping::map` says it.
@@ -141,7 +141,7 @@ impl<'a, C> Later<'a, C> {
         ensures skip { let e = entry_at (items_of self.now) i in let m = moved e.map so.pos side in result.skip ≡ skipped e.later m.recover }
         ensures end { i + 1 + result.skip ≤ length (items_of self.now) }
     {
-        let m = self.at(i).map.map(so.pos, side);
+        let m = self.at(i).map().map(so.pos, side);
         match m.recover {
             Some(r) => self.recovered(i, so, m, r),
             None => After {
@@ -168,7 +168,7 @@ impl<'a, C> Later<'a, C> {
             };
         };
         let _ = self.len();
-        let pos = self.at(i + 1 + gap).map.result_place(r.range, r.offset);
+        let pos = self.at(i + 1 + gap).map().result_place(r.range, r.offset);
         After {
             so: Moved {
                 pos,
@@ -189,7 +189,7 @@ impl<'a, C> Later<'a, C> {
         let mut i = 0;
         while i < count {
             maps.push(Mirrored {
-                map: self.at(i).map.copy(),
+                map: self.at(i).map(),
                 later: self.mirror_of(i),
             })?;
             i += 1;
@@ -231,7 +231,7 @@ fn none_undoes<C>(items: &[Item<C>]) -> bool
     ensures some { result ≡ false → 0 < length items.now }
 {
     for item in items {
-        if item.undoes.is_some() {
+        if item.undoes().is_some() {
             return false;
         }
     }

@@ -27,7 +27,7 @@ fn latest<C>(name: Name, items: &[Item<C>]) -> usize
     let mut i = items.len();
     while i > 0 {
         i -= 1;
-        if one_step(Some(name), items[i].name) {
+        if one_step(Some(name), items[i].name()) {
             return i;
         }
     }

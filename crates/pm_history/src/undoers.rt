@@ -53,7 +53,7 @@ impl Undoers {
         ensures table { OnOk result ((is : List (Item C)) → IsTableOf self.old is → IsTableOf self.new (item.now ∷ is)) }
     {
         let count = self.next.len();
-        let next = match item.undoes {
+        let next = match item.undoes() {
             Some(name) => put_nearest(&mut self.nearest, name.serial, count),
             None => None,
         };

@@ -58,7 +58,7 @@ fn start_of<C>(names: &[Name], items: &[Item<C>]) -> usize
 {
     let mut passed = 0;
     for item in items {
-        if is_named(names, item.name) {
+        if is_named(names, item.name()) {
             return passed;
         }
         passed += 1;
@@ -120,7 +120,7 @@ fn undo_named<C: Change>(
     let Some(k) = place_of(name, items) else {
         return Ok(undone);
     };
-    let steps = items[k].inverse.as_slice();
+    let steps = items[k].inverse();
     undo_steps(alloc, rules, client, name, steps, &items[k + 1..], undone)
 }
 
@@ -131,7 +131,7 @@ pub fn place_of<C>(name: Name, items: &[Item<C>]) -> Option<usize>
 {
     let mut passed = 0;
     for item in items {
-        if one_step(Some(name), item.name) {
+        if one_step(Some(name), item.name()) {
             return Some(passed);
         }
         passed += 1;
@@ -219,12 +219,9 @@ fn made_one<C: Change>(
     let Some(after) = serial.checked_add(1) else {
         return Err(AllocError);
     };
-    let item = Item {
-        name: Some(Name { client, serial }),
-        map: change.step_map(),
-        inverse: Listed::from_vec(change.inverse(alloc, rules, &doc)?),
-        undoes: Some(name),
-    };
+    let inverse = Listed::from_vec(change.inverse(alloc, rules, &doc)?);
+    let own = Name { client, serial };
+    let item = Item::own(alloc, own, change.step_map(), inverse, Some(name))?;
     items.push(item)?;
     made.push(change)?;
     Ok(Undone {

@@ -86,7 +86,7 @@ fn inverse_at<'a, C>(
 {
     let item = &items[k];
     if has_inverse(item, undo, redo) {
-        return Some(item.inverse.as_slice());
+        return Some(item.inverse());
     }
     None
 }

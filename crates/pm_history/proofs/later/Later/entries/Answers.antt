@@ -11,9 +11,9 @@ loop-i-preserved g c =
     let is = items_of c.args.self.now in
     let i = c.loop-i.i in
     let below : i < length is = omega (arith, c.loop-i-test.true, c.len-count.ensures) in
-    let e : Mirrored = record { map = c.copy.result; later = c.mirror_of.result } in
+    let e : Mirrored = record { map = c.map.result; later = c.mirror_of.result } in
     let entry : e ≡ entry_at is i =
-    ap (λ rs. record { map = rs; later = c.mirror_of.result }) c.copy.ensures ∙ ap (λ o. record { map = c.at.result.now.map; later = o }) (c.mirror_of.ensures ∙ ap (λ (x : Mirrored). x.later) (entry-is is i c.at.result.now below c.at.ensures))
+    ap (λ rs. record { map = rs; later = c.mirror_of.result }) c.map.ensures ∙ ap (λ o. record { map = c.at.result.now.map; later = o }) (c.mirror_of.ensures ∙ ap (λ (x : Mirrored). x.later) (entry-is is i c.at.result.now below c.at.ensures))
     ∙ sym (entry-is is i c.at.result.now below c.at.ensures) in
     record {
       within = omega (arith, below);

@@ -14,7 +14,7 @@ pub returns-in_default : goal.returns-in_default
 returns-in_default g c =
     let is = items_of c.args.self.now in
     let x = c.at-item.result.now in
-    sym (ap (λ (e : Mirrored). e.later) (entry-is is c.args.i x c.requires.within c.at-item.ensures) ∙ ap (λ n. later_in n x.map (drop (c.args.i + 1) is)) c.in_default.is-1
+    sym (ap (λ (e : Mirrored). e.later) (entry-is is c.args.i x c.requires.within c.at-item.ensures) ∙ ap (λ n. later_in n x.map (drop (c.args.i + 1) is)) (sym c.name.ensures ∙ c.in_default.is-1)
     ∙ later-none x.map (drop (c.args.i + 1) is))
 
 pub returns-in_default-2 : goal.returns-in_default-2
