@@ -10,7 +10,8 @@ pub mod Ties
 pub mod Numbers
 pub mod Turned
 pub mod TiedLaws
-pub mod Lanes
+pub mod Leading
+pub mod Smalls
 pub mod Tables
 pub mod Starts
 pub mod Events
@@ -22,7 +23,6 @@ pub mod Agrees
 pub mod Showing
 pub mod Mades
 pub mod Steps
-pub mod Singles
 pub mod Trimmings
 pub mod Settled
 pub mod Whole

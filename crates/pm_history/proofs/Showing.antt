@@ -3,9 +3,7 @@ use Rattle.std.specs.Prelude.{◌≡◌, ℕ, ◌+◌, Bool, true, false, if◌t
 use Rattle.std.specs.List.{AllByRecursion as Each}
 use Rattle.std.proofs.Common.{sym, ap, subst, ◌∙◌, append_assoc, ⊎_elim, inl}
 use Rattle.std.proofs.lemmas.List.Elements.{recursion_from_All}
-use Rattle.pm_map.specs.declared.mapping.Mirrored.{Mirrored}
 use Rattle.pm_map.specs.Fits.{FitBetween, FitsSizes}
-use Rattle.pm_map.specs.Positions.{IsItself}
 use Rattle.pm_change.specs.Changes.{Meaning, Laws}
 use Rattle.pm_history.specs.declared.item.Item.{Item}
 use Rattle.pm_change.specs.declared.name.Name.{Name}
@@ -15,7 +13,6 @@ use Rattle.pm_history.specs.Pairs.{paired}
 use Rattle.pm_history.specs.Shows.{Shows}
 use Rattle.pm_history.specs.Tries.{MayUndo, put_one}
 use Rattle.pm_history.proofs.Keeps.{shows-append}
-use Rattle.pm_history.proofs.Lanes.{pairs-fit}
 use Rattle.pm_history.specs.Undos.{find, then_made, own_item, where_applies, tried, put}
 
 module _ {Rules Doc Reason C : Type 0} (m : Meaning Rules Doc Reason C) (rules : Rules) where
@@ -30,11 +27,6 @@ module _ {Rules Doc Reason C : Type 0} (m : Meaning Rules Doc Reason C) (rules :
       shows-fit laws h.1 end is (laws.good rules h.0 doc h.1 good h.2) h.5,
     ),
   )
-
-  -- so a mapping that is theirs leads on a step within the document before them
-  pub may-carry : Laws m → (bs : List C) (is : List (Item C)) (end : Doc) (h : MayUndo m rules bs is end) (ms : List Mirrored) → ms ≡ paired is
-      → IsItself ms (paired is) (m.size h.base) (m.size end)
-  may-carry laws bs is end h ms e = record { is = e; paired = pairs-fit is; fits = shows-fit laws h.base end is h.good h.shows }
 
   pub may-rest : (b : C) (bs : List C) (is : List (Item C)) (end : Doc) → MayUndo m rules (b ∷ bs) is end → MayUndo m rules bs is end
   may-rest b bs is end h = record { base = h.base; good = h.good; shows = h.shows; within = h.within.1 }

@@ -1,8 +1,6 @@
 -- One step of an undo, and the steps of an event one after another.
 use Rattle.std.proofs.Common.{suc, get_or, Result, Ok, Err, inl, append_assoc, append-nil, ◌≡◌, ℕ, ◌+◌, ◌-◌, ◌<◌, ◌≤◌, List, [], ◌∷◌, ◌++◌, length, drop, Option, Some, None, refl, ap, sym, ◌∙◌, arith, subst}
 use Rattle.std.proofs.Math.Seq.{drop-cons}
-use Rattle.pm_map.specs.declared.mapping.Mirrored.{Mirrored}
-use Rattle.pm_map.specs.Positions.{MayLead, EachLed, IsItself}
 use Rattle.pm_change.specs.Changes.{Meaning, Laws}
 use Rattle.pm_history.specs.declared.item.Item.{Item}
 use Rattle.pm_change.specs.declared.name.Name.{Name}
@@ -14,20 +12,12 @@ use Rattle.pm_history.specs.Tries.{MayUndo, first_of, item_from, put_one}
 use Rattle.pm_history.specs.Made.{IsMade}
 use Rattle.pm_history.proofs.Mades.{made-at}
 use Rattle.pm_history.proofs.Agrees.{undo-restores, undo-remembered}
-use Rattle.pm_history.proofs.Lanes.{drop-next}
+use Rattle.pm_history.proofs.Leading.{drop-next}
 use Rattle.pm_history.specs.Undos.{undo_steps, undo_found, undo_event, find, put, own_item, where_applies, then_made, tried}
 use Rattle.pm_history.proofs.Keeps.{shows-good, shows-append}
-use Rattle.pm_history.proofs.Showing.{may-carry, may-found, put-shows, put-then}
+use Rattle.pm_history.proofs.Showing.{may-found, put-shows, put-then}
 
 module _ {Rules Doc Reason C : Type 0} (m : Meaning Rules Doc Reason C) (rules : Rules) (laws : Laws m) where
-  pub carry-over : (b : C) (is : List (Item C)) (end : Doc) (ms : List Mirrored) → MayUndo m rules (b ∷ []) is end → ms ≡ paired is → MayLead m.is_within IsItself b ms
-  carry-over b is end ms h e = (paired is, m.size h.base, m.size end, (may-carry m rules laws (b ∷ []) is end h ms e, h.within.0))
-
-  -- what each mapping that it may be carried over leaves of it, that of the items does
-  pub carried-over : (b : C) (is : List (Item C)) (end : Doc) (ms : List Mirrored) (c : Option C) → MayUndo m rules (b ∷ []) is end → ms ≡ paired is
-      → EachLed m.is_within IsItself b ms (λ ns. c ≡ m.carry b ns) → c ≡ m.carry b (paired is)
-  carried-over b is end ms c h e each = each (paired is) (m.size h.base) (m.size end) (may-carry m rules laws (b ∷ []) is end h ms e) h.within.0
-
   pub end-good : (bs : List C) (is : List (Item C)) (end : Doc) → MayUndo m rules bs is end → m.is_good rules end
   end-good bs is end h = shows-good m rules laws h.base end is h.good h.shows
 
@@ -69,12 +59,6 @@ module _ {Rules Doc Reason C : Type 0} (m : Meaning Rules Doc Reason C) (rules :
       → find n items ≡ Some (i, rest) → bs ≡ i.inverse → MayUndo m rules bs (rest ++ more) end
   may-at laws n items more end i rest bs h f e =
       subst (λ x. MayUndo m rules x (rest ++ more) end) (sym e) (may-found m rules laws n items more h.0 end h.1 h.2 i rest f)
-
-  pub found-same : (n : Name) (items more : List (Item C)) (doc : Doc) (serial : ℕ) (i : Item C) (rest : List (Item C)) (bs : List C)
-      → find n items ≡ Some (i, rest) → bs ≡ i.inverse
-      → undo_steps m rules client n bs (rest ++ more) doc serial ≡ undo_found m rules client n (find n items) more doc serial
-  found-same n items more doc serial i rest bs f e =
-      ap (λ x. undo_steps m rules client n x (rest ++ more) doc serial) e ∙ ap (λ o. undo_found m rules client n o more doc serial) (sym f)
 
   -- the steps that an undo makes are shown
   steps-show : (n : Name) (bs : List C) (later : List (Item C)) (doc : Doc) (serial : ℕ) (base : Doc) (all : List (Item C)) → Shows m rules base all doc
@@ -128,9 +112,6 @@ pub drop-before : {A : Type 0} (xs : List A) (i : ℕ) (d : A) → 0 < i → i �
 drop-before xs i d z l =
     let e : suc (i - 1) ≡ i = omega (arith, z) in
     drop-cons xs (i - 1) d (omega (arith, z, l)) ∙ ap (λ j. get_or xs (i - 1) d ∷ drop j xs) e
-
-pub inverse-of : {C : Type 0} (bs : List C) (i j : Item C) → bs ≡ j.inverse → i ≡ j → bs ≡ i.inverse
-inverse-of {C} bs i j e f = e ∙ ap (λ (x : Item C). x.inverse) (sym f)
 
 at-start : {Rules Doc Reason C : Type 0} (m : Meaning Rules Doc Reason C) (rules : Rules) (client : ℕ) (names : List Name) (items : List (Item C)) (doc : Doc) (serial : ℕ)
     → (i : ℕ) (w : Undone Doc C) → i ≤ 0 → w ≡ undo_event m rules client (drop i names) items doc serial → w ≡ undo_event m rules client names items doc serial

@@ -1,3 +1,5 @@
+pub mod Kept
+pub mod Forms
 pub mod Items
 pub mod Pairs
 pub mod Undos
@@ -11,7 +13,7 @@ pub mod Made
 pub mod Restores
 pub mod Standing
 pub mod Shows
-pub mod Lanes
+pub mod Laters
 pub mod Undoers
 pub mod Starts
 pub mod Tries

@@ -1,11 +1,10 @@
 -- One change of an undo: what it needs and what it makes.
-use Rattle.std.specs.Prelude.{◌≡◌, ℕ, ◌+◌, true, List, [], ◌∷◌, ◌++◌, drop, length, Option, Some, None}
+use Rattle.std.specs.Prelude.{ℕ, ◌+◌, List, [], ◌∷◌, ◌++◌, drop, Option, Some, None}
 use Rattle.std.specs.List.{AllByRecursion as Each}
 use Rattle.pm_change.specs.declared.name.Name.{Name}
 use Rattle.pm_change.specs.Changes.{Meaning}
 use Rattle.pm_history.specs.declared.item.Item.{Item}
 use Rattle.pm_history.specs.declared.undoing.Undone.{Undone}
-use Rattle.pm_history.specs.Items.{one_step}
 use Rattle.pm_history.specs.Shows.{Shows}
 use Rattle.pm_history.specs.Undos.{own_item}
 
@@ -18,11 +17,6 @@ module _ {C : Type 0} where
   abbrev pub item_from : List (Item C) → Option ℕ → Option (Item C × List (Item C))
   item_from is None = None
   item_from is (Some k) = first_of (drop k is)
-
-  -- One step alone is named, the first item is that step, and one change undoes it.
-  abbrev pub IsSingle : List Name → List (Item C) → Type 0
-  IsSingle (n ∷ []) (i ∷ is) = (one_step (Some n) i.name ≡ true) × (length i.inverse ≡ 1)
-  IsSingle ns is = ⊥
 
 module _ {Rules Doc Reason C : Type 0} (m : Meaning Rules Doc Reason C) (rules : Rules) where
   -- these changes are within the document before the items

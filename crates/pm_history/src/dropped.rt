@@ -4,8 +4,7 @@ ghost use Rattle.pm_history.specs.Histories.{holds, is_dropped, still_named, wit
 ghost use Rattle.pm_history.specs.Drops.{any_dropped, is_lost};
 
 use crate::branch::{Branch, Event};
-use crate::item::Item;
-use crate::lane::one_step;
+use crate::item::{Item, one_step};
 use pm_change::Name;
 use pm_list::Listed;
 use pm_map::StepMap;
@@ -16,7 +15,7 @@ fn holds<C>(name: Name, items: &[Item<C>]) -> bool
     ensures { result ≡ holds name items.now }
 {
     for item in items {
-        if one_step(Some(name), item.name) {
+        if one_step(Some(name), item.name()) {
             return true;
         }
     }
@@ -28,7 +27,7 @@ pub fn any_dropped<C>(gone: &[Item<C>], kept: &[Item<C>]) -> bool
     ensures { result ≡ any_dropped gone.now kept.now }
 {
     for item in gone {
-        if is_lost(item.name, kept) {
+        if is_lost(item.name(), kept) {
             return true;
         }
     }
@@ -94,12 +93,7 @@ where
 {
     let mut items = Vec::new(alloc);
     for map in maps {
-        items.push(Item {
-            name: None,
-            map: map.copy(),
-            inverse: Listed::new(alloc),
-            undoes: None,
-        })?;
+        items.push(Item::foreign(alloc, map.copy())?)?;
     }
     Ok(items)
 }

@@ -3,8 +3,7 @@ ghost use Rattle.std.specs.Prelude.{◌≡◌, ◌≤◌, ◌∷◌, [], length}
 ghost use Rattle.pm_history.specs.Starts.{start_of};
 ghost use Rattle.pm_history.specs.Tidy.{NamesDiffer};
 
-use crate::item::Item;
-use crate::lane::one_step;
+use crate::item::{Item, one_step};
 use pm_change::Name;
 
 /// The place of the first item that is one of these steps, or the number of items, where the items' names differ. Where each step
@@ -28,7 +27,7 @@ fn latest<C>(name: Name, items: &[Item<C>]) -> usize
     let mut i = items.len();
     while i > 0 {
         i -= 1;
-        if one_step(Some(name), items[i].name) {
+        if one_step(Some(name), items[i].name()) {
             return i;
         }
     }

@@ -9,7 +9,7 @@ mod branch;
 mod branches;
 mod dropped;
 mod item;
-mod lane;
+mod later;
 mod latest;
 pub mod laws;
 mod live;

@@ -46,7 +46,7 @@ fn first_live<C>(items: &[Item<C>], names: &[Name], live: &Live) -> usize
 {
     let mut passed = 0;
     for item in items {
-        if live.has(names, item.name) {
+        if live.has(names, item.name()) {
             return passed;
         }
         passed += 1;
@@ -78,8 +78,8 @@ where
     requires { IsTableOfNames live.now names.now }
     ensures { item.new ≡ thinned names.now item.old }
 {
-    if !live.has(names, item.name) {
-        item.inverse = Listed::new(alloc);
+    if !live.has(names, item.name()) {
+        item.forget(alloc);
     }
 }
 
@@ -111,8 +111,8 @@ where
     C: Drop,
     ensures { item.new ≡ thinned (names_of undo.now ++ names_of redo.now) item.old }
 {
-    if !is_live(undo, redo, item.name) {
-        item.inverse = Listed::new(alloc);
+    if !is_live(undo, redo, item.name()) {
+        item.forget(alloc);
     }
 }
 
@@ -121,7 +121,7 @@ pub fn are_own<C>(items: &[Item<C>]) -> bool
     ensures { result ≡ are_own items.now }
 {
     for item in items {
-        if item.name.is_none() {
+        if item.name().is_none() {
             return false;
         }
     }
@@ -146,5 +146,5 @@ pub fn inverses<C>(items: &[Item<C>], undo: &[Event], redo: &[Event]) -> u64
 pub fn has_inverse<C>(item: &Item<C>, undo: &[Event], redo: &[Event]) -> bool
     ensures { result ≡ has_inverse (names_of undo.now ++ names_of redo.now) item.now }
 {
-    !item.inverse.is_empty() || is_live(undo, redo, item.name)
+    !item.inverse().is_empty() || is_live(undo, redo, item.name())
 }

@@ -1,64 +1,91 @@
 //! The items that were made to undo steps.
-ghost use Rattle.std.specs.Prelude.{◌≡◌, ◌∷◌, [], OnOk};
-ghost use Rattle.pm_history.specs.Pairs.{later_in};
+ghost use Rattle.std.specs.Prelude.{◌≡◌, ◌<◌, ◌%◌, ◌∷◌, ◌++◌, [], List, length, None, slice_index_or, slice_set, Some, IfOk, OnOk};
+ghost use Rattle.pm_history.specs.declared.item.Item.{Item};
 ghost use Rattle.pm_history.specs.Undoers.{IsTableOf};
 
 use crate::item::Item;
-use crate::lane::is_mirror;
 use std::alloc::{AllocError, Global};
-use std::collections::HashMap;
 
-/// The items from one on that were made to undo steps, found by the serials of these steps. An item is counted by the number
-/// of items behind it, so that more can come in front. `nearest`: the first item for a serial. `next`: for each item, the last
-/// one first, the next behind it with the same serial.
+/// The items of a list that were made to undo steps, found by the serials of these steps. An item is counted by the number of
+/// items behind it, so that more can come in front. `nearest`: for each remainder that a serial can leave the first item.
+/// `next`: for each item, the last one first, the next behind it whose serial leaves the same remainder.
 #[derive(Drop)]
 pub struct Undoers {
-    pub nearest: HashMap<u64, usize>,
+    pub nearest: Vec<Option<usize>>,
     pub next: Vec<Option<usize>>,
 }
 
 impl Undoers {
-    /// The table of no item.
-    pub fn new<C>(alloc: Global, items: &[Item<C>]) -> Undoers
-        requires { items.now ≡ [] }
-        ensures { IsTableOf result items.now }
+    /// The table of `items` and, behind them, `made`. Steps follow one another by their serials, so that with as many remainders
+    /// as items few share one.
+    pub fn of<C>(alloc: Global, items: &[Item<C>], made: &[Item<C>]) -> Result<Undoers, AllocError>
+        requires { 0 < length (items.now ++ made.now) }
+        ensures { IfOk result (λ u. IsTableOf u (items.now ++ made.now)) }
     {
-        let _ = items;
-        Undoers {
-            nearest: HashMap::new(alloc),
-            next: Vec::new(alloc),
-        }
+        let count = items.len() + made.len();
+        let mut undoers = Undoers {
+            nearest: vec![in alloc; None; count]?,
+            next: Vec::with_capacity(alloc, count)?,
+        };
+        undoers.put_all(made)?;
+        undoers.put_all(items)?;
+        Ok(undoers)
     }
 
-    /// Puts an item in front of `behind`, whose table this is.
-    pub fn put<C>(&mut self, item: &Item<C>, behind: &[Item<C>]) -> Result<(), AllocError>
-        requires { IsTableOf self.old behind.now }
-        ensures { OnOk result (IsTableOf self.new (item.now ∷ behind.now)) }
+    /// Puts items in front, the last one first.
+    fn put_all<C>(&mut self, items: &[Item<C>]) -> Result<(), AllocError>
+        requires { 0 < length self.old.nearest.items }
+        ensures size { OnOk result (length self.new.nearest.items ≡ length self.old.nearest.items) }
+        ensures table { OnOk result ((is : List (Item C)) → IsTableOf self.old is → IsTableOf self.new (items.now ++ is)) }
     {
-        let next = match item.undoes {
-            Some(name) => self.nearest.insert(name.serial, behind.len())?,
+        let mut i = items.len();
+        while i > 0 {
+            i -= 1;
+            self.put(&items[i])?;
+        }
+        Ok(())
+    }
+
+    /// Puts an item in front.
+    fn put<C>(&mut self, item: &Item<C>) -> Result<(), AllocError>
+        requires { 0 < length self.old.nearest.items }
+        ensures size { OnOk result (length self.new.nearest.items ≡ length self.old.nearest.items) }
+        ensures table { OnOk result ((is : List (Item C)) → IsTableOf self.old is → IsTableOf self.new (item.now ∷ is)) }
+    {
+        let count = self.next.len();
+        let next = match item.undoes() {
+            Some(name) => put_nearest(&mut self.nearest, name.serial, count),
             None => None,
         };
         self.next.push(next)?;
         Ok(())
     }
 
-    /// The number of items between this one and its mirror among those behind it, whose table this is.
-    pub fn mirror_of<C>(&self, item: &Item<C>, behind: &[Item<C>]) -> Option<usize>
-        requires { IsTableOf self.now behind.now }
-        ensures { result ≡ later_in item.now.name item.now.map behind.now }
+    /// The first item for this serial.
+    pub fn nearest_to(&self, serial: u64) -> Option<usize>
+        requires { 0 < length self.now.nearest.items }
+        ensures { result ≡ slice_index_or self.now.nearest.items (serial % length self.now.nearest.items) None }
     {
-        let Some(name) = item.name else {
-            return None;
-        };
-        let mut at = self.nearest.get(&name.serial).copied();
-        while let Some(left) = at {
-            let place = behind.len() - 1 - left;
-            if is_mirror(&behind[place], item.name, &item.map) {
-                return Some(place);
-            }
-            at = self.next[left];
-        }
-        None
+        self.nearest[remainder(serial, self.nearest.len())]
     }
+}
+
+/// Makes this the first item for the serial, and tells which one was.
+fn put_nearest(nearest: &mut Vec<Option<usize>>, serial: u64, left: usize) -> Option<usize>
+    requires { 0 < length nearest.old.items }
+    ensures was { result ≡ slice_index_or nearest.old.items (serial % length nearest.old.items) None }
+    ensures now { nearest.new.items ≡ slice_set nearest.old.items (serial % length nearest.old.items) (Some left) }
+{
+    let place = remainder(serial, nearest.len());
+    let was = nearest[place];
+    nearest[place] = Some(left);
+    was
+}
+
+/// What a serial leaves when it is divided by this count.
+fn remainder(serial: u64, count: usize) -> usize
+    requires { 0 < count }
+    ensures { result ≡ serial % count }
+{
+    (serial % count as u64) as usize
 }

@@ -1,20 +1,19 @@
 //! Undoing the steps of an event.
-ghost use Rattle.std.specs.Prelude.{◌≡◌, ◌<◌, ◌≤◌, ◌+◌, ◌++◌, ◌∷◌, [], drop, length, IfOk, IfSome, Ok, Some, true};
+ghost use Rattle.std.specs.Prelude.{◌≡◌, ◌<◌, ◌≤◌, ◌++◌, ℕ, length, IfOk, IfSome, Ok, Some};
+ghost use Rattle.pm_map.specs.Fits.{FitBetween};
 ghost use Rattle.pm_history.specs.Items.{one_step};
 ghost use Rattle.pm_history.specs.Starts.{start_of, is_named};
-ghost use Rattle.pm_history.specs.Lanes.{maps_of, behind};
 ghost use Rattle.pm_history.specs.Made.{IsMade};
 ghost use Rattle.pm_history.specs.Pairs.{paired};
 ghost use Rattle.pm_history.specs.Shows.{ShowsTo};
 ghost use Rattle.pm_history.specs.Undos.{undo_steps, undo_event, undo_found, then_made, find, tried};
 ghost use Rattle.pm_history.specs.Restores.{RestoresAll, IsOfWhole};
-ghost use Rattle.pm_history.specs.Tries.{MayUndo, IsSingle, put_one, item_from};
+ghost use Rattle.pm_history.specs.Tries.{MayUndo, put_one, item_from};
 
-use crate::item::Item;
-use crate::lane::{Lane, one_step, paired};
+use crate::item::{Item, one_step};
+use crate::later::Later;
 use pm_change::{Change, Failed, Name};
 use pm_list::Listed;
-use pm_map::Mapping;
 use std::alloc::{AllocError, Global};
 
 /// What an undo has made. `doc`: the document behind it. `serial`: the next serial. `made`: the changes made, in order, and
@@ -25,13 +24,6 @@ pub struct Undone<D, C> {
     pub serial: u64,
     pub made: Listed<C>,
     pub items: Listed<Item<C>>,
-}
-
-/// What an undo has made so far, and the maps of the timeline's end and of what it has made.
-#[derive(Drop)]
-pub struct Going<D, C> {
-    pub undone: Undone<D, C>,
-    pub lane: Lane,
 }
 
 /// What `client` makes to undo the steps of these names, from the last to the first, on the document behind the timeline
@@ -66,7 +58,7 @@ fn start_of<C>(names: &[Name], items: &[Item<C>]) -> usize
 {
     let mut passed = 0;
     for item in items {
-        if is_named(names, item.name) {
+        if is_named(names, item.name()) {
             return passed;
         }
         passed += 1;
@@ -86,8 +78,7 @@ pub fn is_named(names: &[Name], name: Option<Name>) -> bool
     false
 }
 
-/// The steps of these names, from the last to the first. Where one change alone is to be carried, no map comes behind those of
-/// the items.
+/// The steps of these names, from the last to the first.
 fn undo_from<C: Change>(
     alloc: Global,
     rules: &C::Rules,
@@ -100,62 +91,18 @@ fn undo_from<C: Change>(
     requires { ShowsTo C.means rules.now items.now doc }
     ensures { IfOk result (λ w. w ≡ undo_event C.means rules.now client names.now items.now doc serial) }
 {
-    if is_single(names, items) {
-        let step = &items[0].inverse.as_slice()[0];
-        undo_only(
-            alloc,
-            rules,
-            client,
-            names[0],
-            step,
-            &items[1..],
-            doc,
-            serial,
-        )
-    } else {
-        undo_all(alloc, rules, client, names, items, doc, serial)
-    }
-}
-
-/// Whether one step alone is named, the first item is that step, and one change undoes it.
-fn is_single<C>(names: &[Name], items: &[Item<C>]) -> bool
-    ensures { result ≡ true → IsSingle names.now items.now }
-{
-    if names.len() != 1 || items.is_empty() {
-        return false;
-    }
-    let item = &items[0];
-    item.inverse.len() == 1 && one_step(Some(names[0]), item.name)
-}
-
-/// The steps of these names, from the last to the first.
-fn undo_all<C: Change>(
-    alloc: Global,
-    rules: &C::Rules,
-    client: u32,
-    names: &[Name],
-    items: &[Item<C>],
-    doc: C::Doc,
-    serial: u64,
-) -> Result<Undone<C::Doc, C>, AllocError>
-    requires { ShowsTo C.means rules.now items.now doc }
-    ensures { IfOk result (λ w. w ≡ undo_event C.means rules.now client names.now items.now doc serial) }
-{
-    let mut going = Going {
-        undone: Undone {
-            doc,
-            serial,
-            made: Listed::new(alloc),
-            items: Listed::new(alloc),
-        },
-        lane: Lane::of(alloc, items)?,
+    let mut undone = Undone {
+        doc,
+        serial,
+        made: Listed::new(alloc),
+        items: Listed::new(alloc),
     };
     let mut i = names.len();
     while i > 0 {
         i -= 1;
-        going = undo_named(alloc, rules, client, names[i], items, going)?;
+        undone = undo_named(alloc, rules, client, names[i], items, undone)?;
     }
-    Ok(going.undone)
+    Ok(undone)
 }
 
 /// The step of this name, where it stands in the timeline.
@@ -165,48 +112,16 @@ fn undo_named<C: Change>(
     client: u32,
     name: Name,
     items: &[Item<C>],
-    going: Going<C::Doc, C>,
-) -> Result<Going<C::Doc, C>, AllocError>
-    requires shows { ShowsTo C.means rules.now (items.now ++ going.undone.items) going.undone.doc }
-    requires lane { maps_of going.lane ≡ paired (items.now ++ going.undone.items) }
-    ensures made { IfOk result (λ g. g.undone ≡ then_made going.undone (undo_found C.means rules.now client name (find name items.now) going.undone.items going.undone.doc going.undone.serial)) }
-    ensures lane { IfOk result (λ g. maps_of g.lane ≡ paired (items.now ++ g.undone.items)) }
+    undone: Undone<C::Doc, C>,
+) -> Result<Undone<C::Doc, C>, AllocError>
+    requires { ShowsTo C.means rules.now (items.now ++ undone.items) undone.doc }
+    ensures { IfOk result (λ w. w ≡ then_made undone (undo_found C.means rules.now client name (find name items.now) undone.items undone.doc undone.serial)) }
 {
-    match place_of(name, items) {
-        Some(k) => undo_found(alloc, rules, client, name, items, k, going),
-        None => Ok(going),
-    }
-}
-
-/// The step at place `k`.
-fn undo_found<C: Change>(
-    alloc: Global,
-    rules: &C::Rules,
-    client: u32,
-    name: Name,
-    items: &[Item<C>],
-    k: usize,
-    going: Going<C::Doc, C>,
-) -> Result<Going<C::Doc, C>, AllocError>
-    requires shows { ShowsTo C.means rules.now (items.now ++ going.undone.items) going.undone.doc }
-    requires lane { maps_of going.lane ≡ paired (items.now ++ going.undone.items) }
-    requires found { find name items.now ≡ item_from items.now (Some k) }
-    requires within { k < length items.now }
-    ensures made { IfOk result (λ g. g.undone ≡ then_made going.undone (undo_found C.means rules.now client name (find name items.now) going.undone.items going.undone.doc going.undone.serial)) }
-    ensures lane { IfOk result (λ g. maps_of g.lane ≡ paired (items.now ++ g.undone.items)) }
-{
-    let Going { undone, lane } = going;
-    let lane = lane.starting_at(k + 1)?;
-    let steps = items[k].inverse.as_slice();
-    undo_steps(
-        alloc,
-        rules,
-        client,
-        name,
-        steps,
-        items,
-        Going { undone, lane },
-    )
+    let Some(k) = place_of(name, items) else {
+        return Ok(undone);
+    };
+    let steps = items[k].inverse();
+    undo_steps(alloc, rules, client, name, steps, &items[k + 1..], undone)
 }
 
 /// The place of the item of this name.
@@ -216,7 +131,7 @@ pub fn place_of<C>(name: Name, items: &[Item<C>]) -> Option<usize>
 {
     let mut passed = 0;
     for item in items {
-        if one_step(Some(name), item.name) {
+        if one_step(Some(name), item.name()) {
             return Some(passed);
         }
         passed += 1;
@@ -224,151 +139,42 @@ pub fn place_of<C>(name: Name, items: &[Item<C>]) -> Option<usize>
     None
 }
 
-/// Each of these changes, which undo the step right before the mapping, in order.
+/// Each of these changes, which undo the step right before the later items, in order.
 fn undo_steps<C: Change>(
     alloc: Global,
     rules: &C::Rules,
     client: u32,
     name: Name,
     steps: &[C],
-    items: &[Item<C>],
-    going: Going<C::Doc, C>,
-) -> Result<Going<C::Doc, C>, AllocError>
-    requires may { MayUndo C.means rules.now steps.now (behind going.lane items.now ++ going.undone.items) going.undone.doc }
-    requires lane { maps_of going.lane ≡ paired (items.now ++ going.undone.items) }
-    requires place { length going.lane.before.items ≤ length items.now }
-    ensures made { IfOk result (λ g. g.undone ≡ then_made going.undone (undo_steps C.means rules.now client name steps.now (behind going.lane items.now ++ going.undone.items) going.undone.doc going.undone.serial)) }
-    ensures lane { IfOk result (λ g. maps_of g.lane ≡ paired (items.now ++ g.undone.items)) }
+    later: &[Item<C>],
+    undone: Undone<C::Doc, C>,
+) -> Result<Undone<C::Doc, C>, AllocError>
+    requires { MayUndo C.means rules.now steps.now (later.now ++ undone.items) undone.doc }
+    ensures { IfOk result (λ w. w ≡ then_made undone (undo_steps C.means rules.now client name steps.now (later.now ++ undone.items) undone.doc undone.serial)) }
 {
-    let mut going = going;
+    let mut undone = undone;
     for step in steps {
-        going = undo_step(alloc, rules, client, name, step, items, going)?;
+        let carried = carried(alloc, step, later, undone.items.as_slice())?;
+        undone = make_one(alloc, rules, client, name, carried, undone)?;
     }
-    Ok(going)
+    Ok(undone)
 }
 
-/// One of the changes that undo a step.
-fn undo_step<C: Change>(
+/// A change carried over the later items and those made so far.
+fn carried<C: Change>(
     alloc: Global,
-    rules: &C::Rules,
-    client: u32,
-    name: Name,
     step: &C,
-    items: &[Item<C>],
-    going: Going<C::Doc, C>,
-) -> Result<Going<C::Doc, C>, AllocError>
-    requires may { MayUndo C.means rules.now (step.now ∷ []) (behind going.lane items.now ++ going.undone.items) going.undone.doc }
-    requires lane { maps_of going.lane ≡ paired (items.now ++ going.undone.items) }
-    requires place { length going.lane.before.items ≤ length items.now }
-    ensures made { IfOk result (λ g. g.undone ≡ put_one C.means rules.now client (tried C.means rules.now client (C.means.carry step.now (paired (behind going.lane items.now ++ going.undone.items))) going.undone.doc) name going.undone) }
-    ensures lane { IfOk result (λ g. maps_of g.lane ≡ paired (items.now ++ g.undone.items)) }
-    ensures place { IfOk result (λ g. length g.lane.before.items ≡ length going.lane.before.items) }
+    later: &[Item<C>],
+    made: &[Item<C>],
+) -> Result<Option<C>, AllocError>
+    requires { ((n : ℕ) × ((k : ℕ) × (FitBetween (paired (later.now ++ made.now)) n k × C.means.is_within step.now n))) }
+    ensures { IfOk result (λ o. o ≡ C.means.carry step.now (paired (later.now ++ made.now))) }
 {
-    let carried = step.carry(alloc, &going.lane.mapping)?;
-    put_one(alloc, rules, client, name, carried, items, going)
+    let positions = Later::of(alloc, later, made)?;
+    step.carry(alloc, &positions)
 }
 
 /// A carried change, which may be lost or not apply.
-fn put_one<C: Change>(
-    alloc: Global,
-    rules: &C::Rules,
-    client: u32,
-    name: Name,
-    carried: Option<C>,
-    items: &[Item<C>],
-    going: Going<C::Doc, C>,
-) -> Result<Going<C::Doc, C>, AllocError>
-    requires good { C.means.is_good rules.now going.undone.doc }
-    requires lane { maps_of going.lane ≡ paired (items.now ++ going.undone.items) }
-    ensures made { IfOk result (λ g. g.undone ≡ put_one C.means rules.now client (tried C.means rules.now client carried going.undone.doc) name going.undone) }
-    ensures lane { IfOk result (λ g. maps_of g.lane ≡ paired (items.now ++ g.undone.items)) }
-    ensures place { IfOk result (λ g. length g.lane.before.items ≡ length going.lane.before.items) }
-{
-    let Some(change) = carried else {
-        return Ok(going);
-    };
-    match change.apply(alloc, rules, &going.undone.doc) {
-        Ok(next) => put_in(alloc, rules, client, name, change, next, items, going),
-        Err(Failed::Reason(_)) => Ok(going),
-        Err(Failed::NoMemory) => Err(AllocError),
-    }
-}
-
-/// A change that was made, and the document behind it.
-fn put_in<C: Change>(
-    alloc: Global,
-    rules: &C::Rules,
-    client: u32,
-    name: Name,
-    change: C,
-    next: C::Doc,
-    items: &[Item<C>],
-    going: Going<C::Doc, C>,
-) -> Result<Going<C::Doc, C>, AllocError>
-    requires good { C.means.is_good rules.now going.undone.doc }
-    requires applies { C.means.outcome rules.now change going.undone.doc ≡ Ok next }
-    requires lane { maps_of going.lane ≡ paired (items.now ++ going.undone.items) }
-    ensures made { IfOk result (λ g. g.undone ≡ put_one C.means rules.now client (Some (change, next)) name going.undone) }
-    ensures lane { IfOk result (λ g. maps_of g.lane ≡ paired (items.now ++ g.undone.items)) }
-    ensures place { IfOk result (λ g. length g.lane.before.items ≡ length going.lane.before.items) }
-{
-    let Going { undone, lane } = going;
-    let Undone {
-        doc,
-        serial,
-        mut made,
-        items: mut more,
-    } = undone;
-    let Some(after) = serial.checked_add(1) else {
-        return Err(AllocError);
-    };
-    let item = Item {
-        name: Some(Name { client, serial }),
-        map: change.step_map(),
-        inverse: Listed::from_vec(change.inverse(alloc, rules, &doc)?),
-        undoes: Some(name),
-    };
-    let lane = lane.with(items, more.as_slice(), &item)?;
-    more.push(item)?;
-    made.push(change)?;
-    Ok(Going {
-        undone: Undone {
-            doc: next,
-            serial: after,
-            made,
-            items: more,
-        },
-        lane,
-    })
-}
-
-/// The one change that undoes a step, right behind which these items stand.
-fn undo_only<C: Change>(
-    alloc: Global,
-    rules: &C::Rules,
-    client: u32,
-    name: Name,
-    step: &C,
-    later: &[Item<C>],
-    doc: C::Doc,
-    serial: u64,
-) -> Result<Undone<C::Doc, C>, AllocError>
-    requires { MayUndo C.means rules.now (step.now ∷ []) later.now doc }
-    ensures { IfOk result (λ w. w ≡ undo_steps C.means rules.now client name (step.now ∷ []) later.now doc serial) }
-{
-    let maps = paired(alloc, later)?;
-    let mapping = Mapping::from_entries(maps);
-    let carried = step.carry(alloc, &mapping)?;
-    let none = Undone {
-        doc,
-        serial,
-        made: Listed::new(alloc),
-        items: Listed::new(alloc),
-    };
-    make_one(alloc, rules, client, name, carried, none)
-}
-
-/// A carried change, which may be lost or not apply, with no map kept for it.
 fn make_one<C: Change>(
     alloc: Global,
     rules: &C::Rules,
@@ -413,12 +219,9 @@ fn made_one<C: Change>(
     let Some(after) = serial.checked_add(1) else {
         return Err(AllocError);
     };
-    let item = Item {
-        name: Some(Name { client, serial }),
-        map: change.step_map(),
-        inverse: Listed::from_vec(change.inverse(alloc, rules, &doc)?),
-        undoes: Some(name),
-    };
+    let inverse = Listed::from_vec(change.inverse(alloc, rules, &doc)?);
+    let own = Name { client, serial };
+    let item = Item::own(alloc, own, change.step_map(), inverse, Some(name))?;
     items.push(item)?;
     made.push(change)?;
     Ok(Undone {

@@ -12,7 +12,7 @@ ghost use Rattle.pm_history.specs.Undos.{find};
 use crate::branch::Event;
 use crate::branches::Branches;
 use crate::item::Item;
-use crate::lane::paired;
+use crate::later::Later;
 use crate::latest::earliest;
 use crate::trimming::{Held, has_inverse, inverses};
 use crate::undoing::place_of;
@@ -86,7 +86,7 @@ fn inverse_at<'a, C>(
 {
     let item = &items[k];
     if has_inverse(item, undo, redo) {
-        return Some(item.inverse.as_slice());
+        return Some(item.inverse());
     }
     None
 }
@@ -96,6 +96,6 @@ fn mapping_behind<C>(alloc: Global, items: &[Item<C>], k: usize) -> Result<Mappi
     requires { k < length items.now }
     ensures { IfOk result (λ ms. ms ≡ paired (drop (k + 1) items.now)) }
 {
-    let maps = paired(alloc, &items[k + 1..])?;
-    Ok(Mapping::from_entries(maps))
+    let later = Later::of(alloc, &items[k + 1..], &items[items.len()..])?;
+    Ok(Mapping::from_entries(later.entries(alloc)?))
 }

@@ -56,12 +56,7 @@ impl<C> Branches<C> {
         ensures err { OnErr result (self.new ≡ self.old) }
     {
         self.is_trimmed = false;
-        self.items.push(Item {
-            name: None,
-            map,
-            inverse: Listed::new(alloc),
-            undoes: None,
-        })
+        self.items.push(Item::foreign(alloc, map)?)
     }
 
     /// An own step, made by the call `made_by`, is behind the timeline. A step of an edit joins the open event where the edit has
@@ -240,7 +235,7 @@ pub fn names_in<C>(alloc: Global, items: &[Item<C>]) -> Result<Listed<Name>, All
 {
     let mut names = Listed::new(alloc);
     for item in items {
-        if let Some(name) = item.name {
+        if let Some(name) = item.name() {
             names.push(name)?;
         }
     }

@@ -1,0 +1,22 @@
+-- How items are held.
+use Rattle.std.specs.Prelude.{◌≡◌, List, [], ◌∷◌, Some, None, refl}
+use Rattle.pm_map.specs.declared.step_map.Span.{Span}
+use Rattle.pm_map.specs.Through.{range_at}
+use Rattle.pm_history.specs.declared.item.Item.{Item}
+use Rattle.pm_history.specs.Tied.{undoes_of}
+
+-- a map that has no first range
+pub no-range-at : (rs : List Span) → range_at rs 0 ≡ None → [] ≡ rs
+no-range-at [] e = refl
+no-range-at (r ∷ rs) e = absurd (cc)
+
+-- a map that has a first range and no second one
+pub one-range-at : (rs : List Span) (r : Span) → range_at rs 0 ≡ Some r → range_at rs 1 ≡ None → r ∷ [] ≡ rs
+one-range-at [] r e f = absurd (cc)
+one-range-at (s ∷ []) r e f = cc
+one-range-at (s ∷ t ∷ ss) r e f = absurd (cc)
+
+-- a step without a name undoes none
+pub none-undone : {C : Type 0} (is : List (Item C)) → undoes_of None is ≡ None
+none-undone [] = refl
+none-undone (i ∷ is) = none-undone is

@@ -1,7 +1,0 @@
-use Rattle.std.proofs.Common.{sym, subst}
-use Rattle.pm_map.specs.Through.{ArePaired}
-use Rattle.pm_history.proofs.Lanes.{pairs-fit}
-use Rattle.pm_history.proofs.lane.Lane.of.Goals as goal
-
-pub from_entries-requires : goal.from_entries-requires
-from_entries-requires g c = subst ArePaired (sym c.in_ok-maps.ensures) (pairs-fit c.args.items.now)

@@ -1,0 +1,34 @@
+-- The items behind a step, and how positions go over their maps.
+use Rattle.std.specs.Prelude.{◌≡◌, ℕ, zero, suc, List, [], ◌∷◌, ◌++◌, Option, Some, None}
+use Rattle.std.specs.List.{AllByRecursion as Each}
+use Rattle.pm_map.specs.declared.mapping.Mirrored.{Mirrored}
+use Rattle.pm_map.specs.Fits.{FitBetween}
+use Rattle.pm_map.specs.Through.{ArePaired}
+use Rattle.pm_history.specs.declared.item.Item.{Item}
+use Rattle.pm_history.specs.declared.later.Later.{Later}
+use Rattle.pm_history.specs.declared.undoers.Undoers.{Undoers}
+use Rattle.pm_history.specs.Pairs.{later_in, paired}
+use Rattle.pm_history.specs.Undoers.{IsTableOf}
+
+module _ {C : Type 0} where
+  -- all that are lent, in order
+  abbrev pub items_of : Later C → List (Item C)
+  items_of l = l.items.now ++ l.made.now
+
+  -- the map of the item at this place, with its mirror
+  abbrev pub entry_at : List (Item C) → ℕ → Mirrored
+  entry_at [] k = record { map = []; later = None }
+  entry_at (i ∷ is) zero = record { map = i.map; later = later_in i.name i.map is }
+  entry_at (i ∷ is) (suc k) = entry_at is k
+
+  -- the table of these items; where there is none, none of them undoes a step
+  abbrev pub IsTold : Option Undoers → List (Item C) → Type 0
+  IsTold None is = Each (λ i. i.undoes ≡ None) is
+  IsTold (Some u) is = IsTableOf u is
+
+  -- The items stand for the mapping of their maps, between sizes that it fits.
+  pub record Leads (l : Later C) (ms : List Mirrored) (n k : ℕ) : Type 0 where
+    pub is : ms ≡ paired (items_of l)
+    pub paired_are : ArePaired ms
+    pub fits : FitBetween ms n k
+    pub told : IsTold l.undoers (items_of l)
