@@ -25,9 +25,6 @@ abbrev IsNameless : {C : Type 0} → Item C → Type 0
 IsNameless i = (i.name ≡ None) × (i.undoes ≡ None)
 
 module _ {C : Type 0} where
-  nameless-tied : (n : Name) (is : List (Item C)) → Each IsNameless is → NoneUndoes n is
-  nameless-tied n [] h = tt
-  nameless-tied n (i ∷ is) h = (ap (one_step (Some n)) h.0.1, nameless-tied n is h.1)
 
   nameless-once : (is : List (Item C)) → Each IsNameless is → Once is
   nameless-once [] h = tt

@@ -7,11 +7,6 @@ use Rattle.pm_map.specs.Positions.{MayLead, EachLed, IsItself}
 use Rattle.pm_client.specs.declared.cursors.Cursor.{Cursor}
 use Rattle.pm_client.specs.Cursors.{AreIn, AreWithin, cursor, moved_over}
 
-pub cursor-within : (n : ℕ) (cs : List Cursor) (i : ℕ) (c : Cursor) → AreWithin n cs → i < length cs → c ≡ get_or cs i c → c.pos ≤ n
-cursor-within n [] i c h w is = absurd (omega (arith, w))
-cursor-within n (x ∷ xs) zero c h w is = rw is h.0
-cursor-within n (x ∷ xs) (suc i) c h w is = cursor-within n xs i c h.1 (omega (arith, w)) is
-
 pub moved-on : (ms : List Mirrored) (cs : List Cursor) (i : ℕ) (c : Cursor) (moved : List Cursor) (p : ℕ) → i < length cs → c ≡ get_or cs i c → p ≡ (through ms c.pos c.side).pos
     → moved ++ moved_over ms (drop i cs) ≡ moved_over ms cs → (moved ++ cursor p c.side ∷ []) ++ moved_over ms (drop (i + 1) cs) ≡ moved_over ms cs
 moved-on ms cs i c moved p within is goes was =

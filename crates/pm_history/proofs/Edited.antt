@@ -109,32 +109,6 @@ module _ {Rules Doc Reason C : Type 0} (m : Meaning Rules Doc Reason C) (rules :
   foreign-at : (doc : Doc) (s : Step C) → s.own ≡ false → item_at m rules doc s ≡ foreign_item (m.step_map s.change)
   foreign-at doc s e = rw e refl
 
-  -- a foreign step more
-  pub history-noted : (client drawn : ℕ) (first doc : Doc) (steps : List (Step C)) (h : Branches C) (s : Step C) → IsHistoryOf m rules client drawn first steps h
-      → fold m rules first (changes_of steps) ≡ Some doc → s.own ≡ false → IsHistoryOf m rules client drawn first (steps ++ s ∷ []) (noted h (m.step_map s.change))
-  history-noted client drawn first doc steps h s k e own =
-      let all = items_from m rules first steps in
-      let j : Item C = foreign_item (m.step_map s.change) in
-      let at : item_at m rules doc s ≡ j = foreign-at doc s own in
-      let more : items_from m rules first (steps ++ s ∷ []) ≡ all ++ j ∷ [] = items-more first doc steps s e ∙ ap (λ i. all ++ i ∷ []) at in
-      let stands : StandsFor (live_names h) j (item_at m rules doc s) = record {
-        name_is = ap (λ (i : Item C). i.name) (sym at);
-        map_is = ap (λ (i : Item C). i.map) (sym at);
-        undoes_is = ap (λ (i : Item C). i.undoes) (sym at);
-        inverse_is = inl (ap (λ (i : Item C). i.inverse) (sym at));
-      } in
-      record {
-        remembers = remembers-more (live_names h) first doc steps h.items s j k.remembers e stands;
-        tidy = subst (λ is. IsTidy is (live_names h)) (sym more) (record {
-          names_differ = names-more all j k.tidy.names_differ (named-none all None refl);
-          once = once-more all j k.tidy.once refl;
-          differ = k.tidy.differ;
-        });
-        live = subst (λ is. Each (λ n. NoneUndoes n is) (live_names h)) (sym more) (live-more all j (live_names h) k.live refl);
-        stand = subst (λ is. Each (λ n. holds n is ≡ true) (live_names h)) (sym more) (stand-more all j (live_names h) k.stand);
-        drawn_are = subst (λ is. Each (HasDrawn client drawn) is) (sym more) (each-append (HasDrawn client drawn) all (j ∷ []) k.drawn_are ((tt, tt), tt));
-      }
-
 -- a name that the client has not drawn yet
 abbrev pub IsFresh : ℕ → ℕ → Name → Type 0
 IsFresh client drawn n = (n.client ≡ client) × (drawn < n.serial)

@@ -109,10 +109,6 @@ module _ {C : Type 0} where
       ∙ ap (λ es. record (replaced h k foreign kept) { undo = es }) (sym (events-stay gone kept h.undo known))
       ∙ ap (λ es. record (rebased h count foreign kept) { redo = es }) (sym (events-stay gone kept h.redo known))
 
-  -- and else the dropped steps leave them
-  pub left-rebased : (h : Branches C) (count at : ℕ) (foreign : List (List Span)) (kept : List (Item C)) → at ≡ length h.items - count → left_by h at foreign kept ≡ rebased h count foreign kept
-  left-rebased h count at foreign kept a = ap (λ k. left_by h k foreign kept) a
-
   later-drop : (items : List (Item C)) (k : ℕ) → k < length items → later_of (first_of (drop k items)) ≡ Some (paired (drop (k + 1) items))
   later-drop [] k l = absurd (omega (arith, l))
   later-drop (x ∷ xs) zero l = ap (λ j. Some (paired (drop j (x ∷ xs)))) one

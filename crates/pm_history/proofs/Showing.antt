@@ -28,9 +28,6 @@ module _ {Rules Doc Reason C : Type 0} (m : Meaning Rules Doc Reason C) (rules :
     ),
   )
 
-  pub may-rest : (b : C) (bs : List C) (is : List (Item C)) (end : Doc) → MayUndo m rules (b ∷ bs) is end → MayUndo m rules bs is end
-  may-rest b bs is end h = record { base = h.base; good = h.good; shows = h.shows; within = h.within.1 }
-
   -- the steps of a stored inverse are within the document after its step
   pub may-found : Laws m → (n : Name) (items more : List (Item C)) (doc end : Doc) → m.is_good rules doc → Shows m rules doc (items ++ more) end
       → (i : Item C) (later : List (Item C)) → find n items ≡ Some (i, later) → MayUndo m rules i.inverse (later ++ more) end

@@ -53,19 +53,6 @@ answer-is s a version steps =
     let given = (presented meaning s a (message.Submit version steps)).0 in
     (present-causes meaning s (Ok given) a (message.Submit version steps) refl given).0 refl
 
--- what Accepted tells is the submission's version and how many steps it has
-pub accepted-tells : (s : Schema) (a : LiveAuthority) (version : ℕ) (steps : List (Named Step)) (from count : ℕ)
-    → (presented meaning s a (message.Submit version steps)).0 ≡ Accepted from count
-    → accepted_text version (length steps) ≡ answer_text (presented meaning s a (message.Submit version steps)).0
-accepted-tells s a version steps from count e =
-    let h = subst (IsAnswer meaning s a (message.Submit version steps)) e (answer-is s a version steps) in
-    ap (λ n. accepted_text n (length steps)) (h.0 ∙ sym h.1.1.0) ∙ (ap (λ n. accepted_text from n) (sym h.1.1.1) ∙ ap answer_text (sym e))
-
--- Entries comes to no submission
-pub no-entries : (s : Schema) (a : LiveAuthority) (version : ℕ) (steps : List (Named Step)) (since : ℕ) (entries : List (Named Step))
-    → (presented meaning s a (message.Submit version steps)).0 ≡ Entries since entries → ⊥
-no-entries s a version steps since entries e = subst (IsAnswer meaning s a (message.Submit version steps)) e (answer-is s a version steps)
-
 applies-accepted : (s : Schema) (a : LiveAuthority) (version : ℕ) (steps : List (Named Step)) → Applies s a version steps
     → (presented meaning s a (message.Submit version steps)).0 ≡ Accepted version (length steps)
 applies-accepted s a version steps h =

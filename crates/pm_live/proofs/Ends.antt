@@ -25,17 +25,6 @@ speaks served.ReadFault is_open = tt
 speaks served.WriteFault is_open = tt
 speaks served.Spent is_open = tt
 
--- a status of serving is not Usage, and is not silent
-pub not-usage : (s : Served) (is_open : Bool) (status : Status) → status ≡ status_of s is_open → status ≡ Usage → ⊥
-not-usage s is_open status e u = subst Speaks (sym e ∙ u) (speaks s is_open)
-
-pub not-silent : (s : Served) (is_open : Bool) (status : Status) → status ≡ status_of s is_open → IsSilent status → ⊥
-not-silent s is_open status e h =
-    elim h [
-      | inl usage ↦ not-usage s is_open status e usage
-      | inr want ↦ subst Speaks (sym e ∙ want) (speaks s is_open)
-    ]
-
 faults-of : (s : Served) (is_open : Bool) (old new old_w new_w : ℕ) → ServeFaults s old new old_w new_w → FaultsAt (status_of s is_open) old new old_w new_w
 faults-of served.End true old new old_w new_w h = h
 faults-of served.End false old new old_w new_w h = h

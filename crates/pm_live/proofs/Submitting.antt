@@ -47,19 +47,6 @@ pub known-text : (live : Live) (version : ℕ) (id : List ℕ) (steps : List Ste
     → place_of id live.ids ≡ Some number → text ≡ answer_text (gives live number version steps).0 → text ≡ (submitted live version id steps).0
 known-text live version id steps number text place t = t ∙ ap (λ p. (by_place live version id steps p).0) (sym place)
 
-pub known-after : (live : Live) (version : ℕ) (id : List ℕ) (steps : List Step) (number : ℕ) (a : LiveAuthority)
-    → place_of id live.ids ≡ Some number → a ≡ (gives live number version steps).1
-    → standing live a live.ids ≡ (submitted live version id steps).1
-known-after live version id steps number a place h =
-    let given = gives live number version steps in
-    ap (λ x. standing live x live.ids) h
-    ∙ (same (is_accepted given.0) ∙ kept-standing live number version steps live.ids live.ids refl (is_accepted given.0) refl
-    ∙ ap (λ p. (by_place live version id steps p).1) (sym place))
-  where
-    same : (b : Bool) → standing live (gives live number version steps).1 live.ids ≡ standing live (gives live number version steps).1 (if b then live.ids else live.ids)
-    same true = refl
-    same false = refl
-
 -- a client whose ID is not there yet, where there is room
 first-is : (live : Live) (version : ℕ) (id : List ℕ) (steps : List Step) → place_of id live.ids ≡ None → nat_lt (length live.ids) MAX_IDS ≡ true
     → let given = gives live (length live.ids) version steps in
@@ -87,16 +74,6 @@ first-after live version id steps a accepted ids place room h k e =
     ∙ (ap (λ x. standing live given.1 x) (e ∙ ap (λ b. if b then live.ids ++ id ∷ [] else live.ids) k)
     ∙ (kept-standing live (length live.ids) version steps live.ids (live.ids ++ id ∷ []) refl (is_accepted given.0) refl
     ∙ sym (ap (λ x. x.1) (first-is live version id steps place room))))
-
--- a client whose ID is not there, where there is no room
-pub full-is : (live : Live) (version : ℕ) (id : List ℕ) (steps : List Step) → place_of id live.ids ≡ None → nat_lt (length live.ids) MAX_IDS ≡ false
-    → submitted live version id steps ≡ (fault_text BadClients, live)
-full-is live version id steps place full =
-    let given = gives live (length live.ids) version steps in
-    ap (λ p. by_place live version id steps p) place
-    ∙ ap (λ b. if b
-    then (answer_text given.0, if is_accepted given.0 then standing live given.1 (live.ids ++ id ∷ []) else live)
-    else (fault_text BadClients, live)) full
 
 -- the same, by the number of the IDs
 pub room-lt : (ids : List (List ℕ)) → length ids < MAX_IDS → nat_lt (length ids) MAX_IDS ≡ true

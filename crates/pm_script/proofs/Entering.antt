@@ -71,13 +71,3 @@ nobody line (c ∷ clients) (e ∷ entered) l none =
 
 pub by-nobody : (line : List ℕ) (clients : List ClientEntry) (entered : List Bool) → length entered ≡ length clients → entrant_on line ≡ None → entered ≡ after_line line clients entered
 by-nobody line clients entered l h = nobody line clients entered l (λ name. ap (λ o. unwrap_or (option_map (λ entrant. pointwise nat_eq entrant name) o) false) h)
-
--- a line on which the client of this name does
-somebody : (line name : List ℕ) (clients : List ClientEntry) (entered : List Bool) → ((other : List ℕ) → enters_on other line ≡ pointwise nat_eq name other) → after_entrant name clients entered ≡ after_line line clients entered
-somebody line name [] entered is = refl
-somebody line name (c ∷ clients) [] is = refl
-somebody line name (c ∷ clients) (e ∷ entered) is =
-    ap (λ b. (e || b) ∷ after_entrant name clients entered) (sym (is c.name)) ∙ ap (λ es. (e || enters_on c.name line) ∷ es) (somebody line name clients entered is)
-
-pub by-name : (line name : List ℕ) (clients : List ClientEntry) (entered : List Bool) → entrant_on line ≡ Some name → after_entrant name clients entered ≡ after_line line clients entered
-by-name line name clients entered h = somebody line name clients entered (λ other. ap (λ o. unwrap_or (option_map (λ entrant. pointwise nat_eq entrant other) o) false) h)

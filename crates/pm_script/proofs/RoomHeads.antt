@@ -28,29 +28,6 @@ read head = Ok head
 
 -- ---- a head is refused on one of its three lines
 
-on-line : (n : ℕ) (code : Code) (refusal : Refusal) → failed refusal ≡ failed (refused n code) → n ≤ 3 → refusal.line ≤ 3
-on-line n code refusal h most =
-    let same : refusal ≡ refused n code = cc in
-    subst (λ (r : Refusal). r.line ≤ 3) (sym same) most
-
-with-early : (s : Schema) (doc : Doc) (r : Result (List ClientEntry) Code) (refusal : Refusal) → failed refusal ≡ with_clients s doc r → refusal.line ≤ 3
-with-early s doc (Ok clients) refusal h = absurd (cc)
-with-early s doc (Err code) refusal h = on-line 3 code refusal h (omega arith)
-
-doc-early : (s : Schema) (doc : Result Doc Code) (lines : List (List ℕ)) (refusal : Refusal) → AfterDoc Plain s doc lines (Err refusal) → refusal.line ≤ 3
-doc-early s (Err code) lines refusal h = on-line 2 code refusal h (omega arith)
-doc-early s (Ok doc) [] refusal h = on-line 3 _ refusal h (omega arith)
-doc-early s (Ok doc) (line ∷ lines) refusal h = with-early s doc (clients_line Plain line) refusal h
-
-schema-early : (s : Result Schema Code) (lines : List (List ℕ)) (refusal : Refusal) → AfterSchema Plain s lines (Err refusal) → refusal.line ≤ 3
-schema-early (Err code) lines refusal h = on-line 1 code refusal h (omega arith)
-schema-early (Ok s) [] refusal h = on-line 2 _ refusal h (omega arith)
-schema-early (Ok s) (line ∷ lines) refusal h = doc-early s h.0 lines refusal h.2
-
-pub head-early : (lines : List (List ℕ)) (refusal : Refusal) → HeadIs Plain lines (Err refusal) → refusal.line ≤ 3
-head-early [] refusal h = on-line 1 _ refusal h (omega arith)
-head-early (line ∷ lines) refusal h = schema-early h.0 lines refusal h.2
-
 -- ---- a head is that of its three lines
 
 doc-three : (s : Schema) (doc : Result Doc Code) (lines : List (List ℕ)) (r : Result Head Refusal) → AfterDoc Plain s doc lines r → AfterDoc Plain s doc (take 1 lines) r

@@ -40,10 +40,6 @@ module _ {A : Type 0} where
   spans-beside f [] = refl
   spans-beside f (g ∷ gs) = rw (spans-shifted f g, spans-beside (shifted (spans g) f) gs) refl
 
-  pub spans-along : (gs : List (List Span)) (f : List (Piece A)) → spans (along gs f) ≡ over gs (spans f)
-  spans-along [] f = refl
-  spans-along (g ∷ gs) f = spans-along gs (shifted_edit g f) ∙ ap (over gs) (spans-shifted g f)
-
   along-front : (ls : List (List (Piece A))) (b : List (Piece A)) (bs : List (List (Piece A))) → along_all ls (b ∷ bs) ≡ along_all (edits_beside (spans b) ls) bs
   along-front [] b bs = refl
   along-front (l ∷ ls) b bs =

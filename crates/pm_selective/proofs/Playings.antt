@@ -78,9 +78,6 @@ module _ (schema : Schema) {Op : Type 0} (s : Room) (line : Line Op Step) where
 
   -- ---- whether an event is found
 
-  pub other-act : ((number : ℕ) → line.act ≡ UndoEvent number → ⊥) → IsFound schema s line None
-  other-act h = λ f. h f.number f.act_is
-
   pub raw-member : (name serial : ℕ) → slice_get s.members line.client ≡ Some (Raw name serial) → IsFound schema s line None
   raw-member name serial stood = λ f. no-editor (slice_get s.members line.client) name serial f.client stood f.at
 

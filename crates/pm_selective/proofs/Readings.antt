@@ -92,12 +92,7 @@ reaches-none m xs i = sym (append-nil xs) ∙ ap (λ z. xs ++ reaches z) (sym (n
 
 -- ---- one more of a list read
 
-pub beyond-next : (r : Span) (xs : List Reach) (k : ℕ) (d : Reach) → k < length xs → beyond_all r (drop k xs) ≡ is_beyond r (get_or xs k d) && beyond_all r (drop (k + 1) xs)
-beyond-next r xs k d l = ap (beyond_all r) (drop-cons xs k d l) ∙ ap (λ j. is_beyond r (get_or xs k d) && beyond_all r (drop j xs)) (one-more k)
-
 module _ {C : Type 0} where
-  pub splices-next : (is : List (Item C)) (k : ℕ) (d : Item C) → k < length is → all_splices (drop k is) ≡ is_splice_map (get_or is k d).map && all_splices (drop (k + 1) is)
-  splices-next is k d l = ap all_splices (drop-cons is k d l) ∙ ap (λ j. is_splice_map (get_or is k d).map && all_splices (drop j is)) (one-more k)
 
   pub named-none : (ns : List Name) (is : List (Item C)) → length is < length ns → are_named ns is ≡ false
   named-none [] is h = absurd (omega (arith, h))
@@ -114,10 +109,6 @@ module _ {C : Type 0} where
       ap (λ xs. are_named xs (drop k is)) (drop-cons ns k n h)
       ∙ ap (λ xs. are_named (get_or ns k n ∷ drop (suc k) ns) xs) (drop-cons is k i l)
       ∙ ap (λ j. one_step (Some (get_or ns k n)) (get_or is k i).name && are_named (drop j ns) (drop j is)) (one-more k)
-
-  pub from-next : (n : Name) (is : List (Item C)) (k : ℕ) (i : Item C) → k < length is → one_step (Some n) (get_or is k i).name ≡ false → from_name n (drop k is) ≡ from_name n (drop (k + 1) is)
-  from-next n is k i l e =
-      ap (from_name n) (drop-cons is k i l) ∙ ap (λ t. if t then get_or is k i ∷ drop (suc k) is else from_name n (drop (suc k) is)) e ∙ ap (λ j. from_name n (drop j is)) (one-more k)
 
   pub from-here : (n : Name) (is : List (Item C)) (k : ℕ) (i : Item C) → k < length is → one_step (Some n) (get_or is k i).name ≡ true → drop k is ≡ from_name n (drop k is)
   from-here n is k i l e =

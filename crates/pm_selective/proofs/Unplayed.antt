@@ -25,15 +25,6 @@ some-inj x y h = cc
 same-editor : (c d : Client) → Editor c ≡ Editor d → c ≡ d
 same-editor c d h = cc
 
--- each cursor stays
-pub cursors-same : (s : Room) → CursorsStay meaning s s
-cursors-same s i c d at_c at_d pinched j p x stands token has =
-    let same : c ≡ d = same-editor c d (some-inj (Editor c) (Editor d) (sym at_c ∙ at_d)) in (
-      p,
-      subst (λ (e : Client). slice_get e.cursors j ≡ Some (cursor p After)) same stands,
-      subst (λ (e : Client). slice_get (tokens_of meaning s.authority e) p ≡ Some x) same token,
-    )
-
 set-same : {A : Type 0} (xs : List A) (i : ℕ) (x : A) → slice_get xs i ≡ Some x → xs ≡ slice_set xs i x
 set-same [] i x h = absurd (cc)
 set-same (y ∷ xs) zero x h = let same : y ≡ x = some-inj y x h in ap (λ z. z ∷ xs) same

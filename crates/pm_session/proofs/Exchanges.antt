@@ -60,11 +60,6 @@ module _ {Rules Doc Reason C : Type 0} (m : Meaning Rules Doc Reason C) (rules :
   pub sent : (x : Message C) → x ≡ message_of c kind → answer ≡ (presented m rules a x).0 → new ≡ (presented m rules a x).1 → Sent
   sent x is e f = record { answer_is = rw is at e; authority_is = rw is at f }
 
-  -- the client stands to the log that it sent to, once it kept the answer
-  pub stands-after : (s : Sent) (keeper : Client C Rules Doc Reason) → keeper ≡ kept (composed c kind) answer → Laws m → IsKept m rules a → Kin m rules a.first a.log c
-      → Kin m rules new.first new.log keeper
-  stands-after s keeper keeps laws stood kin = rw (keeps, s.answer_is, s.authority_is) (given-moved m rules laws a stood c kin kind).after.own
-
 -- how an exchange ends
 module _ {Rules Doc Reason C : Type 0} (m : Meaning Rules Doc Reason C) (rules : Rules) (c : Client C Rules Doc Reason) (kind : MessageKind) (answer : Answer C Rules Doc Reason)
     (t : AnswerSummary C Rules Doc Reason) (is : t ≡ told answer) (keeper : Client C Rules Doc Reason) (keeps : keeper ≡ kept (composed c kind) answer) where

@@ -186,10 +186,6 @@ module _ {Rules Doc Reason C : Type 0} (m : Meaning Rules Doc Reason C) (rules :
       by-test false = rests
       by-test true = by-run (run m rules a.doc 0 steps) refl
 
-  -- each step of the submission has the client's name
-  pub forged-named : (version : ℕ) → NamedBy name (Submit version steps)
-  forged-named version = All-from_recursion (IsOwn name) steps (named-own name (serial + 1) cs)
-
 -- how many serials a raw client drew
 abbrev drawn_of : {Rules Doc Reason C : Type 0} → Member C Rules Doc Reason → ℕ
 drawn_of (Raw name serial) = serial

@@ -63,15 +63,6 @@ module _ {Rules Doc Reason C : Type 0} (m : Meaning Rules Doc Reason C) (rules :
           };
         }
 
-  -- a message of a number that is there is named by the client
-  pub message-owned : (j : ℕ) (x : Message C) → message_at c j ≡ Some x → NamedBy c.name x
-  message-owned j x e = from c.messages (j - 1) stands.messages e
-    where
-      from : (xs : List (Message C)) (k : ℕ) → Each (NamedBy c.name) xs → slice_get xs k ≡ Some x → NamedBy c.name x
-      from [] k h e = absurd (cc)
-      from (y ∷ ys) zero h e = let same : y ≡ x = cc in subst (NamedBy c.name) same h.0
-      from (y ∷ ys) (suc k) h e = from ys k h.1 e
-
   -- an answer that was kept is taken
   pub taken-stands : (n : ℕ) → EditorStands m rules first log (taken_at m rules c n).1
   taken-stands n =
