@@ -104,12 +104,8 @@ pub fn item_of<C: Change>(
     requires applies { ((next : C.Doc) × (C.means.outcome rules.now change.now doc.now ≡ Ok next)) }
     ensures { IfOk result (λ i. i ≡ own_item C.means rules.now name.client doc.now change.now name.serial None) }
 {
-    Ok(Item {
-        name: Some(name),
-        map: change.step_map(),
-        inverse: Listed::from_vec(change.inverse(alloc, rules, doc)?),
-        undoes: None,
-    })
+    let inverse = Listed::from_vec(change.inverse(alloc, rules, doc)?);
+    Item::own(alloc, name, change.step_map(), inverse, None)
 }
 
 /// The maps of these steps, in order.
