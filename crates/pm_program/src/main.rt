@@ -1,25 +1,10 @@
 //! Plays a session of ProseMirror documents that is read from standard input, and writes its report.
 #![tactic(auto)]
 
-mod answer;
-mod call;
-mod files;
-mod finding;
-mod late;
-mod making;
-mod obeying;
-mod one_output;
-mod replaying;
-mod rooms;
-mod running;
-mod selecting;
-mod summing;
 #[cfg(test)]
 mod tests;
-mod version;
-mod words;
 
-use call::{Status, run};
+use pm_call::{Status, run};
 use pm_io::{OpenGate, StdSink, StdSource};
 use std::alloc::{AllocError, Global};
 use std::process::ExitCode;

@@ -1,6 +1,6 @@
 //! What no session file shows: words of no form, a read or a write that fails, and that clients have threads of their own.
 use super::*;
-use crate::call::plain;
+use pm_call::plain;
 use pm_io::{Gate, MemSink, MemSource, Put, Sink, SureSource};
 use std::sync::Wait;
 use std::sync::atomic::{AtomicBool, AtomicU32, Ordering};

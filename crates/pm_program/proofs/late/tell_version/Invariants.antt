@@ -1,4 +1,0 @@
-use Rattle.pm_program.proofs.late.tell_version.Given as goal
-
-abbrev pub ghosts-version_text : goal.ghosts-version_text
-ghosts-version_text a = record { name = a.blank.name; parts = a.blank.parts }
