@@ -1,15 +1,14 @@
 //! Ops become steps.
-ghost use Rattle.std.specs.Prelude.{◌≡◌, map, IfOk};
+ghost use Rattle.std.specs.Prelude.{◌≡◌, ◌∷◌, [], IfOk};
 ghost use Rattle.pm_step.specs.Steps.{step_of};
 
 use pm_apply::DocChange;
 use pm_change::MakeError;
-use pm_edit::steps_for;
+use pm_edit::{Edited, edit_for};
 use pm_node::Document;
 use pm_ops::Op;
 use pm_schema::Schema;
 use pm_session::{Made, Maker};
-use pm_step::Step;
 use std::alloc::{AllocError, Global};
 
 /// Makes the step of each op.
@@ -30,9 +29,9 @@ impl Maker<DocChange> for EditMaker {
         doc: &Document,
         op: &Op,
     ) -> Result<Made<DocChange>, MakeError> {
-        match steps_for(alloc, schema, doc, op) {
-            Ok(steps) => match as_changes(alloc, steps) {
-                Ok(steps) => Ok(Made { steps, end: None }),
+        match edit_for(alloc, schema, doc, op) {
+            Ok(edited) => match made_of(alloc, edited) {
+                Ok(made) => Ok(made),
                 Err(AllocError) => Err(MakeError::NoMemory),
             },
             Err(MakeError::NoStep(reason)) => Err(MakeError::NoStep(reason)),
@@ -43,12 +42,13 @@ impl Maker<DocChange> for EditMaker {
     ghost some = { λ maker schema doc op h. some_step schema doc op h };
 }
 
-fn as_changes(alloc: Global, steps: Vec<Step>) -> Result<Vec<DocChange>, AllocError>
-    ensures { IfOk result (λ v. v.items ≡ map step_of steps.items) }
+/// The edit's step as a change, with the document that it makes, where the edit has made it.
+fn made_of(alloc: Global, edited: Edited) -> Result<Made<DocChange>, AllocError>
+    ensures step { IfOk result (λ made. made.steps.items ≡ step_of edited.step ∷ []) }
+    ensures doc { IfOk result (λ made. made.end ≡ edited.doc) }
 {
-    let mut changes = Vec::new(alloc);
-    for step in steps {
-        changes.push(DocChange::new(alloc, step)?)?;
-    }
-    Ok(changes)
+    let Edited { step, doc } = edited;
+    let mut steps = Vec::new(alloc);
+    steps.push(DocChange::new(alloc, step)?)?;
+    Ok(Made { steps, end: doc })
 }

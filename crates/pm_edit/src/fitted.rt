@@ -1,5 +1,5 @@
 //! Text, slices and nodes that are fitted in.
-ghost use Rattle.std.specs.Prelude.{◌≡◌, ◌≤◌, length};
+ghost use Rattle.std.specs.Prelude.{◌≡◌, ◌≤◌, length, Some, IfOk};
 ghost use Rattle.pm_tokens.specs.Faults.{Valid};
 ghost use Rattle.pm_text.specs.Units.{utf16};
 ghost use Rattle.pm_node.specs.Trees.{node_tokens};
@@ -8,12 +8,13 @@ ghost use Rattle.pm_resolve.specs.Places.{marks_at, inclusive_in};
 ghost use Rattle.pm_fit.specs.Fits.{fit_step};
 ghost use Rattle.pm_edit.specs.Nodes.{text_slice};
 ghost use Rattle.pm_edit.specs.Edits.{fitted, insert_text, delete, paste, insert_node};
-ghost use Rattle.pm_edit.specs.Ops.{Answers};
+ghost use Rattle.pm_edit.specs.Ops.{Answers, AnswersEdited, Makes};
 
+use crate::edited::{Edited, step_alone};
 use crate::places::{in_range, is_position, place_at};
 use crate::slices::{node_slice, text_slice};
 use pm_change::{MakeError, NoStep};
-use pm_fit::fit;
+use pm_fit::{Fitted, fit};
 use pm_node::{Document, Node, Units};
 use pm_schema::Schema;
 use pm_slice::Slice;
@@ -34,14 +35,7 @@ pub fn insert_text(
     requires { Valid (documents_of schema.now.spec) doc.now }
     ensures { Answers (insert_text schema.now doc.now from to (utf16 text.now)) result }
 {
-    if !in_range(doc, from, to) {
-        return Err(MakeError::NoStep(NoStep::Range));
-    }
-    let units = Units::new(units_of(alloc, text)?);
-    if from == to && units.len() == 0 {
-        return Err(MakeError::NoStep(NoStep::NotThere));
-    }
-    fit_text(alloc, schema, doc, from, to, &units)
+    step_alone(text_edited(alloc, schema, doc, from, to, text))
 }
 
 /// Takes from..to out. `Range` comes exactly where not from <= to <= size, `NotThere` where the range is empty, and `NoFit`
@@ -56,13 +50,7 @@ pub fn delete(
     requires { Valid (documents_of schema.now.spec) doc.now }
     ensures { Answers (delete schema.now doc.now from to) result }
 {
-    if !in_range(doc, from, to) {
-        return Err(MakeError::NoStep(NoStep::Range));
-    }
-    if from == to {
-        return Err(MakeError::NoStep(NoStep::NotThere));
-    }
-    fit_in(alloc, schema, doc, from, to, &Slice::empty(alloc))
+    step_alone(deletion_edited(alloc, schema, doc, from, to))
 }
 
 /// Puts a slice in place of from..to, fitted to the place. `Range` comes exactly where not from <= to <= size, `NotThere`
@@ -78,13 +66,7 @@ pub fn paste(
     requires { Valid (documents_of schema.now.spec) doc.now }
     ensures { Answers (paste schema.now doc.now from to slice.now) result }
 {
-    if !in_range(doc, from, to) {
-        return Err(MakeError::NoStep(NoStep::Range));
-    }
-    if from == to && slice.size() == 0 {
-        return Err(MakeError::NoStep(NoStep::NotThere));
-    }
-    fit_in(alloc, schema, doc, from, to, slice)
+    step_alone(paste_edited(alloc, schema, doc, from, to, slice))
 }
 
 /// Puts a node in at a position, fitted to the place. `Range` comes exactly where the position passes the size, and `NoFit`
@@ -98,6 +80,87 @@ pub fn insert_node(
 ) -> Result<Step, MakeError>
     requires { Valid (documents_of schema.now.spec) doc.now }
     ensures { Answers (insert_node schema.now doc.now pos (node_tokens node.now)) result }
+{
+    step_alone(node_edited(alloc, schema, doc, pos, node))
+}
+
+/// As `insert_text`, with the document that the step makes.
+pub fn text_edited(
+    alloc: Global,
+    schema: &Schema,
+    doc: &Document,
+    from: u64,
+    to: u64,
+    text: &str,
+) -> Result<Edited, MakeError>
+    requires { Valid (documents_of schema.now.spec) doc.now }
+    ensures step { AnswersEdited (insert_text schema.now doc.now from to (utf16 text.now)) result }
+    ensures doc { IfOk result (Makes (documents_of schema.now.spec) doc.now) }
+{
+    if !in_range(doc, from, to) {
+        return Err(MakeError::NoStep(NoStep::Range));
+    }
+    let units = Units::new(units_of(alloc, text)?);
+    if from == to && units.len() == 0 {
+        return Err(MakeError::NoStep(NoStep::NotThere));
+    }
+    fit_text(alloc, schema, doc, from, to, &units)
+}
+
+/// As `delete`, with the document that the step makes.
+pub fn deletion_edited(
+    alloc: Global,
+    schema: &Schema,
+    doc: &Document,
+    from: u64,
+    to: u64,
+) -> Result<Edited, MakeError>
+    requires { Valid (documents_of schema.now.spec) doc.now }
+    ensures step { AnswersEdited (delete schema.now doc.now from to) result }
+    ensures doc { IfOk result (Makes (documents_of schema.now.spec) doc.now) }
+{
+    if !in_range(doc, from, to) {
+        return Err(MakeError::NoStep(NoStep::Range));
+    }
+    if from == to {
+        return Err(MakeError::NoStep(NoStep::NotThere));
+    }
+    fit_in(alloc, schema, doc, from, to, &Slice::empty(alloc))
+}
+
+/// As `paste`, with the document that the step makes.
+pub fn paste_edited(
+    alloc: Global,
+    schema: &Schema,
+    doc: &Document,
+    from: u64,
+    to: u64,
+    slice: &Slice,
+) -> Result<Edited, MakeError>
+    requires { Valid (documents_of schema.now.spec) doc.now }
+    ensures step { AnswersEdited (paste schema.now doc.now from to slice.now) result }
+    ensures doc { IfOk result (Makes (documents_of schema.now.spec) doc.now) }
+{
+    if !in_range(doc, from, to) {
+        return Err(MakeError::NoStep(NoStep::Range));
+    }
+    if from == to && slice.size() == 0 {
+        return Err(MakeError::NoStep(NoStep::NotThere));
+    }
+    fit_in(alloc, schema, doc, from, to, slice)
+}
+
+/// As `insert_node`, with the document that the step makes.
+pub fn node_edited(
+    alloc: Global,
+    schema: &Schema,
+    doc: &Document,
+    pos: u64,
+    node: &Node,
+) -> Result<Edited, MakeError>
+    requires { Valid (documents_of schema.now.spec) doc.now }
+    ensures step { AnswersEdited (insert_node schema.now doc.now pos (node_tokens node.now)) result }
+    ensures doc { IfOk result (Makes (documents_of schema.now.spec) doc.now) }
 {
     if !is_position(doc, pos) {
         return Err(MakeError::NoStep(NoStep::Range));
@@ -114,11 +177,12 @@ fn fit_text(
     from: u64,
     to: u64,
     units: &Units,
-) -> Result<Step, MakeError>
+) -> Result<Edited, MakeError>
     requires valid { Valid (documents_of schema.now.spec) doc.now }
     requires order { from ≤ to }
     requires within { to ≤ length doc.now.tokens }
-    ensures { Answers (fitted (fit_step schema.now doc.now from to (text_slice (marks_at (inclusive_in schema.now.spec) doc.now from) units.now))) result }
+    ensures step { AnswersEdited (fitted (fit_step schema.now doc.now from to (text_slice (marks_at (inclusive_in schema.now.spec) doc.now from) units.now))) result }
+    ensures doc { IfOk result (Makes (documents_of schema.now.spec) doc.now) }
 {
     let place = place_at(alloc, doc, from)?;
     let marks = place.marks(alloc, schema)?;
@@ -134,14 +198,27 @@ fn fit_in(
     from: u64,
     to: u64,
     slice: &Slice,
-) -> Result<Step, MakeError>
+) -> Result<Edited, MakeError>
     requires valid { Valid (documents_of schema.now.spec) doc.now }
     requires order { from ≤ to }
     requires within { to ≤ length doc.now.tokens }
-    ensures { Answers (fitted (fit_step schema.now doc.now from to slice.now)) result }
+    ensures step { AnswersEdited (fitted (fit_step schema.now doc.now from to slice.now)) result }
+    ensures doc { IfOk result (Makes (documents_of schema.now.spec) doc.now) }
 {
     match fit(alloc, schema, doc, from, to, slice)? {
-        Some(step) => Ok(step),
+        Some(fitted) => Ok(edited_of(fitted)),
         None => Err(MakeError::NoStep(NoStep::NoFit)),
+    }
+}
+
+/// What fits, as an edit's step with its document.
+fn edited_of(fitted: Fitted) -> Edited
+    ensures step { result.step ≡ fitted.step }
+    ensures doc { result.doc ≡ Some fitted.doc }
+{
+    let Fitted { step, doc } = fitted;
+    Edited {
+        step,
+        doc: Some(doc),
     }
 }

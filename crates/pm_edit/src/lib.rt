@@ -3,6 +3,7 @@
 
 mod attributes;
 mod beginning;
+mod edited;
 mod empty;
 mod fitted;
 mod joining;
@@ -18,11 +19,12 @@ mod typing;
 mod wrapping;
 
 pub use attributes::{set_attr, set_doc_attr};
+pub use edited::Edited;
 pub use fitted::{delete, insert_node, insert_text, paste};
 pub use joining::join;
 pub use lifting::lift;
 pub use marking::{add_mark, remove_mark};
 pub use splitting::split;
-pub use steps::steps_for;
+pub use steps::{edit_for, steps_for};
 pub use typing::set_type;
 pub use wrapping::wrap;

@@ -1,12 +1,16 @@
 //! The steps of an op.
-ghost use Rattle.std.specs.Prelude.{◌∷◌, []};
+ghost use Rattle.std.specs.Prelude.{◌∷◌, [], IfOk};
 ghost use Rattle.pm_tokens.specs.Faults.{Valid};
 ghost use Rattle.pm_schema.specs.Documents.{documents_of};
 ghost use Rattle.pm_step.specs.Steps.{step_of};
-ghost use Rattle.pm_edit.specs.Ops.{Answers, AnswersList, answer_of, steps_of};
+ghost use Rattle.pm_edit.specs.Ops.{Answers, AnswersOne, AnswersList, Makes, answer_of, steps_of};
 
 use crate::attributes::{set_attr, set_doc_attr};
-use crate::fitted::{delete, insert_node, insert_text, paste};
+use crate::edited::Edited;
+use crate::fitted::{
+    delete, deletion_edited, insert_node, insert_text, node_edited, paste, paste_edited,
+    text_edited,
+};
 use crate::joining::join;
 use crate::lifting::lift;
 use crate::marking::{add_mark, remove_mark};
@@ -33,6 +37,32 @@ pub fn steps_for(
     match step_for(alloc, schema, doc, op) {
         Ok(step) => list_of(alloc, step),
         Err(error) => Err(error),
+    }
+}
+
+/// The step of an op on a document, and the document that it makes, where the edit has made it; or why the op's edit makes
+/// none. An edit that fits something in has made it: text, a slice or a node that is put in, and a range that is taken out.
+pub fn edit_for(
+    alloc: Global,
+    schema: &Schema,
+    doc: &Document,
+    op: &Op,
+) -> Result<Edited, MakeError>
+    requires { Valid (documents_of schema.now.spec) doc.now }
+    ensures steps { AnswersOne (steps_of schema.now doc.now op.now) result }
+    ensures doc { IfOk result (Makes (documents_of schema.now.spec) doc.now) }
+{
+    match op {
+        Op::InsertText { from, to, text } => {
+            text_edited(alloc, schema, doc, *from, *to, text.as_str())
+        }
+        Op::Delete { from, to } => deletion_edited(alloc, schema, doc, *from, *to),
+        Op::Paste { from, to, slice } => paste_edited(alloc, schema, doc, *from, *to, slice),
+        Op::InsertNode { pos, node } => node_edited(alloc, schema, doc, *pos, node),
+        _ => match step_for(alloc, schema, doc, op) {
+            Ok(step) => Ok(Edited { step, doc: None }),
+            Err(error) => Err(error),
+        },
     }
 }
 

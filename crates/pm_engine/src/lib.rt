@@ -52,8 +52,8 @@ pub use pm_step::{
 };
 
 // Edits: what an editor asks for, the steps that do it, and a slice fitted to a place.
-pub use pm_edit::steps_for;
-pub use pm_fit::fit;
+pub use pm_edit::{Edited, edit_for, steps_for};
+pub use pm_fit::{Fitted, fit};
 pub use pm_ops::Op;
 
 // Working together: the authority with its log, the clients, what they send and what is answered.

@@ -3,3 +3,4 @@ pub mod Paths
 pub mod Wrappings
 pub mod Fits
 pub mod Firsts
+pub mod Fitteds

@@ -1,18 +1,18 @@
 //! The nodes that close an empty slice.
-ghost use Rattle.std.specs.Prelude.{◌≡◌, ◌+◌, ◌-◌, ◌*◌, ◌≤◌, ◌<◌, ◌^◌, ◌++◌, length, map, [], ◌∷◌, IfOk, OnOk, option_map};
+ghost use Rattle.std.specs.Prelude.{◌≡◌, ◌+◌, ◌-◌, ◌*◌, ◌≤◌, ◌<◌, ◌^◌, ◌++◌, length, map, [], ◌∷◌, IfOk, IfSome, OnOk, option_map};
 ghost use Rattle.pm_tokens.specs.Tokens.{Open, Close};
 ghost use Rattle.pm_tokens.specs.Scan.{depth_at};
 ghost use Rattle.pm_tokens.specs.Faults.{Valid};
 ghost use Rattle.pm_schema.specs.Documents.{documents_of};
-ghost use Rattle.pm_step.specs.Steps.{step_of};
+ghost use Rattle.pm_fit.specs.Fitteds.{step_in, Makes};
 ghost use Rattle.pm_fit.specs.Candidates.{falling, hollow, closing_at};
 ghost use Rattle.pm_fit.specs.Firsts.{IsFirst};
 
+use crate::fitted::Fitted;
 use crate::target::Target;
 use pm_marks::Same;
 use pm_node::{Body, Fragment, Node};
 use pm_resolve::Place;
-use pm_step::Step;
 use std::alloc::{AllocError, Global};
 use std::sync::Arc;
 
@@ -66,7 +66,7 @@ impl Target<'_> {
         right: &Place<'_>,
         least: usize,
         more: usize,
-    ) -> Result<Option<Step>, AllocError>
+    ) -> Result<Option<Fitted>, AllocError>
         requires valid { Valid (documents_of self.now.schema.now.spec) self.now.doc.now }
         requires start_in { left.now.doc ≡ self.now.doc.now }
         requires start { left.now.pos ≡ self.now.from }
@@ -74,11 +74,12 @@ impl Target<'_> {
         requires end { right.now.pos ≡ self.now.to }
         requires left_depth { least + more ≤ depth_at self.now.doc.now.tokens self.now.from }
         requires right_depth { least + more ≤ depth_at self.now.doc.now.tokens self.now.to }
-        ensures { IfOk result (λ o. IsFirst self.now.schema.now self.now.doc.now self.now.from self.now.to
-            (map (λ i. closing_at self.now.doc.now self.now.from self.now.to (least + i)) (falling more)) (option_map step_of o)) }
+        ensures step { IfOk result (λ o. IsFirst self.now.schema.now self.now.doc.now self.now.from self.now.to
+            (map (λ i. closing_at self.now.doc.now self.now.from self.now.to (least + i)) (falling more)) (option_map step_in o)) }
+        ensures makes { IfOk result (λ o. IfSome o (Makes (documents_of self.now.schema.now.spec) self.now.doc.now)) }
     {
-        if let Some(step) = self.try_closing(alloc, left, right, least + more)? {
-            return Ok(Some(step));
+        if let Some(fitted) = self.try_closing(alloc, left, right, least + more)? {
+            return Ok(Some(fitted));
         }
         if more == 0 {
             return Ok(None);
@@ -93,7 +94,7 @@ impl Target<'_> {
         left: &Place<'_>,
         right: &Place<'_>,
         depth: usize,
-    ) -> Result<Option<Step>, AllocError>
+    ) -> Result<Option<Fitted>, AllocError>
         requires valid { Valid (documents_of self.now.schema.now.spec) self.now.doc.now }
         requires start_in { left.now.doc ≡ self.now.doc.now }
         requires start { left.now.pos ≡ self.now.from }
@@ -101,8 +102,9 @@ impl Target<'_> {
         requires end { right.now.pos ≡ self.now.to }
         requires left_depth { depth ≤ depth_at self.now.doc.now.tokens self.now.from }
         requires right_depth { depth ≤ depth_at self.now.doc.now.tokens self.now.to }
-        ensures { IfOk result (λ o. IsFirst self.now.schema.now self.now.doc.now self.now.from self.now.to
-            (closing_at self.now.doc.now self.now.from self.now.to depth ∷ []) (option_map step_of o)) }
+        ensures step { IfOk result (λ o. IsFirst self.now.schema.now self.now.doc.now self.now.from self.now.to
+            (closing_at self.now.doc.now self.now.from self.now.to depth ∷ []) (option_map step_in o)) }
+        ensures makes { IfOk result (λ o. IfSome o (Makes (documents_of self.now.schema.now.spec) self.now.doc.now)) }
     {
         let mut content = Fragment::new(alloc);
         push_hollow(alloc, left, depth, &mut content)?;

@@ -1,21 +1,21 @@
 //! Fitting a slice in.
-ghost use Rattle.std.specs.Prelude.{◌≡◌, ◌≤◌, length, IfOk, option_map};
+ghost use Rattle.std.specs.Prelude.{◌≡◌, ◌≤◌, length, IfOk, IfSome, option_map};
 ghost use Rattle.pm_tokens.specs.Faults.{Valid};
 ghost use Rattle.pm_schema.specs.Documents.{documents_of};
-ghost use Rattle.pm_step.specs.Steps.{step_of};
+ghost use Rattle.pm_fit.specs.Fitteds.{step_in, Makes};
 ghost use Rattle.pm_fit.specs.Fits.{fit_step};
 
+use crate::fitted::Fitted;
 use crate::target::Target;
 use pm_node::Document;
 use pm_resolve::{Place, PlaceError, resolve};
 use pm_schema::Schema;
 use pm_slice::Slice;
-use pm_step::Step;
 use std::alloc::{AllocError, Global};
 
-/// The step that puts a slice in place of the range from..to of a document. Positions are in tokens. It is the first of these
-/// candidates with which `replace` gives a document; None exactly where there is none. Let m and n be the depths of from and
-/// to, and h the depth that they share.
+/// The step that puts a slice in place of the range from..to of a document, and the document that it makes. Positions are in
+/// tokens. It is the first of these candidates with which `replace` gives a document, which is that document; None exactly
+/// where there is none. Let m and n be the depths of from and to, and h the depth that they share.
 ///
 /// First, for k = 0, 1, 2 and so on, the slice peeled k times. It can be peeled where its content is exactly one node that is
 /// no text, no leaf and not empty: that node's content takes its place, and each open side is one less, not below 0. The open
@@ -34,11 +34,12 @@ pub fn fit(
     from: u64,
     to: u64,
     slice: &Slice,
-) -> Result<Option<Step>, AllocError>
+) -> Result<Option<Fitted>, AllocError>
     requires valid { Valid (documents_of schema.now.spec) doc.now }
     requires order { from ≤ to }
     requires within { to ≤ length doc.now.tokens }
-    ensures { IfOk result (λ o. option_map step_of o ≡ fit_step schema.now doc.now from to slice.now) }
+    ensures step { IfOk result (λ o. option_map step_in o ≡ fit_step schema.now doc.now from to slice.now) }
+    ensures makes { IfOk result (λ o. IfSome o (Makes (documents_of schema.now.spec) doc.now)) }
 {
     let target = Target {
         schema,
@@ -51,11 +52,11 @@ pub fn fit(
     let content = slice.content();
     let start = slice.open_start();
     let (m, n) = (left.depth(), right.depth());
-    if let Some(step) = target.fit_peeled(alloc, content, start, m, n)? {
-        return Ok(Some(step));
+    if let Some(fitted) = target.fit_peeled(alloc, content, start, m, n)? {
+        return Ok(Some(fitted));
     }
-    if let Some(step) = target.fit_between(alloc, &left, &right, content)? {
-        return Ok(Some(step));
+    if let Some(fitted) = target.fit_between(alloc, &left, &right, content)? {
+        return Ok(Some(fitted));
     }
     if slice.size() > 0 {
         return Ok(None);

@@ -2,6 +2,7 @@
 #![tactic(auto)]
 
 mod closing;
+mod fitted;
 mod fitting;
 mod laws;
 mod nodes;
@@ -13,5 +14,6 @@ mod wrapped;
 mod wrapping;
 
 pub use closing::push_hollow;
+pub use fitted::Fitted;
 pub use fitting::fit;
 pub use laws::wrapping_is_least;

@@ -1,10 +1,11 @@
 //! The range that a slice is to replace, and one candidate for it.
-ghost use Rattle.std.specs.Prelude.{◌≡◌, Some, IfOk, option_map};
+ghost use Rattle.std.specs.Prelude.{◌≡◌, Some, IfOk, IfSome, option_map};
 ghost use Rattle.pm_tokens.specs.Faults.{Valid};
 ghost use Rattle.pm_schema.specs.Documents.{documents_of};
-ghost use Rattle.pm_step.specs.Steps.{step_of};
+ghost use Rattle.pm_fit.specs.Fitteds.{step_in, Makes};
 ghost use Rattle.pm_fit.specs.Fits.{sided, step_with};
 
+use crate::fitted::Fitted;
 use pm_change::Failed;
 use pm_node::{Document, Fragment};
 use pm_replace::replace;
@@ -31,10 +32,11 @@ impl Target<'_> {
         content: &Fragment,
         open_start: usize,
         open_end: usize,
-    ) -> Result<Option<Step>, AllocError>
+    ) -> Result<Option<Fitted>, AllocError>
         requires { Valid (documents_of self.now.schema.now.spec) self.now.doc.now }
-        ensures { IfOk result (λ o. option_map step_of o
+        ensures step { IfOk result (λ o. option_map step_in o
             ≡ step_with (documents_of self.now.schema.now.spec) self.now.doc.now self.now.from self.now.to (sided content.now open_start open_end)) }
+        ensures makes { IfOk result (λ o. IfSome o (Makes (documents_of self.now.schema.now.spec) self.now.doc.now)) }
     {
         let content = content.copy(alloc)?;
         match Slice::new(alloc, content, open_start, open_end) {
@@ -44,18 +46,22 @@ impl Target<'_> {
     }
 
     /// The step that replaces the range by the slice. None where the document can't be replaced so.
-    fn try_slice(&self, alloc: Global, slice: Slice) -> Result<Option<Step>, AllocError>
+    fn try_slice(&self, alloc: Global, slice: Slice) -> Result<Option<Fitted>, AllocError>
         requires { Valid (documents_of self.now.schema.now.spec) self.now.doc.now }
-        ensures { IfOk result (λ o. option_map step_of o
+        ensures step { IfOk result (λ o. option_map step_in o
             ≡ step_with (documents_of self.now.schema.now.spec) self.now.doc.now self.now.from self.now.to (Some slice)) }
+        ensures makes { IfOk result (λ o. IfSome o (Makes (documents_of self.now.schema.now.spec) self.now.doc.now)) }
     {
         match replace(alloc, self.schema, self.doc, self.from, self.to, &slice) {
-            Ok(_) => Ok(Some(Step::Replace(ReplaceStep {
-                from: self.from,
-                to: self.to,
-                slice,
-                structure: false,
-            }))),
+            Ok(doc) => {
+                let step = Step::Replace(ReplaceStep {
+                    from: self.from,
+                    to: self.to,
+                    slice,
+                    structure: false,
+                });
+                Ok(Some(Fitted { step, doc }))
+            }
             Err(Failed::Reason(_)) => Ok(None),
             Err(Failed::NoMemory) => Err(AllocError),
         }

@@ -1,15 +1,16 @@
 //! Content in a wrapping.
-ghost use Rattle.std.specs.Prelude.{◌≡◌, ◌≤◌, ℕ, Some, [], length, IfOk, option_map, flat_map};
+ghost use Rattle.std.specs.Prelude.{◌≡◌, ◌≤◌, ℕ, Some, [], length, IfOk, IfSome, option_map, flat_map};
 ghost use Rattle.pm_tokens.specs.Scan.{depth_at};
 ghost use Rattle.pm_tokens.specs.Faults.{Valid};
 ghost use Rattle.pm_schema.specs.Documents.{documents_of};
 ghost use Rattle.pm_slice.specs.Sides.{sides};
-ghost use Rattle.pm_step.specs.Steps.{step_of};
+ghost use Rattle.pm_fit.specs.Fitteds.{step_in, Makes};
 ghost use Rattle.pm_fit.specs.Candidates.{peelings, in_wrapping};
 ghost use Rattle.pm_fit.specs.Wrappings.{parent_at, before_in};
 ghost use Rattle.pm_fit.specs.Fits.{step_with, wrapped};
 ghost use Rattle.pm_fit.specs.Firsts.{IsFirst};
 
+use crate::fitted::Fitted;
 use crate::nodes::in_nodes;
 use crate::peeling::peel;
 use crate::target::Target;
@@ -18,7 +19,6 @@ use crate::wrapping::wrapping;
 use pm_auto::TypeId;
 use pm_node::{Fragment, MAX_DEPTH};
 use pm_resolve::Place;
-use pm_step::Step;
 use std::alloc::{AllocError, Global};
 
 impl Target<'_> {
@@ -30,15 +30,16 @@ impl Target<'_> {
         left: &Place<'_>,
         right: &Place<'_>,
         content: &Fragment,
-    ) -> Result<Option<Step>, AllocError>
+    ) -> Result<Option<Fitted>, AllocError>
         requires valid { Valid (documents_of self.now.schema.now.spec) self.now.doc.now }
         requires start_in { left.now.doc ≡ self.now.doc.now }
         requires start { left.now.pos ≡ self.now.from }
         requires end_in { right.now.doc ≡ self.now.doc.now }
         requires end { right.now.pos ≡ self.now.to }
-        ensures { (most open_start open_end : ℕ) → length content.now ≤ most
+        ensures step { (most open_start open_end : ℕ) → length content.now ≤ most
             → IfOk result (λ o. IsFirst self.now.schema.now self.now.doc.now self.now.from self.now.to
-            (flat_map (in_wrapping (depth_at self.now.doc.now.tokens self.now.from) (depth_at self.now.doc.now.tokens self.now.to)) (peelings most (sides content.now open_start open_end))) (option_map step_of o)) }
+            (flat_map (in_wrapping (depth_at self.now.doc.now.tokens self.now.from) (depth_at self.now.doc.now.tokens self.now.to)) (peelings most (sides content.now open_start open_end))) (option_map step_in o)) }
+        ensures makes { IfOk result (λ o. IfSome o (Makes (documents_of self.now.schema.now.spec) self.now.doc.now)) }
     {
         let depth = left.depth();
         if depth != right.depth() {
@@ -59,16 +60,17 @@ impl Target<'_> {
         parent: TypeId,
         before: &[TypeId],
         content: &Fragment,
-    ) -> Result<Option<Step>, AllocError>
+    ) -> Result<Option<Fitted>, AllocError>
         requires valid { Valid (documents_of self.now.schema.now.spec) self.now.doc.now }
         requires within { parent ≡ (parent_at self.now.doc.now self.now.from).kind }
         requires behind { before.now ≡ before_in (documents_of self.now.schema.now.spec).text self.now.doc.now self.now.from }
-        ensures { (most open_start open_end depth : ℕ) → length content.now ≤ most
+        ensures step { (most open_start open_end depth : ℕ) → length content.now ≤ most
             → IfOk result (λ o. IsFirst self.now.schema.now self.now.doc.now self.now.from self.now.to
-            (flat_map (in_wrapping depth depth) (peelings most (sides content.now open_start open_end))) (option_map step_of o)) }
+            (flat_map (in_wrapping depth depth) (peelings most (sides content.now open_start open_end))) (option_map step_in o)) }
+        ensures makes { IfOk result (λ o. IfSome o (Makes (documents_of self.now.schema.now.spec) self.now.doc.now)) }
     {
-        if let Some(step) = self.try_wrapping(alloc, parent, before, content)? {
-            return Ok(Some(step));
+        if let Some(fitted) = self.try_wrapping(alloc, parent, before, content)? {
+            return Ok(Some(fitted));
         }
         match peel(content) {
             Some(inner) => self.fit_wrapped(alloc, parent, before, inner),
@@ -83,13 +85,14 @@ impl Target<'_> {
         parent: TypeId,
         before: &[TypeId],
         content: &Fragment,
-    ) -> Result<Option<Step>, AllocError>
+    ) -> Result<Option<Fitted>, AllocError>
         requires valid { Valid (documents_of self.now.schema.now.spec) self.now.doc.now }
         requires within { parent ≡ (parent_at self.now.doc.now self.now.from).kind }
         requires behind { before.now ≡ before_in (documents_of self.now.schema.now.spec).text self.now.doc.now self.now.from }
-        ensures { (open_start open_end depth : ℕ)
+        ensures step { (open_start open_end depth : ℕ)
             → IfOk result (λ o. IsFirst self.now.schema.now self.now.doc.now self.now.from self.now.to
-            (in_wrapping depth depth (sides content.now open_start open_end)) (option_map step_of o)) }
+            (in_wrapping depth depth (sides content.now open_start open_end)) (option_map step_in o)) }
+        ensures makes { IfOk result (λ o. IfSome o (Makes (documents_of self.now.schema.now.spec) self.now.doc.now)) }
     {
         let _ = content.size();
         let Some(to) = first_type(self.schema, content) else {
@@ -109,10 +112,11 @@ impl Target<'_> {
         alloc: Global,
         kinds: &[TypeId],
         content: &Fragment,
-    ) -> Result<Option<Step>, AllocError>
+    ) -> Result<Option<Fitted>, AllocError>
         requires { Valid (documents_of self.now.schema.now.spec) self.now.doc.now }
-        ensures { IfOk result (λ o. option_map step_of o
+        ensures step { IfOk result (λ o. option_map step_in o
             ≡ step_with (documents_of self.now.schema.now.spec) self.now.doc.now self.now.from self.now.to (wrapped self.now.schema.now.spec (Some kinds.now) content.now)) }
+        ensures makes { IfOk result (λ o. IfSome o (Makes (documents_of self.now.schema.now.spec) self.now.doc.now)) }
     {
         let size = content.size();
         let count = kinds.len();

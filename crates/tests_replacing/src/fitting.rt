@@ -41,7 +41,7 @@ fn fitted_in(
         return Err(Fail::new("no range of the document"));
     }
     match fit(alloc, schema, before, from, to, slice)? {
-        Some(step) => replaced(alloc, schema, before, &step),
+        Some(found) => replaced(alloc, schema, before, &found.step),
         None => Ok(String::from_str(alloc, "!none")?),
     }
 }

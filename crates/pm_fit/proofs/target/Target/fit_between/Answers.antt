@@ -6,8 +6,8 @@ use Rattle.pm_fit.proofs.PlaceLaws.{depth-is}
 use Rattle.pm_fit.proofs.FitLaws.{wrap-not}
 use Rattle.pm_fit.proofs.target.Target.fit_between.Goals as goal
 
-pub returns-then-depth : goal.returns-then-depth
-returns-then-depth c = λ most a b l.
+pub returns-then-depth-clause-step : goal.returns-then-depth-clause-step
+returns-then-depth-clause-step c = λ most a b l.
     let r = c.args.self.now in
     let d = r.doc.now in
     let x = c.args.left.now in

@@ -4,7 +4,7 @@ use Rattle.std.proofs.lemmas.Result.{IfOk-weaker}
 use Rattle.pm_tokens.specs.Tokens.{Doc}
 use Rattle.pm_tokens.specs.Scan.{depth_at}
 use Rattle.pm_schema.specs.Documents.{documents_of}
-use Rattle.pm_step.specs.Steps.{step_of}
+use Rattle.pm_fit.specs.Fitteds.{step_in}
 use Rattle.pm_fit.specs.Candidates.{hollow, closing_at}
 use Rattle.pm_fit.specs.Fits.{sided, step_with}
 use Rattle.pm_fit.specs.Firsts.{IsFirst}
@@ -22,8 +22,8 @@ push_hollow-requires-2-clause-room c =
     let is : c.push_hollow.new.made ≡ hollow x.doc x.pos j (depth_at x.doc.tokens x.pos - j) = c.in_ok-push_hollow.ensures ∙ ap (λ z. z ++ hollow x.doc x.pos j (depth_at x.doc.tokens x.pos - j)) c.new-content.ensures in
     omega (arith, f, g, ap length is, length-hollow x.doc x.pos j (depth_at x.doc.tokens x.pos - j))
 
-pub returns : goal.returns
-returns c =
+pub returns-clause-step : goal.returns-clause-step
+returns-clause-step c =
     let r = c.args.self.now in
     let d = r.doc.now in
     let x = c.args.left.now in
@@ -36,5 +36,5 @@ returns c =
     let same = is ∙ (ap (λ z. z ++ right) (hollow-as x.doc d x.pos r.from j c.requires.start_in c.requires.start) ∙ ap (λ z. hollow d r.from j (depth_at d.tokens r.from - j) ++ z) (hollow-as y.doc d y.pos r.to j c.requires.end_in c.requires.end)) in
     let a = ap (λ i. i - j) (c.depth.ensures ∙ depth-as x.doc d x.pos r.from c.requires.start_in c.requires.start) in
     let b = ap (λ i. i - j) (c.depth-2.ensures ∙ depth-as y.doc d y.pos r.to c.requires.end_in c.requires.end) in
-    IfOk-weaker c.try_sides.result (λ o. option_map step_of o ≡ step_with (documents_of r.schema.now.spec) d r.from r.to (sided made (c.depth.result - j) (c.depth-2.result - j))) (λ o. IsFirst r.schema.now d r.from r.to (closing_at d r.from r.to j ∷ []) (option_map step_of o))
-    (λ o h. closing-one r.schema.now d r.from r.to j made (c.depth.result - j) (c.depth-2.result - j) (option_map step_of o) same a b h) c.try_sides.ensures
+    IfOk-weaker c.try_sides.result (λ o. option_map step_in o ≡ step_with (documents_of r.schema.now.spec) d r.from r.to (sided made (c.depth.result - j) (c.depth-2.result - j))) (λ o. IsFirst r.schema.now d r.from r.to (closing_at d r.from r.to j ∷ []) (option_map step_in o))
+    (λ o h. closing-one r.schema.now d r.from r.to j made (c.depth.result - j) (c.depth-2.result - j) (option_map step_in o) same a b h) c.try_sides.ensures.step
