@@ -25,7 +25,6 @@ abbrev IsNameless : {C : Type 0} → Item C → Type 0
 IsNameless i = (i.name ≡ None) × (i.undoes ≡ None)
 
 module _ {C : Type 0} where
-
   nameless-once : (is : List (Item C)) → Each IsNameless is → Once is
   nameless-once [] h = tt
   nameless-once (i ∷ is) h = (
