@@ -33,8 +33,8 @@ impl<C: Change> Client<C> {
     /// redo, with the number of the event undone. No event is open then. `NothingToUndo` comes exactly where there is no
     /// event to undo. Then, and for want of memory, the client is as it was, the open event included.
     ///
-    /// An undo copies the maps of the steps from the event's first one on once. For each of the event's steps, and for each
-    /// step that it makes, it moves them and copies none.
+    /// An undo goes over the maps of the later steps where the history keeps them, and copies none. For each change that it
+    /// carries, where one of these steps was made to undo another, it makes a table of those that were.
     ///
     /// Under the rules that are lent the client must stand to a log. Each call keeps this.
     pub fn undo(&mut self, alloc: Global, rules: &C::Rules) -> Result<u64, UndoError>

@@ -114,7 +114,7 @@ fn all_splices<C>(items: &[Item<C>]) -> bool
     ensures { result ≡ all_splices items.now }
 {
     for item in items {
-        if !is_splice_map(&item.map) {
+        if !is_splice_map(&item.map()) {
             return false;
         }
     }
@@ -129,7 +129,7 @@ fn are_named<C>(names: &[Name], items: &[Item<C>]) -> bool
         return false;
     }
     for i in 0..names.len() {
-        if !is_step(names[i], items[i].name) {
+        if !is_step(names[i], items[i].name()) {
             return false;
         }
     }
@@ -153,7 +153,7 @@ fn place_of<C>(name: Name, items: &[Item<C>]) -> usize
 {
     let mut passed = 0;
     for item in items {
-        if is_step(name, item.name) {
+        if is_step(name, item.name()) {
             return passed;
         }
         passed += 1;
@@ -169,15 +169,16 @@ fn apart_behind<C>(alloc: Global, count: usize, items: &[Item<C>]) -> Result<boo
     let mut found = Vec::new(alloc);
     let mut left = count;
     for item in items {
+        let map = item.map();
         if left == 0 {
-            if !apart_from(&item.map, &found) {
+            if !apart_from(&map, &found) {
                 return Ok(false);
             }
-            found = moved_reaches(alloc, &item.map, &found)?;
+            found = moved_reaches(alloc, &map, &found)?;
         } else {
             left -= 1;
-            found = moved_reaches(alloc, &item.map, &found)?;
-            add_ranges(&item.map.inverted(), &mut found)?;
+            found = moved_reaches(alloc, &map, &found)?;
+            add_ranges(&map.inverted(), &mut found)?;
         }
     }
     Ok(true)

@@ -1,5 +1,5 @@
 //! Histories over sheets, through the bound of a change.
-ghost use Rattle.std.specs.Prelude.{◌≡◌, ◌∷◌, [], Ok, IfOk};
+ghost use Rattle.std.specs.Prelude.{◌≡◌, ◌⊎◌, ◌∷◌, [], List, ℕ, Ok, IfOk};
 ghost use Rattle.pm_history.specs.Shows.{ShowsTo};
 ghost use Rattle.pm_sheet.specs.Edits.{meaning, is_good};
 
@@ -67,6 +67,26 @@ fn start(alloc: Global, rules: &Rules, numbers: &[u8]) -> Result<Played, AllocEr
     })
 }
 
+/// The item of an edit that was made on this sheet.
+fn item_of(
+    alloc: Global,
+    rules: &Rules,
+    doc: &Listed<u8>,
+    line: Line,
+) -> Result<Item<Edit>, AllocError>
+    requires good { is_good rules.now doc.now }
+    requires applies { ((next : List ℕ) × (meaning.outcome rules.now line.edit doc.now ≡ Ok next)) }
+    ensures map { IfOk result (λ i. i.map ≡ meaning.step_map line.edit) }
+    ensures inverse { IfOk result (λ i. (i.inverse ≡ meaning.inverse rules.now line.edit doc.now) ⊎ (i.inverse ≡ [])) }
+{
+    let map = line.edit.step_map();
+    let Some(serial) = line.own else {
+        return Item::foreign(alloc, map);
+    };
+    let inverse = Listed::from_vec(line.edit.inverse(alloc, rules, doc)?);
+    Item::own(alloc, named(serial), map, inverse, line.undoes.map(named))
+}
+
 /// One edit more. An edit that does not apply is an error.
 fn step(alloc: Global, rules: &Rules, played: Played, line: Line) -> Result<Played, AllocError>
     requires { ShowsTo meaning rules.now played.items played.doc }
@@ -78,12 +98,7 @@ fn step(alloc: Global, rules: &Rules, played: Played, line: Line) -> Result<Play
         Err(Failed::Reason(_)) => return Err(AllocError),
         Err(Failed::NoMemory) => return Err(AllocError),
     };
-    let item = Item {
-        name: line.own.map(named),
-        map: line.edit.step_map(),
-        inverse: Listed::from_vec(line.edit.inverse(alloc, rules, &doc)?),
-        undoes: line.undoes.map(named),
-    };
+    let item = item_of(alloc, rules, &doc, line)?;
     items.push(item)?;
     Ok(Played { doc: next, items })
 }
@@ -176,20 +191,18 @@ fn a_number_that_came_back_is_the_same(rt: HostRuntime) -> Result<(), AllocError
 /// The item of a step that takes the tokens at 5 and 6 out, or of one that undoes such a step.
 fn item(alloc: Global, serial: u64, undoes: Option<u64>) -> Result<Item<u8>, AllocError> {
     let takes_out = undoes.is_none();
-    Ok(Item {
-        name: Some(named(serial)),
-        map: StepMap::new(
-            Some(Span {
-                start: 5,
-                old_size: if takes_out { 2 } else { 0 },
-                new_size: if takes_out { 0 } else { 2 },
-            }),
-            None,
-            false,
-        ),
-        inverse: Listed::from_vec(vec![in alloc; 10, 20]?),
-        undoes: undoes.map(named),
-    })
+    let span = Span {
+        start: 5,
+        old_size: if takes_out { 2 } else { 0 },
+        new_size: if takes_out { 0 } else { 2 },
+    };
+    Item::own(
+        alloc,
+        named(serial),
+        StepMap::new(Some(span), None, false),
+        Listed::from_vec(vec![in alloc; 10, 20]?),
+        undoes.map(named),
+    )
 }
 
 fn edit(event: Option<u32>, first: bool) -> MadeBy {
@@ -308,7 +321,7 @@ fn rebased(alloc: Global, history: Branches<u8>) -> Result<Branches<u8>, AllocEr
 fn a_dropped_step_leaves_its_event(rt: HostRuntime) -> Result<(), AllocError> {
     let alloc = rt.alloc();
     let history = rebased(alloc, five(alloc)?)?;
-    assert!(rt; history.items().len() == 5 && history.items()[3].name.is_none());
+    assert!(rt; history.items().len() == 5 && history.items()[3].name().is_none());
     assert!(rt; history.inverse(named(4)).is_none() && history.undo_events().len() == 3);
     assert!(rt; is_of(alloc, history.undo_events(), 1, &[])?);
     assert!(rt; is_of(alloc, history.undo_events(), 2, &[5])?);
