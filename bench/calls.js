@@ -83,7 +83,11 @@ const PARTS = {
     part("50 replaceAround steps, applied", "replaceAround", "apply")
     part("50 addMark steps, applied", "addMark", "apply")
     part("  inverted", "addMark", "invert")
-    part("50 positions in 200,000 paragraphs, resolved", "changed-200000", "resolve")
+    part("50 letters changed in 200,000 paragraphs, applied", "changed-200000", "apply")
+    part("50 paragraphs inserted at their front, applied", "inserted-200000", "apply")
+    part("50 deleted in their middle, applied", "deleted-200000", "apply")
+    part("the first one split 50 times, applied", "split-200000", "apply")
+    part("50 positions in them resolved", "changed-200000", "resolve")
   },
 }
 

@@ -2,7 +2,7 @@
 // document to the largest. Ours is what the edit lines add to a whole run of the program: the client's edit, the authority's, which
 // gets all of them at the end, and the report's lines. Beside it are ProseMirror's invert and apply of the same step for the
 // client and its apply for the authority.
-// usage: node bench/edits.js [PARAGRAPHS..]
+// usage: node bench/edits.js [PARAGRAPHS..]      each up to 20,000, or a multiple of it
 
 "use strict"
 
@@ -20,8 +20,8 @@ const paragraph = {content: [{text: "ab", type: "text"}], type: "p"}, size = 4
 const paragraphs = count => Array(count).fill(paragraph)
 // As many as a line of a session can hold.
 const MOST_IN_A_LINE = 20000
-// ProseMirror copies the list of all paragraphs for each step, and no whole run has to be subtracted, so few lines tell enough.
-const THEIR_LINES = 50
+// ProseMirror copies the list of all paragraphs for each step, and no whole run is subtracted, so few lines tell enough.
+const THEIR_LINES = 20
 // In how many paragraphs letters are typed by turns, so that no text grows long.
 const TYPED = 500
 
@@ -44,8 +44,6 @@ const KINDS = {
   "a paragraph deleted in the middle": [(i, count) => replace(((count >> 1) - i) * size, ((count >> 1) - i + 1) * size), 5],
 }
 
-// Enough lines that what they add is well above what one run differs from the next.
-const linesFor = count => Math.min(10000, Math.max(1000, count >> 2))
 const stepsOf = (make, lines, count) => Array.from({length: lines}, (_, i) => make(i, count))
 
 // What a line can't hold of the document is put in by steps of its own.
@@ -74,25 +72,32 @@ function theirs(doc, steps) {
   return client.eq(authority)
 }
 
+// From 100 to 10,000 lines, as many as add to a run about what it takes without them, so that they are well above what one run
+// differs from the next.
+function linesFor(make, count, base) {
+  const added = milliseconds(sessionOf(count, stepsOf(make, 100, count)), 100 + beyond(count)) - base
+  return 100 * Math.round(Math.max(1, Math.min(base / Math.max(added, base / 100), 100, count / 200)))
+}
+
 // The microseconds of a line of each kind, ours and ProseMirror's.
 function measure(count) {
   const schema = schemaOf(types), doc = Node.fromJSON(schema, {type: "doc", content: paragraphs(count)})
-  const lines = linesFor(count), without = sessionOf(count, [])
-  let base = 0
+  const without = sessionOf(count, []), bare = () => milliseconds(without, beyond(count))
+  let base = Math.min(bare(), bare())
   const sides = Object.values(KINDS).flatMap(([make]) => {
-    const session = sessionOf(count, stepsOf(make, lines, count))
+    const lines = linesFor(make, count, base), session = sessionOf(count, stepsOf(make, lines, count))
     const steps = stepsOf(make, THEIR_LINES, count).map(step => Step.fromJSON(schema, step))
     const ours = () => 1000 * (milliseconds(session, lines + beyond(count)) - base) / lines
     return [ours, () => 1000 * timed(() => ensure(theirs(doc, steps), "ProseMirror's documents differ")).ms / THEIR_LINES]
   })
   // The run without the lines comes first in each turn.
-  const [, ...figures] = inTurn([() => { base = milliseconds(without, beyond(count)) }, ...sides])
+  const [, ...figures] = inTurn([() => { base = bare() }, ...sides])
   return Object.keys(KINDS).map((_, at) => figures.slice(2 * at, 2 * at + 2))
 }
 
 const told = process.argv.slice(2).map(Number), sizes = told.length ? told : [2000, 20000, 200000]
 const found = sizes.map(measure)
-title("a line of replay in N paragraphs, microseconds", "edits.js")
+title("a line in N paragraphs, microseconds", "edits.js")
 Object.entries(KINDS).forEach(([kind, [, most]], at) => {
   sizes.forEach((count, i) => {
     const [ours, other] = found[i][at], grown = middle(ours) / middle(found[0][at][0])
