@@ -2,7 +2,7 @@
 // document to the largest. Ours is what the edit lines add to a whole run of the program: the client's edit, the authority's, which
 // gets all of them at the end, and the report's lines. Beside it are ProseMirror's invert and apply of the same step for the
 // client and its apply for the authority.
-// usage: node bench/edits.js [PARAGRAPHS..]      each up to 20,000, or a multiple of it
+// usage: node bench/edits.js [PARAGRAPHS..]      each up to 10,000, or a multiple of it
 
 "use strict"
 
@@ -18,8 +18,8 @@ const types = {
 }
 const paragraph = {content: [{text: "ab", type: "text"}], type: "p"}, size = 4
 const paragraphs = count => Array(count).fill(paragraph)
-// As many as a line of a session can hold.
-const MOST_IN_A_LINE = 20000
+// A line of a session can hold as many.
+const MOST_IN_A_LINE = 10000
 // ProseMirror copies the list of all paragraphs for each step, and no whole run is subtracted, so few lines tell enough.
 const THEIR_LINES = 20
 // In how many paragraphs letters are typed by turns, so that no text grows long.

@@ -67,8 +67,10 @@ need() {
 install
 for name; do need "$name"; done
 echo "$(uname -m), $(nproc) processors, node $(node --version), $(date +%Y-%m-%d)"
+first=$(date +%s)
 for name; do
   start=$(date +%s)
   part "$name"
   echo "bench: $name took $(($(date +%s) - start)) s" >&2
 done
+echo "bench: all took $(($(date +%s) - first)) s" >&2
