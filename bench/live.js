@@ -184,7 +184,7 @@ async function measure(tokens, count) {
 async function main() {
   title("letters of editors at once", "live.js")
   for (const tokens of [4000, 400000]) for (const count of [1, 32]) await measure(tokens, count)
-  title(`${MEMORY_LETTERS} letters of one editor that does not wait`, "live.js")
+  title(`${MEMORY_LETTERS} letters of one editor without waiting`, "live.js")
   const [ours, theirs] = await inTurn(SIDES.slice(0, 2), words => memory(words, 400000))
   row("400000 tokens, letters a second", of(ours, "speed"), of(theirs, "speed"), {isSpeed: true})
   row("  greatest memory, MB", of(ours, "megabytes"), of(theirs, "megabytes"))
