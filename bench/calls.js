@@ -83,6 +83,7 @@ const PARTS = {
     part("50 replaceAround steps, applied", "replaceAround", "apply")
     part("50 addMark steps, applied", "addMark", "apply")
     part("  inverted", "addMark", "invert")
+    part("50 addNodeMark steps, applied", "addNodeMark", "apply")
     part("50 letters changed in 200,000 paragraphs, applied", "changed-200000", "apply")
     part("50 paragraphs inserted at their front, applied", "inserted-200000", "apply")
     part("50 deleted in their middle, applied", "deleted-200000", "apply")
