@@ -1,11 +1,11 @@
 // The parts that crates/pm_bench_docs times, taken of ProseMirror on the same lines, and the lines themselves.
 //
-//   node documents.js lines NAME           writes lines: a schema, a document, and steps. NAME is schema or wide (many types), paragraphs
-//                                          or letters (long documents), short (replace steps in 20,000 paragraphs), a kind of steps,
-//                                          in 2,000 paragraphs, or changed-N, inserted-N, deleted-N or split-N (letters changed, and
-//                                          paragraphs inserted, deleted and split, in N paragraphs, of which 50 have ten letters)
-//   node documents.js PART REPEATS         times a part on the lines of standard input, and writes a number that says what was computed
-//                                          and the nanoseconds, the least of all repeats
+//   node documents.js lines NAME           writes lines: a schema, a document, and steps. NAME is wide (many types), paragraphs or
+//                                          letters (long documents), a kind of steps, in 2,000 paragraphs, or changed-N, inserted-N,
+//                                          deleted-N or split-N (letters changed, and paragraphs inserted, deleted and split, in N
+//                                          paragraphs, of which 50 have ten letters)
+//   node documents.js PART REPEATS         times a part on the lines of standard input, and writes a line for each repeat: a number that
+//                                          says what was computed, and the nanoseconds
 
 "use strict"
 
@@ -16,15 +16,15 @@ const {Step, StepMap, StepResult} = require("prosemirror-transform")
 
 const DEFAULTS = [null, 0, "", true, "left", 12, false, "none"]
 
-// 200 types with 30 attributes each, and the type of texts. The top type and each type whose number is a multiple of `every`
-// hold any of the 199 blocks, the others texts.
-function manyTypes(every) {
+// 200 types with 30 attributes each, and the type of texts. The top type and each fourth type hold any of the 199 blocks, the
+// others texts.
+function manyTypes() {
   const nodes = []
   for (let number = 0; number < 200; number++) {
     const attrs = {}
     for (let i = 0; i < 30; i++) attrs["attribute_" + String(i).padStart(2, "0")] = {default: DEFAULTS[(number + i) % DEFAULTS.length]}
     if (!number) nodes.push({attrs, content: "block+", name: "doc"})
-    else nodes.push({attrs, content: number % every ? "inline*" : "block+", group: "block", name: "type_" + number})
+    else nodes.push({attrs, content: number % 4 ? "inline*" : "block+", group: "block", name: "type_" + number})
   }
   nodes.push({group: "inline", name: "text"})
   return {nodes}
@@ -44,6 +44,9 @@ const BASIC = {
   ],
   marks: [{name: "link", attrs: {href: {}}, inclusive: false}, {name: "em"}, {name: "strong"}, {name: "code", excludes: "_"}],
 }
+
+// The tokens of a paragraph, where all are alike.
+const PARAGRAPH = 200
 
 // Letters and blanks.
 function letters(count, from) {
@@ -66,11 +69,11 @@ function paragraphs() {
 // One text, as long as a document may be.
 function oneText() { return docOf([[{text: letters(499998, 0), type: "text"}]]) }
 
-// 400,000 tokens in so many paragraphs. Each begins with an image, and all that is inline has these marks.
-function tokens(count, marks) {
+// 400,000 tokens in 2,000 paragraphs. Each begins with an image, and all that is inline has these marks.
+function tokens(marks) {
   const all = []
-  for (let i = 0; i < count; i++) {
-    const text = letters(400000 / count - 3, i)
+  for (let i = 0; i < 2000; i++) {
+    const text = letters(PARAGRAPH - 3, i)
     all.push([{attrs: {src: "a"}, ...marks, type: "image"}, {...marks, text, type: "text"}])
   }
   return docOf(all)
@@ -78,11 +81,11 @@ function tokens(count, marks) {
 
 const EM = {marks: [{type: "em"}]}
 
-// The steps stand 7,920 tokens apart. In paragraphs of 20 tokens or of 200, `from` is in a text with 20 letters behind it.
-function steps(stepType, paragraph) {
+// The steps stand 7,920 tokens apart, so that `from` is in a text with 20 letters behind it.
+function steps(stepType) {
   const mark = EM.marks[0], all = []
   for (let i = 0; i < 50; i++) {
-    const from = i * 7920 + 4, start = from - from % paragraph, to = start + paragraph
+    const from = i * 7920 + 4, start = from - from % PARAGRAPH, to = start + PARAGRAPH
     all.push({
       replace: {from, slice: {content: [{text: "a", type: "text"}]}, to: from + 1},
       replaceAround: {from: start, gapFrom: start, gapTo: to, insert: 1, slice: {content: [{type: "blockquote"}]}, structure: true, to},
@@ -122,12 +125,10 @@ function lines(name) {
   const first = {content: [{type: "type_1"}], type: "doc"}
   const [, kind, count] = /^(changed|inserted|deleted|split)-(\d+)$/.exec(name) || []
   const all = {
-    schema: () => [manyTypes(200), first],
-    wide: () => [manyTypes(4), first],
+    wide: () => [manyTypes(), first],
     paragraphs: () => [BASIC, paragraphs()],
     letters: () => [BASIC, oneText()],
-    short: () => [BASIC, tokens(20000), ...steps("replace", 20)],
-  }[name] || (kind && (() => edited(kind, Number(count)))) || (() => [BASIC, tokens(2000, name.startsWith("remove") ? EM : {}), ...steps(name, 200)])
+  }[name] || (kind && (() => edited(kind, Number(count)))) || (() => [BASIC, tokens(name.startsWith("remove") ? EM : {}), ...steps(name)])
   process.stdout.write(all().map(value => JSON.stringify(value) + "\n").join(""))
 }
 
@@ -230,13 +231,10 @@ function round(part, inputs) {
 function main([part, word]) {
   if (part == "lines") return lines(word)
   const inputs = inputsOf(require("fs").readFileSync(0, "utf8"))
-  const best = round(part, inputs)
-  for (let i = 1; i < +word; i++) {
-    const next = round(part, inputs)
-    if (next.check != best.check) throw new Error("two rounds differ")
-    best.nanos = Math.min(best.nanos, next.nanos)
+  for (let i = 0; i < +word; i++) {
+    const {check, nanos} = round(part, inputs)
+    console.log(check, nanos)
   }
-  console.log(best.check, best.nanos)
 }
 
 main(process.argv.slice(2))

@@ -2,19 +2,18 @@
 // (docs/FORMATS.md). An edit makes its steps by Transform; a pull rebases the pending steps as rebaseSteps of prosemirror-collab
 // does; a push that is answered in vain pulls; what a lost answer told comes with the next pull. An undo maps the inverses of the
 // client's last event over all that came since, where a step that was rebased is the mirror of its inverse, as in
-// prosemirror-history. Where an edit fits, and what a client drops, the two may differ in single steps: the row below the times
-// tells the lengths of both logs. Ours is a whole run of the program, with the making and the reading of the session;
-// ProseMirror's loop makes the turns and no file.
-// usage: node bench/generated.js PROGRAM [CLIENTS LINES NUMBER [REPEATS]]
+// prosemirror-history. Where an edit fits, and what a client drops, the two may differ in single steps: the row tells the lengths
+// of both logs. Ours is a whole run of the program, with the making and the reading of the session; ProseMirror's loop makes the
+// turns and no file.
+// usage: node bench/generated.js [CLIENTS LINES NUMBER]
 
 "use strict"
 
-const {spawnSync} = require("child_process")
 const {Schema, Node} = require("prosemirror-model")
 const {Transform, Mapping, canSplit} = require("prosemirror-transform")
+const {PROGRAM, ensure, fileOf, inTurn, row, run, timed, title, written} = require("./measure")
 
-const program = process.argv[2]
-const [clients, rounds, number, repeats] = ["4", "2500", "1", "3"].map((n, i) => process.argv[i + 3] || n)
+const [clients, rounds, number] = ["4", "2500", "1"].map((n, i) => process.argv[i + 2] || n)
 
 // ---- the session
 
@@ -186,28 +185,23 @@ function played() {
     me.pull(authority)
     me.push(authority, false)
   }
-  return {log: authority.log.length, size: authority.doc.content.size}
+  return authority.log.length
 }
 
 // ---- both
 
-function least(work) {
-  let best = Infinity, answer = null
-  for (let i = 0; i < repeats; i++) {
-    const start = process.hrtime.bigint()
-    answer = work()
-    best = Math.min(best, Number(process.hrtime.bigint() - start) / 1e6)
-  }
-  return [best, answer]
+const nothing = fileOf([]), logs = {}
+const ours = () => {
+  const ran = run([PROGRAM, "gen", clients, rounds, number], nothing), text = written(ran)
+  ensure(text.startsWith(`gen ${clients} ${rounds} ${number}\n`), "the session was not played")
+  logs.ours = /\nlog (\d+)\n/.exec(text)[1]
+  return ran.ms
 }
-
-const [theirs, end] = least(played)
-const [ours, run] = least(() => spawnSync(program, ["gen", clients, rounds, number]))
-const text = run.stdout.toString()
-if (run.status !== 0 || !text.startsWith(`gen ${clients} ${rounds} ${number}\n`)) {
-  console.error(`bench: the session was not played: status ${run.status}`)
-  process.exit(1)
+const theirs = () => {
+  const {ms, answer} = timed(played)
+  logs.theirs = answer
+  return ms
 }
-const told = word => new RegExp("\n" + word + " (\\d+)\n").exec(text)[1]
-console.log(`gen ${clients} ${rounds} ${number}`.padEnd(58) + ours.toFixed(3).padStart(13) + theirs.toFixed(3).padStart(13) + (ours / theirs).toFixed(2).padStart(9))
-console.log("  steps of the log".padEnd(58) + told("log").padStart(13) + String(end.log).padStart(13))
+const figures = inTurn([ours, theirs])
+title("the word gen, milliseconds", "generated.js")
+row(`gen ${clients} ${rounds} ${number}`, ...figures, {note: `logs of ${logs.ours} and ${logs.theirs} steps`})

@@ -3,8 +3,9 @@
 
 usage: bench/growth.py [ROW..]     all rows, or those whose names have one of these words
 
-Each row is played at n, 2n and 4n. A time is the processor's, of the least of some runs, in milliseconds; `x` is how many
-times longer the last took than the first, which is 4 where time is in proportion and 16 where it grows with the square.
+Each row is played at n, 2n and 4n. A time is the processor's, the median of seven runs, or of three where one takes a second,
+in milliseconds; `x` is how many times longer the last took than the first, which is 4 where time is in proportion and 16 where
+it grows with the square.
 `MB` is the greatest resident memory at 4n, in megabytes. `stack` is the least of 16, 32, 64 and so on kilobytes (`ulimit -s`) with
 which the run at n, and that at 4n, ends as it does with the usual stack.
 """
@@ -120,12 +121,12 @@ def run(word, path, stack=None):
         return None, 0, time.monotonic() - begun, 0
 
 
-def least(word, path):
-    """The best of up to three runs."""
+def middle(word, path):
+    """The run that is the middle one by its time. One that takes too long is not taken again."""
     runs = [run(word, path)]
-    while len(runs) < 3 and runs[0][0] is not None and runs[0][2] < 5:
+    while runs[0][0] is not None and len(runs) < (7 if runs[0][2] < 1 else 3):
         runs.append(run(word, path))
-    return min(runs, key=lambda it: it[2])
+    return sorted(runs, key=lambda it: it[2])[len(runs) // 2]
 
 
 def least_stack(word, path, whole):
@@ -143,7 +144,7 @@ def measure(name):
             path = f"{folder}/{factor}"
             with open(path, "w", encoding="utf-8") as file:
                 file.write(make(n * factor))
-            runs.append(least(word, path))
+            runs.append(middle(word, path))
             if factor != 2 and runs[-1][2] < 20:
                 stacks.append(least_stack(word, path, runs[-1]))
     times = " ".join(f"{it[2] * 1000:9.1f}" if it[0] is not None else "     long" for it in runs)

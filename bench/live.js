@@ -2,12 +2,11 @@
 // processes that the same loop feeds over pipes. Editors type ten letters and take them back, one letter at a time, each at a
 // place of its own and all at once: in each round every editor submits a letter at the version that it knows; one is accepted, and
 // the others ask for what they missed, carry their place past it and submit again, until all letters of the round stand in the
-// log. So the document stays as large as it was. Of so many runs of each the best counts, and at the end the documents of both are
-// compared. Beside the letters in a second it tells the processor's time that the authority took for a letter, threads and all,
-// which other work on the machine changes little; and the letters in a second where ProseMirror's authority is a part of the
-// loop's own process, which needs no pipes. Then it tells the greatest resident memory after 100,000 letters of one editor. A
-// ratio above 1 says that ours took longer, or more.
-// usage: node bench/live.js PROGRAM [TRIES]      3 tries unless told
+// log. So the document stays as large as it was. At the end the documents of both are compared. Beside the letters in a second it
+// tells the processor's time that the authority took for a letter, threads and all, which other work on the machine changes little;
+// and the letters in a second where ProseMirror's authority is a part of the loop's own process, which needs no pipes. Then it
+// tells the greatest resident memory after many letters of one editor that does not wait.
+// usage: node bench/live.js
 
 "use strict"
 
@@ -15,13 +14,13 @@ const fs = require("fs")
 const path = require("path")
 const {Authority} = require("../live/authority")
 const {NodeAuthority} = require("./live-authority")
+const {LIVE, RUNS, middle, row, title} = require("./measure")
 
-const [program, tries] = [process.argv[2], Number(process.argv[3] || 3)]
 // The processes, and null for ProseMirror's authority in this process.
-const SIDES = [[program], ["node", path.join(__dirname, "live-authority.js")], null]
+const SIDES = [[LIVE], ["node", path.join(__dirname, "live-authority.js")], null]
 // Each editor ends amid its ten letters, so that the document at the end tells something.
-const LETTERS = {1: 12805, 8: 6440, 32: 3360}, WARM = 320, IN_A_ROW = 10
-const MEMORY_LETTERS = 100000, AT_ONCE = 100
+const LETTERS = {1: 3205, 32: 800}, WARM = 640, IN_A_ROW = 10
+const MEMORY_LETTERS = 20000, AT_ONCE = 100
 
 // ---- the document: paragraphs of 200 tokens
 
@@ -165,39 +164,30 @@ async function memory(words, tokens) {
 
 // ---- the table
 
-const title = (...words) => console.log(`\n${words[0].padEnd(58)} ${words.slice(1).map(word => word.padStart(12)).join(" ")}`)
-
-function row(what, numbers, digits = 0) {
-  const [ours, theirs, inside] = numbers.map(number => number.toFixed(digits).padStart(12))
-  // A speed is the better the greater it is.
-  const ratio = (digits ? numbers[0] / numbers[1] : numbers[1] / numbers[0]).toFixed(2).padStart(12)
-  console.log(what.padEnd(58), ours, theirs, ratio, inside || "")
+// The answers of so many runs of each side, which take turns.
+async function inTurn(sides, work) {
+  const found = sides.map(() => [])
+  for (let i = 0; i < RUNS; i++) for (const [at, side] of sides.entries()) found[at].push(await work(side))
+  return found
 }
 
-// Of the runs of each side the most letters in a second, and the least time of the processor.
+const of = (runs, key) => runs.map(ran => ran[key])
+
 async function measure(tokens, count) {
-  const found = SIDES.map(() => ({speed: 0, micros: Infinity}))
-  for (let i = 0; i < tries; i++) {
-    for (const [side, words] of SIDES.entries()) {
-      const ran = await speed(words, tokens, count), best = found[side]
-      found[side] = {speed: Math.max(best.speed, ran.speed), micros: Math.min(best.micros, ran.micros), doc: ran.doc}
-    }
-  }
-  if (found.some(({doc}) => doc != found[0].doc)) throw new Error("the sides differ")
-  row(`${tokens} tokens, ${count} editor${count > 1 ? "s" : ""}`, found.map(it => it.speed))
-  row("  the processor's microseconds for a letter", found.slice(0, 2).map(it => it.micros), 1)
+  const [ours, theirs, inside] = await inTurn(SIDES, words => speed(words, tokens, count))
+  if ([ours, theirs, inside].flat().some(({doc}) => doc != ours[0].doc)) throw new Error("the sides differ")
+  const note = `in process: ${middle(of(inside, "speed")).toFixed(0)}`
+  row(`${tokens} tokens, ${count} editor${count > 1 ? "s" : ""}, letters a second`, of(ours, "speed"), of(theirs, "speed"), {isSpeed: true, note})
+  row("  the processor's microseconds for a letter", of(ours, "micros"), of(theirs, "micros"))
 }
 
 async function main() {
-  const sizes = [4000, 400000], editors = [1, 8, 32]
-  title("letters accepted per second", "ours", "ProseMirror", "ratio", "in process")
-  for (const tokens of sizes) for (const count of editors) await measure(tokens, count)
-  title(`${MEMORY_LETTERS} letters of one editor that does not wait`, "ours", "ProseMirror", "ratio")
-  for (const tokens of sizes) {
-    const ran = [await memory(SIDES[0], tokens), await memory(SIDES[1], tokens)]
-    row(`${tokens} tokens, letters accepted per second`, ran.map(it => it.speed))
-    row("  greatest memory, MB", ran.map(it => it.megabytes), 1)
-  }
+  title("letters of editors at once", "live.js")
+  for (const tokens of [4000, 400000]) for (const count of [1, 32]) await measure(tokens, count)
+  title(`${MEMORY_LETTERS} letters of one editor without waiting`, "live.js")
+  const [ours, theirs] = await inTurn(SIDES.slice(0, 2), words => memory(words, 400000))
+  row("400000 tokens, letters a second", of(ours, "speed"), of(theirs, "speed"), {isSpeed: true})
+  row("  greatest memory, MB", of(ours, "megabytes"), of(theirs, "megabytes"))
 }
 
 main().catch(error => {

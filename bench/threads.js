@@ -1,20 +1,18 @@
 // Times the word `run`, in which each client has a thread of its own, beside the word `replay`, on one session in which clients
 // mostly work by themselves: each types and undoes letters in its paragraph, and once in so many lines it pulls and pushes. In
-// the file's order no two do so at once, so that each push is accepted; under `run` some come late. Both are whole runs
-// of the program, with the reading of the session and the writing of the report. GNU time tells the time of all processors, and
-// that over the time on the wall is how many worked at once.
-// usage: node bench/threads.js PROGRAM CLIENTS LINES TRIES      so many lines a client, and the least of so many runs
+// the file's order no two do so at once, so that each push is accepted; under `run` some come late. Both are whole runs of the
+// program. The time of all processors over that on the wall is how many worked at once.
+// usage: node bench/threads.js [CLIENTS [LINES]]      so many lines a client
 
 "use strict"
 
-const {spawnSync} = require("child_process")
+const {ensure, fileOf, inTurn, middle, play, row, title, written} = require("./measure")
 
-const [program, clients, lines, tries] = [process.argv[2], ...process.argv.slice(3).map(Number)]
+const [clients, lines] = [32, 500].map((n, i) => Number(process.argv[i + 2] || n))
 const each = 100
 
-const nodes = [{name: "doc", content: "paragraph+"}, {name: "paragraph", content: "text*"}, {name: "text"}]
+const types = {nodes: [{name: "doc", content: "paragraph+"}, {name: "paragraph", content: "text*"}, {name: "text"}]}
 const paragraph = {type: "paragraph", content: [{type: "text", text: "abcdefghij".repeat(4)}]}
-const first = {type: "doc", content: Array(clients).fill(paragraph)}
 const names = Array.from({length: clients}, (_, i) => "c" + (i + 1))
 
 // What a client does on its line of this number.
@@ -26,27 +24,16 @@ function act(client, line) {
   return {c: names[client], op: "text", from, to: from, text: "x"}
 }
 
-function session() {
-  const text = [JSON.stringify({nodes}), JSON.stringify(first), JSON.stringify(names)]
-  for (let line = 0; line < lines; line++)
-    for (let client = 0; client < clients; client++) text.push(JSON.stringify(act(client, line)))
-  return text.join("\n") + "\n"
-}
+const acts = Array.from({length: lines * clients}, (_, i) => act(i % clients, Math.floor(i / clients)))
+const session = fileOf([types, {type: "doc", content: Array(clients).fill(paragraph)}, names, ...acts])
+const worked = []
 
-// The least time on the wall of some runs of a word, with the processors' time of that run, in seconds.
-function timed(word, input) {
-  const runs = Array.from({length: tries}, () => {
-    const {status, stdout, stderr} = spawnSync("/usr/bin/time", ["-f", "%e %U %S", program, word], {input, maxBuffer: 1 << 30, encoding: "utf8"})
-    if (status != 0 || (word == "run") != stdout.startsWith("order ")) throw new Error(`${word} ended with status ${status}`)
-    const [wall, user, system] = stderr.trim().split(/\s+/).slice(-3).map(Number)
-    return {wall, busy: user + system}
-  })
-  return runs.reduce((a, b) => (b.wall < a.wall ? b : a))
+const seconds = word => () => {
+  const ran = play(word, session), isRun = word == "run"
+  ensure(isRun == written(ran).startsWith("order "), `the report of ${word} begins otherwise`)
+  if (isRun) worked.push(ran.busy / ran.ms)
+  return ran.ms / 1000
 }
-
-const input = session()
-const [ours, alone] = [timed("run", input), timed("replay", input)]
-const what = `${clients} clients, ${lines} lines each, a push in ${each}`
-const row = (label, a, b) => console.log(label.padEnd(58), a.toFixed(2).padStart(12), b.toFixed(2).padStart(12), (a / b).toFixed(2).padStart(8))
-row(what, ours.wall, alone.wall)
-row("  processors that worked", ours.busy / ours.wall, alone.busy / alone.wall)
+const figures = inTurn([seconds("run"), seconds("replay")])
+title("the word run, seconds", "threads.js", "replay")
+row(`${clients} clients, ${lines} lines each, a push in ${each}`, ...figures, {note: `${middle(worked).toFixed(2)} processors worked`})

@@ -1,36 +1,85 @@
-// Times the word `replay` on a session in which four clients type into a document of 2,000 paragraphs, beside a plain loop that
-// does the same with ProseMirror: each client's letters are steps of its own, a pull rebases them as rebaseSteps of
-// prosemirror-collab does, and a push hands them to an authority that keeps the document. Ours is a whole run of the program,
-// with its reading of the session and its writing of the report; ProseMirror's loop has neither. It also tells the program's
-// greatest resident memory, as GNU time measures it.
-// usage: node bench/typing.js PROGRAM LINES
+// Times `replay` of a session in which four clients type into a document of 2,000 paragraphs, 20 letters at a turn, and then pull
+// and push. Beside it stand two plain loops over the same turns. With ProseMirror each letter is a step of its own, a pull
+// rebases the pending ones, and a push hands them to an authority that keeps the document. With Yjs each letter is an update of
+// the client's document, a pull applies those of others, and a push hands the client's to a server that applies them too. Ours is
+// a whole run of the program, with its reading and its report; the loops have neither.
+// usage: node bench/typing.js [LINES..]
 
 "use strict"
 
-const {spawnSync} = require("child_process")
-const {Schema, Node, Slice, Fragment} = require("prosemirror-model")
+const {Node, Slice, Fragment} = require("prosemirror-model")
 const {ReplaceStep, Transform} = require("prosemirror-transform")
+const Y = require("yjs")
+const {schemaOf, rebased} = require("./collab")
+const {ensure, fileOf, inTurn, middle, play, row, timed, title, written} = require("./measure")
 
-const [program, lines] = [process.argv[2], Number(process.argv[3] || 100000)]
 const names = ["ann", "bob", "cy", "dan"]
-const letters = 44, count = 2000, run = 20
+const count = 2000, run = 20, text = "abcdefghij".repeat(5).slice(0, 44)
+const types = {nodes: [{name: "doc", content: "paragraph+"}, {name: "paragraph", content: "text*"}, {name: "text"}]}
+const first = {type: "doc", content: Array(count).fill({type: "paragraph", content: [{type: "text", text}]})}
 
-// ---- the session
-
-const nodes = [{name: "doc", content: "paragraph+"}, {name: "paragraph", content: "text*"}, {name: "text"}]
-const first = {type: "doc", content: []}
-for (let i = 0; i < count; i++) first.content.push({type: "paragraph", content: [{type: "text", text: "abcdefghij".repeat(5).slice(0, letters)}]})
-
-// Turns of a client: it types some letters one after another into a paragraph, pulls and pushes. Where the paragraph stands in
-// the client's document by then, `start` tells.
-function* acts(start) {
-  for (let turn = 0, line = 0; line < lines; turn++) {
-    const client = turn % names.length
-    const from = start(client, (turn * 7919) % count) + 1 + turn % letters
-    for (let i = 0; i < run && line < lines; i++, line++) yield {client, op: "text", from: from + i}
-    if (line++ < lines) yield {client, op: "pull"}
-    if (line++ < lines) yield {client, op: "push"}
+// The acts: a client types letters one behind another at an offset of a paragraph, pulls and pushes. A session's lines tell
+// positions, so the acts are made by playing them once with ProseMirror.
+function actsOf(lines) {
+  const side = new ProseMirror, acts = []
+  const add = act => {
+    acts.push(act)
+    side[act.op](side.clients[act.client], act)
   }
+  for (let turn = 0; acts.length < lines; turn++) {
+    const client = turn % names.length, paragraph = (turn * 7919) % count, from = turn % text.length
+    const at = startOf(side.clients[client].doc, paragraph) + 1 + from
+    for (let i = 0; i < run; i++) add({op: "text", client, paragraph, offset: from + i, at: at + i})
+    for (const op of ["pull", "push"]) add({op, client})
+  }
+  return acts.slice(0, lines)
+}
+
+// Plays the acts on one side. At the end each client pushes what is left, as a session's clients settle.
+function playOn(side, acts) {
+  for (const act of acts) side[act.op](side.clients[act.client], act)
+  for (const client of side.clients) {
+    side.pull(client)
+    side.push(client)
+  }
+}
+
+// ---- ProseMirror
+
+class ProseMirror {
+  constructor() {
+    const schema = schemaOf(types)
+    this.doc = Node.fromJSON(schema, first)
+    this.log = []
+    this.clients = names.map(() => ({doc: this.doc, version: 0, pending: []}))
+    this.letter = new Slice(Fragment.from(schema.text("x")), 0, 0)
+  }
+
+  text(client, {at}) {
+    const step = new ReplaceStep(at, at, this.letter)
+    client.pending.push({step, inverted: step.invert(client.doc)})
+    client.doc = step.apply(client.doc).doc
+  }
+
+  pull(client) {
+    const over = this.log.slice(client.version)
+    if (!over.length) return
+    const transform = new Transform(client.doc)
+    client.pending = rebased(client.pending, over, transform)
+    client.doc = transform.doc
+    client.version += over.length
+  }
+
+  push(client) {
+    for (const {step} of client.pending) {
+      this.doc = step.apply(this.doc).doc
+      this.log.push(step)
+    }
+    client.version = this.log.length
+    client.pending = []
+  }
+
+  texts() { return this.doc.content.content.map(paragraph => paragraph.textContent) }
 }
 
 // The position at which a child of the document begins.
@@ -40,97 +89,86 @@ function startOf(doc, index) {
   return pos
 }
 
-function session(all) {
-  const text = [JSON.stringify({nodes}), JSON.stringify(first), JSON.stringify(names)]
-  for (const {client, op, from} of all)
-    text.push(JSON.stringify(op == "text" ? {c: names[client], op, from, to: from, text: "x"} : {c: names[client], op}))
-  return text.join("\n") + "\n"
-}
+// ---- Yjs
 
-// ---- ProseMirror
+class Yjs {
+  constructor() {
+    const start = Y.encodeStateAsUpdate(firstOfYjs())
+    this.server = new YDocument(start)
+    this.log = []
+    this.clients = names.map(() => new YDocument(start))
+    for (const client of this.clients)
+      client.doc.on("update", (update, origin) => { if (origin != "pull") client.pending.push(update) })
+  }
 
-function rebased(pending, over, transform) {
-  for (let i = pending.length - 1; i >= 0; i--) transform.step(pending[i].inverted)
-  for (const step of over) transform.step(step)
-  const kept = []
-  for (let i = 0, from = pending.length; i < pending.length; i++) {
-    const step = pending[i].step.map(transform.mapping.slice(from))
-    from--
-    if (step && !transform.maybeStep(step).failed) {
-      transform.mapping.setMirror(from, transform.steps.length - 1)
-      kept.push({step, inverted: step.invert(transform.docs[transform.docs.length - 1])})
+  text(client, {paragraph, offset}) { client.paragraphs[paragraph].insert(offset, "x") }
+
+  pull(client) {
+    for (const {from, update} of this.log.slice(client.version))
+      if (from != client) Y.applyUpdate(client.doc, update, "pull")
+    client.version = this.log.length
+  }
+
+  push(client) {
+    for (const update of client.pending) {
+      Y.applyUpdate(this.server.doc, update)
+      this.log.push({from: client, update})
     }
+    client.version = this.log.length
+    client.pending = []
   }
-  return kept
+
+  texts() { return this.server.paragraphs.map(paragraph => paragraph.toString()) }
 }
 
-// Plays the acts as they come; `clients` is filled first, so that the acts may depend on it.
-function played(clients, all) {
-  const schema = new Schema({nodes: Object.fromEntries(nodes.map(({name, ...rest}) => [name, rest]))})
-  const doc = Node.fromJSON(schema, first)
-  const authority = {doc, log: []}
-  for (const _ of names) clients.push({doc, version: 0, pending: []})
-  const slice = new Slice(Fragment.from(schema.text("x")), 0, 0)
-  for (const act of all) {
-    const {client, op, from} = act
-    const me = clients[client]
-    if (op == "text") {
-      const step = new ReplaceStep(from, from, slice)
-      me.pending.push({step, inverted: step.invert(me.doc)})
-      me.doc = step.apply(me.doc).doc
-    } else if (op == "pull") {
-      const over = authority.log.slice(me.version)
-      if (over.length) {
-        const transform = new Transform(me.doc)
-        me.pending = rebased(me.pending, over, transform)
-        me.doc = transform.doc
-        me.version += over.length
-      }
-    } else if (me.version == authority.log.length) {
-      for (const {step} of me.pending) {
-        authority.doc = step.apply(authority.doc).doc
-        authority.log.push(step)
-      }
-      me.version = authority.log.length
-      me.pending = []
-    }
-  }
-  return {schema, doc: authority.doc, log: authority.log.length}
-}
-
-// ---- both
-
-// The acts are made once, by playing them.
-const made = [], makers = []
-function* noted() {
-  for (const act of acts((client, index) => startOf(makers[client].doc, index))) {
-    made.push(act)
-    yield act
+// A document with its paragraphs' texts at hand, as an editor's binding has them.
+class YDocument {
+  constructor(start) {
+    this.doc = new Y.Doc()
+    Y.applyUpdate(this.doc, start)
+    this.paragraphs = this.doc.getXmlFragment("doc").toArray().map(paragraph => paragraph.get(0))
+    this.version = 0
+    this.pending = []
   }
 }
-played(makers, noted())
 
-const input = session(made)
-const start = process.hrtime.bigint()
-const child = spawnSync("/usr/bin/time", ["-f", "%M", program, "replay"], {input, maxBuffer: 1 << 30})
-const ours = Number(process.hrtime.bigint() - start) / 1e6
-const begun = process.hrtime.bigint()
-const {log} = played([], made)
-const theirs = Number(process.hrtime.bigint() - begun) / 1e6
+function firstOfYjs() {
+  const doc = new Y.Doc()
+  doc.getXmlFragment("doc").insert(0, first.content.map(() => {
+    const paragraph = new Y.XmlElement("paragraph")
+    paragraph.insert(0, [new Y.XmlText(text)])
+    return paragraph
+  }))
+  return doc
+}
 
-const report = child.stdout.toString()
-const memory = Number(child.stderr.toString().trim().split("\n").pop())
-const accepted = report.split("\n").filter(line => / accepted \d+ \d+; confirmed /.test(line)).length
-const pushes = made.filter(act => act.op == "push").length
-if (child.status !== 0 || accepted !== pushes) {
-  console.error(`bench: the session was not played as meant: status ${child.status}, ${accepted} of ${pushes} pushes accepted`)
-  process.exit(1)
+// ---- ours
+
+const lineOf = ({op, client, at}) => (op == "text" ? {c: names[client], op, from: at, to: at, text: "x"} : {c: names[client], op})
+
+// The texts of the paragraphs at the end.
+const textsOf = report => JSON.parse(/\nfinal (.*)\n/.exec(report)[1]).content.map(({content: [{text}]}) => text)
+
+function measure(lines) {
+  const acts = actsOf(lines), session = fileOf([types, first, names, ...acts.map(lineOf)])
+  const ends = [], megabytes = []
+  const ours = () => {
+    const ran = play("replay", session)
+    megabytes.push(ran.megabytes)
+    ends[0] = textsOf(written(ran))
+    return 1000 * ran.ms / lines
+  }
+  const other = Side => () => {
+    const side = new Side, {ms} = timed(() => playOn(side, acts))
+    ends.push(side.texts())
+    return 1000 * ms / lines
+  }
+  const [mine, pm, yjs] = inTurn([ours, other(ProseMirror), other(Yjs)])
+  ensure(ends.every(texts => texts.join("\n") == ends[0].join("\n")), "the sides end with different texts")
+  row(`${lines} lines`, mine, pm, {note: `${middle(megabytes).toFixed(1)} MB`})
+  row("  beside Yjs", mine, yjs)
 }
-// The last turn may be cut off before its push; Settle confirms it.
-const told = Number(/\nlog (\d+)\n/.exec(report)[1])
-if (told < log || told - log > run) {
-  console.error(`bench: the two sides differ: ${told} and ${log} steps`)
-  process.exit(1)
-}
-console.log(`${lines} lines`.padEnd(58) + ours.toFixed(3).padStart(13) + theirs.toFixed(3).padStart(13) + (ours / theirs).toFixed(2).padStart(9))
-console.log("  greatest memory of ours, KB".padEnd(58) + String(memory).padStart(13))
+
+const sizes = process.argv.slice(2).map(Number)
+title("typing of 4 clients, microseconds a line", "typing.js")
+for (const lines of sizes.length ? sizes : [1000, 10000, 100000]) measure(lines)

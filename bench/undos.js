@@ -1,81 +1,69 @@
 // Times the word `replay` on a session of one client that types letters into a paragraph, each in an event of its own, and then
-// undoes many of them. Ours is what the undo lines add to a whole run of the program, each with the check of the document that
-// it gives. Beside it each stored inverse is mapped over all later maps, where a step that undoes another is its mirror, as
-// prosemirror-history does between the steps of others. Each time is the least of all repeats.
-// usage: node bench/undos.js PROGRAM [STEPS [UNDOS [REPEATS]]]
+// undoes many of them. Ours is what the undo lines add to a whole run of the program. Beside it each stored inverse is mapped over
+// all later maps and applied, where a step that undoes another is its mirror, as prosemirror-history does between the steps of
+// others.
+// usage: node bench/undos.js [STEPS [UNDOS]]
 
 "use strict"
 
-const {spawnSync} = require("child_process")
-const {Mapping, StepMap} = require("prosemirror-transform")
+const {Node, Slice, Fragment} = require("prosemirror-model")
+const {Mapping, ReplaceStep} = require("prosemirror-transform")
+const {schemaOf} = require("./collab")
+const {ensure, fileOf, inTurn, play, row, timed, title, written} = require("./measure")
 
-const [program, steps, undos, repeats] = [process.argv[2], ...[5000, 1000, 5].map((n, i) => Number(process.argv[i + 3] || n))]
+const [steps, undos] = [5000, 1000].map((n, i) => Number(process.argv[i + 2] || n))
+const types = {nodes: [{name: "doc", content: "paragraph+"}, {name: "paragraph", content: "text*"}, {name: "text"}]}
+const first = {type: "doc", content: [{type: "paragraph"}]}
 
 // Where letter number i is typed, anywhere in the text so far.
-function place(i) { return 1 + (i * 7919) % (i + 1) }
+const place = i => 1 + (i * 7919) % (i + 1)
 
-function session(count) {
-  const nodes = [{name: "doc", content: "paragraph+"}, {name: "paragraph", content: "text*"}, {name: "text"}]
-  const lines = [JSON.stringify({nodes}), '{"type":"doc","content":[{"type":"paragraph"}]}', '["ann"]']
-  for (let i = 0; i < steps; i++) lines.push(JSON.stringify({c: "ann", op: "text", from: place(i), to: place(i), text: "a"}))
-  for (let i = 0; i < count; i++) lines.push('{"c":"ann","op":"undo"}')
-  return lines.join("\n") + "\n"
+function sessionOf(count) {
+  const typed = Array.from({length: steps}, (_, i) => ({c: "ann", op: "text", from: place(i), to: place(i), text: "a"}))
+  return fileOf([types, first, ["ann"], ...typed, ...Array(count).fill({c: "ann", op: "undo"})])
 }
 
-// The length of the text at the end of a run of the program.
-function play(input) {
-  const run = spawnSync(program, ["replay"], {input, maxBuffer: 1 << 28})
-  return /\nfinal .*"text":"(a*)"/.exec(run.stdout.toString())[1].length
+const lettersOf = report => /\nfinal .*"text":"(a*)"/.exec(report)[1].length
+
+// The milliseconds of a run, whose document has to end with so many letters.
+function played(session, letters) {
+  const ran = play("replay", session)
+  ensure(lettersOf(written(ran)) == letters, `${lettersOf(written(ran))} letters are left of ${letters}`)
+  return ran.ms
 }
 
-// The length of the text, and the time that the undos take.
-function undone() {
-  const mapping = new Mapping, inverses = []
-  let text = ""
-  const replace = (from, to, letters) => {
-    const inverse = {from, to: from + letters.length, text: text.slice(from - 1, to - 1)}
-    text = text.slice(0, from - 1) + letters + text.slice(to - 1)
-    return inverse
-  }
+// ProseMirror's document with all letters, the maps of its steps and what takes each back.
+function typed() {
+  const schema = schemaOf(types), letter = new Slice(Fragment.from(schema.text("a")), 0, 0)
+  const state = {doc: Node.fromJSON(schema, first), mapping: new Mapping, inverses: []}
   for (let i = 0; i < steps; i++) {
-    inverses.push(replace(place(i), place(i), "a"))
-    mapping.appendMap(new StepMap([place(i), 0, 1]))
+    const step = new ReplaceStep(place(i), place(i), letter)
+    state.inverses.push(step.invert(state.doc))
+    state.mapping.appendMap(step.getMap())
+    state.doc = step.apply(state.doc).doc
   }
-  const start = process.hrtime.bigint()
+  return state
+}
+
+function undone(state) {
   for (let i = steps - 1; i >= steps - undos; i--) {
-    const later = mapping.slice(i + 1), {from, to, text: letters} = inverses[i]
-    const start = later.mapResult(from, 1), end = later.mapResult(to, -1)
-    if (start.deletedAcross && end.deletedAcross) continue
-    const last = Math.max(start.pos, end.pos)
-    replace(start.pos, last, letters)
-    mapping.appendMap(new StepMap([start.pos, last - start.pos, letters.length]), i)
+    const step = state.inverses[i].map(state.mapping.slice(i + 1))
+    if (!step) continue
+    state.doc = step.apply(state.doc).doc
+    state.mapping.appendMap(step.getMap(), i)
   }
-  return [Number(process.hrtime.bigint() - start) / 1e6, text.length]
 }
 
-function least(work) {
-  let best = Infinity, answer = null
-  for (let i = 0; i < repeats; i++) {
-    const start = process.hrtime.bigint()
-    answer = work()
-    best = Math.min(best, Number(process.hrtime.bigint() - start) / 1e6)
-  }
-  return [best, answer]
+const [without, all] = [sessionOf(0), sessionOf(undos)]
+const ours = () => {
+  const typing = played(without, steps)
+  return played(all, steps - undos) - typing
+}
+const theirs = () => {
+  const state = typed(), {ms} = timed(() => undone(state))
+  ensure(state.doc.textContent.length == steps - undos, "ProseMirror's side was not undone as meant")
+  return ms
 }
 
-const [without, all] = [session(0), session(undos)]
-const [typed, length] = least(() => play(without))
-const [both, left] = least(() => play(all))
-let theirs = Infinity, want = 0
-for (let i = 0; i < repeats; i++) {
-  const [time, size] = undone()
-  theirs = Math.min(theirs, time)
-  want = size
-}
-if (length !== steps || left !== want) {
-  console.error(`bench: the two sides differ: ${left} and ${want} letters are left`)
-  process.exit(1)
-}
-const row = (what, ...times) => console.log(what.padEnd(58) + times.map(t => t.toFixed(3).padStart(13)).join(""))
-row(`${steps} steps of one client`, typed)
-console.log(`  ${undos} of them undone`.padEnd(58) + (both - typed).toFixed(3).padStart(13) + theirs.toFixed(3).padStart(13) + ((both - typed) / theirs).toFixed(2).padStart(9))
+title("the undo lines of a replay, milliseconds", "undos.js")
+row(`${undos} undos over ${steps} steps`, ...inTurn([ours, theirs]))
