@@ -28,6 +28,8 @@ words
   late        play the session, which clients may enter late, with its lines in file order, and write its report
   at VERSION  play the session as `late` does, and write the document after the first VERSION steps of its log
   rooms       play the rooms of a file of many with its lines in file order, and write each room's report
+  runrooms    play the rooms of a file of many with a thread for each person, and write for each room the order of its
+              lines and its report
   gen CLIENTS LINES NUMBER
               make a session from the number, play it as `replay` does, and write a summary; nothing is read
   live        read a schema, a document and then messages, a line each, and write an answer to each before the next

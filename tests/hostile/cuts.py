@@ -104,7 +104,7 @@ def tasks():
     cut = [f"{TOP}/examples/plan.session"]
     other = []
     if not SHORT:
-        cut = [it for it in sessions() if "/examples/" in it]
+        cut = [it for it in sessions() if "/examples/" in it and wanted(it)[0] == ["replay"]]
         other = [it for it in sessions() if it.endswith("0.session") and wanted(it)[0][:1] in FORMS][:60]
     for path in cut:
         for at in range(os.path.getsize(path) + 1):

@@ -21,7 +21,7 @@ texts-and-deletions-of-three-clients-meet/01 whole/1002 whole/1076""".split()
 def chosen():
     have = [it for it in sessions() if "/examples/" in it]
     have += [it for it in (f"{TOP}/tests/{it}.session" for it in CHOSEN)]
-    return [it for it in have if not SHORT or it.endswith(("first.session", "plan.session", "refusals.session"))]
+    return [it for it in have if not SHORT or it.endswith(("first.session", "plan.session", "refusals.session", "rooms.session"))]
 
 
 def spoilt(variables, **more):
@@ -58,10 +58,11 @@ def ended(path, word, whole, variables, status):
     elif status == 3:
         is_well = (played.status, played.out, played.err) == (3, b"", TOLD[3])
     else:
-        front = whole.out[: len(played.out)] == played.out or whole.out.startswith(b"order")
+        has_order = word in ORDERED and whole.status == 0
+        front = whole.out[: len(played.out)] == played.out or has_order
         is_well = (played.status, played.err) == (4, TOLD[4]) and front and len(played.out) < len(whole.out)
         # The report of another order may be shorter, and end before the write that was to fail.
-        if whole.out.startswith(b"order") and len(played.out) < variables["FAIL_WRITE"]:
+        if has_order and len(played.out) < variables["FAIL_WRITE"]:
             is_well = is_well or is_answer(word, read(path), played, whole)
     if is_well:
         return None

@@ -6,7 +6,8 @@ Each input is a session of tests/ or examples/, or one that an earlier change ma
 lines or JSON values. Under each word (WORDS, `late` and `at 2` where none is given) it has to end in time with a status of the
 table and an output that the status allows, and the words have to agree on what they refuse. `late` and `at` play files that
 clients may enter late, and agree with the other words on files that none does. What `run` writes has to be what `replay`
-writes of the lines in the order that it shows. SEED sets the seed, which is printed, and
+writes of the lines in the order that it shows, and each room's part of what `runrooms` writes what `rooms` writes of the
+room's lines in the order shown there. SEED sets the seed, which is printed, and
 JOBS how many runs go side by side: the inputs are a function of both. An input at which a run fails is kept in FINDS (a
 new folder where it is absent).
 """
@@ -192,8 +193,9 @@ def tried(data):
     faults = [it for it in (fault_of(word, played) for word, played in runs.items()) if it]
     if not faults and (fault := fault_between(runs)):
         faults.append(fault)
-    if not faults and "run" in runs and (fault := fault_of_order("run", data, runs["run"])):
-        faults.append(fault)
+    for word, played in runs.items():
+        if not faults and (fault := fault_of_order(word, data, played)):
+            faults.append(fault)
     return faults, any(it.status == 0 for it in runs.values())
 
 

@@ -68,6 +68,11 @@ def takes_late(word):
     return word.split()[0] in ("late", "at")
 
 
+def takes_rooms(word):
+    """Whether a word plays files of many rooms."""
+    return word in ("rooms", "runrooms")
+
+
 def is_compact(text):
     """Whether a text is compact JSON with its keys in byte order."""
     return json.dumps(json.loads(text), sort_keys=True, separators=(",", ":"), ensure_ascii=False) == text
@@ -139,13 +144,13 @@ def fault_of(word, played):
     text = played.out.decode()
     if played.status == 1:
         told = re.fullmatch(r"refused (\d+) (\d+)\n", text)
-        codes = [*range(1, 20), *([25] if takes_late(word) else [23, 24] if word == "rooms" else [])]
+        codes = [*range(1, 20), *([25] if takes_late(word) else [23, 24] if takes_rooms(word) else [])]
         return None if told and int(told[2]) in codes else f"{word} refused by {text[:100]!r}"
     if word == "check":
         return None if re.fullmatch(r"ok \d+ \d+\n", text) else f"check wrote {text[:100]!r}"
     if word.startswith("at "):
         return None if is_version(int(word.split()[1]), text) else f"{word} wrote {text[:100]!r}"
-    fault = fault_of_rooms(text) if word == "rooms" else fault_of_report(text)
+    fault = fault_of_rooms(text) if takes_rooms(word) else fault_of_report(text)
     return fault and f"{word}: {fault}"
 
 
@@ -204,17 +209,47 @@ def same_order(session, out, longest=LONGEST):
     if first.split()[:1] != [b"order"] or sorted(order) != list(range(4, 4 + len(order))) or not in_turn(lines, order):
         return False
     played = play(["replay"], b"\n".join(lines[:3] + [lines[it - 1] for it in order]) + b"\n", longest=longest)
-    told = played.out.split(b"\n")
-    outcomes = {order[at]: told[at].partition(b" ")[2] for at in range(len(order))}
-    head = [b"%d %s" % (it, outcomes[it]) for it in sorted(order)]
-    return played.status == 0 and b"\n".join(head + told[len(order) :]) == report
+    return played.status == 0 and renumbered(played.out, order) == report
+
+
+def renumbered(report, order):
+    """Returns a report whose first lines tell outcomes, with these numbers in place of theirs, and sorted by them."""
+    told = report.split(b"\n")
+    outcomes = {number: it.partition(b" ")[2] for number, it in zip(order, told)}
+    return b"\n".join([b"%d %s" % (it, outcomes[it]) for it in sorted(order)] + told[len(order) :])
+
+
+def same_room_orders(session, out, longest=LONGEST):
+    """Whether each room's part begins with an order of the room's lines, and is what `rooms` writes of them in that order."""
+    lines = session.split(b"\n")
+    names = json.loads(lines[0])
+    parts = re.split(rb"^room ([a-z0-9]{1,16})\n", out, flags=re.M)[1:]
+    if [it.decode() for it in parts[::2]] != names:
+        return False
+    of_room = {name: [] for name in names}
+    for at in range(3 * len(names) + 1, len(lines) - (lines[-1] == b"")):
+        of_room[json.loads(lines[at])["room"]].append(at + 1)
+    for at, (name, part) in enumerate(zip(names, parts[1::2])):
+        first, _, report = part.partition(b"\n")
+        order = [int(it) for it in first.split()[1:]]
+        if first.split()[:1] != [b"order"] or sorted(order) != of_room[name] or not in_turn(lines, order):
+            return False
+        head = [json.dumps([name]).encode(), *lines[3 * at + 1 : 3 * at + 4]]
+        played = play(["rooms"], b"\n".join(head + [lines[it - 1] for it in order]) + b"\n", longest=longest)
+        if played.status != 0 or renumbered(played.out.partition(b"\n")[2], order) != report:
+            return False
+    return True
+
+
+# The words whose output shows orders, and whether an output is right for those that it shows.
+ORDERED = {"run": same_order, "runrooms": same_room_orders}
 
 
 def fault_of_order(word, session, played, longest=LONGEST):
-    """What is wrong with a run whose output begins with an order; None of other words, and of a refusal."""
-    if word != "run" or played.status != 0 or same_order(session, played.out, longest):
+    """What is wrong with a run whose output shows orders; None of other words, and of a refusal."""
+    if word not in ORDERED or played.status != 0 or ORDERED[word](session, played.out, longest):
         return None
-    return f"{word} wrote a report that replay does not write of the order {played.out[:80]!r}"
+    return f"{word} wrote another report than without threads in the order {played.out[:80]!r}"
 
 
 def is_answer(word, session, played, whole):
@@ -223,7 +258,7 @@ def is_answer(word, session, played, whole):
         return False
     if played.out == whole.out:
         return True
-    return played.status == 0 and whole.out.startswith(b"order") and same_order(session, played.out)
+    return played.status == 0 and word in ORDERED and ORDERED[word](session, played.out)
 
 
 def each(judge, tasks):

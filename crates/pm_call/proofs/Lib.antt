@@ -1,8 +1,9 @@
 pub mod Crossing
-pub mod Commands
 pub mod Reports
 pub mod LateReports
 pub mod Runs
+pub mod RoomRuns
+pub mod RoomTellings
 pub mod TooLong
 pub mod Answered
 pub mod Obeyed

@@ -65,7 +65,32 @@ run-of s order text lines outcomes room valid same merges once suit plays told =
     (subst (λ (ls : List (Line Op Step)). LinesSuit (room_of s) ls) same suit)
     (subst (λ (ls : List (Line Op Step)). IsTold s.head.clients s.head.schema ls (session meaning s.head.schema (makes s.head.schema) (room_of s) ls).0 (session meaning s.head.schema (makes s.head.schema) (room_of s) ls).1 text) same told_now)
 
--- the same, where what was played was handed over and came back under other names, and where memory may have run out
+-- the same, where what was played was handed over and came back under other names
+pub run-from : (s : Session) (order : List ℕ) (lines : List (Line Op Step)) (outcomes : List LineOutcome) (room : Room)
+    (rules : Schema) (raw : List Bool) (clients : List ClientEntry) (given : List (Line Op Step)) (text : List ℕ)
+    → Valid (documents_of s.head.schema.spec) s.head.doc
+    → raw ≡ raw_flags s.head.clients → clients ≡ s.head.clients → given ≡ s.lines → rules ≡ s.head.schema
+    → lines ≡ in_order given order
+    → order ≡ merged (callers lines) (by_client 0 (length raw) given)
+    → IsOrder (map numbers (by_client 0 (length raw) given)) order
+    → LinesSuit {Rules = Schema} {Doc = Doc} {Reason = Reason} (opened s.head.doc raw) lines
+    → (outcomes, room) ≡ session meaning rules (makes rules) (opened s.head.doc raw) lines
+    → IsTold clients rules lines outcomes room text
+    → IsRun s text
+run-from s order lines outcomes room rules raw clients given text valid raws entries own same in_lines merges once suit plays told =
+    let lines_are = subst (λ (g : List (Line Op Step)). lines ≡ in_order g order) own in_lines in
+    let merges_own = subst (λ (g : List (Line Op Step)). order ≡ merged (callers lines) (by_client 0 (length raw) g)) own merges in
+    let merges_are = subst (λ (b : List Bool). order ≡ merged (callers lines) (by_client 0 (length b) s.lines)) raws merges_own in
+    let once_own = subst (λ (g : List (Line Op Step)). IsOrder (map numbers (by_client 0 (length raw) g)) order) own once in
+    let once_are = subst (λ (b : List Bool). IsOrder (map numbers (by_client 0 (length b) s.lines)) order) raws once_own in
+    let suit_is = subst (λ (b : List Bool). LinesSuit {Rules = Schema} {Doc = Doc} {Reason = Reason} (opened s.head.doc b) lines) raws suit in
+    let plays_own = subst (λ (b : List Bool). (outcomes, room) ≡ session meaning rules (makes rules) (opened s.head.doc b) lines) raws plays in
+    let plays_are = subst (λ (h : Schema). (outcomes, room) ≡ session meaning h (makes h) (room_of s) lines) same plays_own in
+    let told_own = subst (λ (l : List ClientEntry). IsTold l rules lines outcomes room text) entries told in
+    let told_is = subst (λ (h : Schema). IsTold s.head.clients h lines outcomes room text) same told_own in
+    run-of s order text lines outcomes room valid lines_are merges_are once_are suit_is plays_are told_is
+
+-- the same, where memory may have run out
 pub run-in : (s : Session) (order : List ℕ) (lines : List (Line Op Step)) (outcomes : List LineOutcome) (room : Room)
     (rules : Schema) (raw : List Bool) (clients : List ClientEntry) (given : List (Line Op Step)) (r : Result (String Global) AllocError)
     → Valid (documents_of s.head.schema.spec) s.head.doc
@@ -79,17 +104,7 @@ pub run-in : (s : Session) (order : List ℕ) (lines : List (Line Op Step)) (out
     → IfOk r (λ t. IsRun s (string_bytes t))
 run-in s order lines outcomes room rules raw clients given (Err e) valid raws entries own same in_lines merges once suit plays told = told
 run-in s order lines outcomes room rules raw clients given (Ok t) valid raws entries own same in_lines merges once suit plays told =
-    let lines_are = subst (λ (g : List (Line Op Step)). lines ≡ in_order g order) own in_lines in
-    let merges_own = subst (λ (g : List (Line Op Step)). order ≡ merged (callers lines) (by_client 0 (length raw) g)) own merges in
-    let merges_are = subst (λ (b : List Bool). order ≡ merged (callers lines) (by_client 0 (length b) s.lines)) raws merges_own in
-    let once_own = subst (λ (g : List (Line Op Step)). IsOrder (map numbers (by_client 0 (length raw) g)) order) own once in
-    let once_are = subst (λ (b : List Bool). IsOrder (map numbers (by_client 0 (length b) s.lines)) order) raws once_own in
-    let suit_is = subst (λ (b : List Bool). LinesSuit {Rules = Schema} {Doc = Doc} {Reason = Reason} (opened s.head.doc b) lines) raws suit in
-    let plays_own = subst (λ (b : List Bool). (outcomes, room) ≡ session meaning rules (makes rules) (opened s.head.doc b) lines) raws plays in
-    let plays_are = subst (λ (h : Schema). (outcomes, room) ≡ session meaning h (makes h) (room_of s) lines) same plays_own in
-    let told_own = subst (λ (l : List ClientEntry). IsTold l rules lines outcomes room (string_bytes t)) entries told in
-    let told_is = subst (λ (h : Schema). IsTold s.head.clients h lines outcomes room (string_bytes t)) same told_own in
-    run-of s order (string_bytes t) lines outcomes room valid lines_are merges_are once_are suit_is plays_are told_is
+    run-from s order lines outcomes room rules raw clients given (string_bytes t) valid raws entries own same in_lines merges once suit plays told
 
 -- the line `order` and the report that was put together are what is told
 pub told-of : (clients : List ClientEntry) (schema : Schema) (lines : List (Line Op Step)) (outcomes : List LineOutcome) (room after : Room) (told : List Numbered) (front standing text : List ℕ)

@@ -11,6 +11,8 @@ pub mod LatePlaying
 pub mod LateSounds
 pub mod Summing
 pub mod Running
+pub mod RoomRuns
+pub mod Handing
 pub mod Selecting
 pub mod Finding
 pub mod Output

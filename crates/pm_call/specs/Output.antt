@@ -10,11 +10,12 @@ use Rattle.pm_report.specs.Words.{◌&◌, line}
 use Rattle.pm_call.specs.declared.call.Status.{Status}
 use Rattle.pm_call.specs.declared.call.Status.TheVariants.{Done, SessionRefused, Usage, ReadFault, WriteFault, NoMemory}
 use Rattle.pm_call.specs.declared.words.Command.{Command}
-use Rattle.pm_call.specs.declared.words.Command.TheVariants.{Check, Replay, Select, Run, Gen, Late, At, Rooms}
+use Rattle.pm_call.specs.declared.words.Command.TheVariants.{Check, Replay, Select, Run, Gen, Late, At, Rooms, RunRooms}
 use Rattle.pm_call.specs.Contents.{Content, one, many, FileIs}
 use Rattle.pm_call.specs.Files.{file_of, form_of}
 use Rattle.pm_call.specs.Playing.{report_of}
 use Rattle.pm_call.specs.RoomReports.{rooms_report}
+use Rattle.pm_call.specs.RoomRuns.{AreRun}
 use Rattle.pm_call.specs.LatePlaying.{late_report_of, IsVersionText}
 use Rattle.pm_call.specs.Selecting.{IsSelected}
 use Rattle.pm_call.specs.Summing.{summary_of}
@@ -29,7 +30,7 @@ abbrev pub counts_of : Session → List ℕ
 counts_of s = line (codes "ok" & decimal (length s.lines) & decimal (length s.head.doc.tokens))
 
 -- What a command may write of what its file is found to be. Of `check`, `replay`, `gen`, `late`, `at` and `rooms` it is one
--- text; what `select` writes tells lines, and what `run` writes is of an order. No other file is found than one of the command's form.
+-- text; what `select` writes tells lines, and what `run` and `runrooms` write is of an order of the lines of each room. No other file is found than one of the command's form.
 abbrev pub IsTextOf : Command → Result Content Refusal → List ℕ → Type 0
 IsTextOf Check (Ok (one s)) text = text ≡ counts_of s
 IsTextOf Replay (Ok (one s)) text = text ≡ report_of s
@@ -39,6 +40,7 @@ IsTextOf (Gen asked) (Ok (one s)) text = text ≡ summary_of asked s
 IsTextOf Late (Ok (one s)) text = text ≡ late_report_of s
 IsTextOf (At n) (Ok (one s)) text = IsVersionText s n text
 IsTextOf Rooms (Ok (many rooms)) text = text ≡ rooms_report rooms
+IsTextOf RunRooms (Ok (many rooms)) text = AreRun rooms text
 IsTextOf command (Err r) text = text ≡ refusal r
 IsTextOf command (Ok other) text = ⊥
 

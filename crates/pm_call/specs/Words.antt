@@ -4,7 +4,7 @@ use Rattle.std.specs.Cmp.Lexicographic.{pointwise}
 use Rattle.pm_gen.specs.Asking.{number_of, asked_of}
 use Rattle.pm_gen.specs.Bounds.{InBounds}
 use Rattle.pm_call.specs.declared.words.Command.{Command}
-use Rattle.pm_call.specs.declared.words.Command.TheVariants.{Check, Replay, Select, Run, Gen, Late, At, Rooms}
+use Rattle.pm_call.specs.declared.words.Command.TheVariants.{Check, Replay, Select, Run, Gen, Late, At, Rooms, RunRooms}
 
 -- what a word asks for
 abbrev pub command_named : List ℕ → Option Command
@@ -14,7 +14,8 @@ command_named word =
     else (if pointwise nat_eq word (codes "select") then Some Select
     else (if pointwise nat_eq word (codes "run") then Some Run
     else (if pointwise nat_eq word (codes "late") then Some Late
-    else (if pointwise nat_eq word (codes "rooms") then Some Rooms else None)))))
+    else (if pointwise nat_eq word (codes "rooms") then Some Rooms
+    else (if pointwise nat_eq word (codes "runrooms") then Some RunRooms else None))))))
 
 -- what a word with one number asks for, which is one to twenty decimal digits and below 2^64
 abbrev pub at_named : (word version : List ℕ) → Option Command
@@ -44,8 +45,9 @@ without_threads (Some Late) = Some Late
 without_threads (Some (At n)) = Some (At n)
 without_threads (Some (Gen asked)) = Some (Gen asked)
 without_threads (Some Rooms) = Some Rooms
+without_threads (Some RunRooms) = None
 
--- what the words ask for where there are no threads: the word `run` is then none of the forms
+-- what the words ask for where there are no threads: the words `run` and `runrooms` are then none of the forms
 abbrev pub plain_command_of : List (List ℕ) → Option Command
 plain_command_of words = without_threads (command_of words)
 
@@ -58,4 +60,5 @@ IsBounded Run = ⊤
 IsBounded Late = ⊤
 IsBounded (At n) = ⊤
 IsBounded Rooms = ⊤
+IsBounded RunRooms = ⊤
 IsBounded (Gen asked) = InBounds asked.clients asked.rounds

@@ -26,6 +26,7 @@ pub struct Answer {
 /// The answer of a command that takes no threads to what an input was found to be.
 pub fn answer_to(alloc: Global, command: Command, found: &Found) -> Result<Answer, AllocError>
     requires alone { command ≡ Command.Run → ⊥ }
+    requires apart { command ≡ Command.RunRooms → ⊥ }
     requires holds { FoundHolds (form_of command) found.now }
     ensures text { IfOk result (λ a. IsTextOf command (found_of found.now) (string_bytes a.text)) }
     ensures says { IfOk result (λ a. a.status ≡ status_for (found_of found.now)) }
@@ -60,13 +61,14 @@ fn told(alloc: Global, command: Command, session: &Session) -> Result<String, Al
         Command::Gen(asked) => summarize(alloc, asked, session),
         Command::Late => replay_late(alloc, session),
         Command::At(version) => tell_version(alloc, version, session),
-        Command::Run | Command::Rooms => unreachable!(),
+        Command::Run | Command::Rooms | Command::RunRooms => unreachable!(),
     }
 }
 
 /// What the command writes of rooms.
 fn rooms_told(alloc: Global, command: Command, rooms: &[RoomSession]) -> Result<String, AllocError>
-    requires { FoundRooms (form_of command) rooms.now }
+    requires apart { command ≡ Command.RunRooms → ⊥ }
+    requires holds { FoundRooms (form_of command) rooms.now }
     ensures { IfOk result (λ s. IsTextOf command (Ok (many rooms.now)) (string_bytes s)) }
 {
     match command {
@@ -77,7 +79,8 @@ fn rooms_told(alloc: Global, command: Command, rooms: &[RoomSession]) -> Result<
         | Command::Run
         | Command::Gen(_)
         | Command::Late
-        | Command::At(_) => unreachable!(),
+        | Command::At(_)
+        | Command::RunRooms => unreachable!(),
     }
 }
 

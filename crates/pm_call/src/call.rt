@@ -13,7 +13,7 @@ ghost use Rattle.pm_call.specs.RoomSounds.{AllRoomsSound, AllRoomsApart};
 ghost use Rattle.pm_call.specs.Headline.{Silent, number_of};
 
 use crate::making::EditMaker;
-use crate::obeying::{obey, obey_on_threads};
+use crate::obeying::{obey, obey_any};
 use crate::words::{Command, command_of, plain_command_of};
 use pm_io::{Gate, Sink, Source};
 use pm_workers::Crew;
@@ -54,9 +54,10 @@ impl Status {
     }
 }
 
-/// Does what the words say. A session that `run` names is played with a thread for each client, raw clients too, and the gate
-/// is asked before each message that a line presents. All other words are handed to `plain`. Under `run` it may wait, and
-/// returns if the threads do.
+/// Does what the words say. A session that `run` names is played with a thread for each client, raw clients too, and the rooms that
+/// `runrooms` names with one for each person. The gate is asked before each message that a line presents: with the client's number,
+/// or the person's, and the count of its calls so far. All other words are done as by `plain`. Under `run` and `runrooms` it may
+/// wait, and returns if the threads do.
 #[tactic(auto, using(crate::proofs::Reports::all_sound, crate::proofs::LateReports::all_late_sound, crate::proofs::RoomReports::all_rooms_sound, crate::proofs::RoomReports::all_rooms_apart))]
 pub fn run<R: Source, W: Sink, G: Gate + Sync, T: Threads + Wait + Sync>(
     alloc: Global,
@@ -120,20 +121,18 @@ pub fn run<R: Source, W: Sink, G: Gate + Sync, T: Threads + Wait + Sync>(
     ensures session { (numbers : Asked) → command_of (map string_bytes words.now) ≡ Some (Command.Gen numbers)
         → result ≡ Status.SessionRefused → ⊥ }
 {
-    match command_of(words) {
-        Some(Command::Run) => {
-            let crew = Crew {
-                rt,
-                maker: &EditMaker,
-                gate,
-            };
-            obey_on_threads(alloc, &crew, source, sink)
-        }
-        _ => plain(alloc, words, source, sink),
-    }
+    let Some(command) = command_of(words) else {
+        return Status::Usage;
+    };
+    let crew = Crew {
+        rt,
+        maker: &EditMaker,
+        gate,
+    };
+    obey_any(alloc, command, &crew, source, sink)
 }
 
-/// Does what the words say, without threads: to it the word `run` is none of the forms. It returns for every input.
+/// Does what the words say, without threads: to it the words `run` and `runrooms` are none of the forms. It returns for every input.
 #[tactic(auto, using(crate::proofs::Reports::all_sound, crate::proofs::LateReports::all_late_sound, crate::proofs::RoomReports::all_rooms_sound, crate::proofs::RoomReports::all_rooms_apart))]
 pub fn plain<R: Source, W: Sink>(
     alloc: Global,

@@ -63,7 +63,8 @@ pub fn found_for<R: Source>(
         | Command::Run
         | Command::Late
         | Command::At(_)
-        | Command::Rooms => found_in(alloc, command.form(), source),
+        | Command::Rooms
+        | Command::RunRooms => found_in(alloc, command.form(), source),
     }
 }
 

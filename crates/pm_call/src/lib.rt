@@ -15,6 +15,7 @@ mod one_output;
 mod replaying;
 mod rooms;
 mod running;
+mod running_rooms;
 mod selecting;
 mod summing;
 mod version;

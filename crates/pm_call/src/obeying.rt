@@ -12,6 +12,7 @@ use crate::files::FileForm;
 use crate::finding::{found_for, found_in};
 use crate::making::EditMaker;
 use crate::running::answer_on_threads;
+use crate::running_rooms::answer_rooms_on_threads;
 use crate::words::Command;
 use pm_head::Form;
 use pm_io::{Gate, ReadError, Sink, Source, write_all};
@@ -28,6 +29,7 @@ pub fn obey<R: Source, W: Sink>(
     sink: &mut W,
 ) -> Status
     requires alone { command ≡ Command.Run → ⊥ }
+    requires apart { command ≡ Command.RunRooms → ⊥ }
     requires bounded { IsBounded command }
     ensures { Obeyed command result (R.left source.old) (R.left source.new) (R.faults source.old) (R.faults source.new)
         (W.written sink.old) (W.written sink.new) (W.faults sink.old) (W.faults sink.new) }
@@ -43,8 +45,33 @@ pub fn obey<R: Source, W: Sink>(
     }
 }
 
+/// Obeys a command, by threads where it takes them.
+pub fn obey_any<R: Source, W: Sink, G: Gate + Sync, T: Threads + Wait + Sync>(
+    alloc: Global,
+    command: Command,
+    crew: &Crew<EditMaker, G, T>,
+    source: &mut R,
+    sink: &mut W,
+) -> Status
+    requires { IsBounded command }
+    ensures { Obeyed command result (R.left source.old) (R.left source.new) (R.faults source.old) (R.faults source.new)
+        (W.written sink.old) (W.written sink.new) (W.faults sink.old) (W.faults sink.new) }
+{
+    match command {
+        Command::Run => obey_on_threads(alloc, crew, source, sink),
+        Command::RunRooms => obey_rooms_on_threads(alloc, crew, source, sink),
+        Command::Check
+        | Command::Replay
+        | Command::Select
+        | Command::Gen(_)
+        | Command::Late
+        | Command::At(_)
+        | Command::Rooms => obey(alloc, command, source, sink),
+    }
+}
+
 /// Obeys the word `run`: plays the session that a source gives, with a thread for each client.
-pub fn obey_on_threads<R: Source, W: Sink, G: Gate + Sync, T: Threads + Wait + Sync>(
+fn obey_on_threads<R: Source, W: Sink, G: Gate + Sync, T: Threads + Wait + Sync>(
     alloc: Global,
     crew: &Crew<EditMaker, G, T>,
     source: &mut R,
@@ -59,6 +86,27 @@ pub fn obey_on_threads<R: Source, W: Sink, G: Gate + Sync, T: Threads + Wait + S
         Err(_) => return Status::NoMemory,
     };
     match answer_on_threads(alloc, crew, found) {
+        Ok(answer) => deliver(sink, &answer),
+        Err(AllocError) => Status::NoMemory,
+    }
+}
+
+/// Obeys the word `runrooms`: plays the rooms that a source gives, with a thread for each person.
+fn obey_rooms_on_threads<R: Source, W: Sink, G: Gate + Sync, T: Threads + Wait + Sync>(
+    alloc: Global,
+    crew: &Crew<EditMaker, G, T>,
+    source: &mut R,
+    sink: &mut W,
+) -> Status
+    ensures { Obeyed Command.RunRooms result (R.left source.old) (R.left source.new) (R.faults source.old) (R.faults source.new)
+        (W.written sink.old) (W.written sink.new) (W.faults sink.old) (W.faults sink.new) }
+{
+    let found = match found_in(alloc, FileForm::ManyRooms, source) {
+        Ok(found) => found,
+        Err(ReadError::ReadFault) => return Status::ReadFault,
+        Err(_) => return Status::NoMemory,
+    };
+    match answer_rooms_on_threads(alloc, crew, found) {
         Ok(answer) => deliver(sink, &answer),
         Err(AllocError) => Status::NoMemory,
     }

@@ -34,7 +34,7 @@ fn push_room(alloc: Global, text: &mut String, room: &RoomSession) -> Result<(),
 }
 
 /// The line `room` with a name.
-fn room_line(alloc: Global, name: &str) -> Result<String, AllocError>
+pub fn room_line(alloc: Global, name: &str) -> Result<String, AllocError>
     ensures { IfOk result (λ s. string_bytes s ≡ room_line name.now) }
 {
     format!(in alloc; "room {name}\n")

@@ -73,7 +73,7 @@ where
 }
 
 /// The line `order`, and the report of a session that was played.
-fn told(
+pub fn told(
     alloc: Global,
     entries: &[ClientEntry],
     played: Threaded<DocChange, Op>,

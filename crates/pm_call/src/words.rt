@@ -27,6 +27,9 @@ pub enum Command {
     At(u64),
     /// Plays the rooms of a file of many with their lines in file order, and writes each room's report.
     Rooms,
+    /// Plays the rooms of a file of many with a thread for each person, and writes for each room the order of its lines and its
+    /// report.
+    RunRooms,
 }
 
 impl Command {
@@ -36,7 +39,7 @@ impl Command {
     {
         match self {
             Command::Late | Command::At(_) => FileForm::OneRoom(Form::Late),
-            Command::Rooms => FileForm::ManyRooms,
+            Command::Rooms | Command::RunRooms => FileForm::ManyRooms,
             Command::Check | Command::Replay | Command::Select | Command::Run | Command::Gen(_) => {
                 FileForm::OneRoom(Form::Plain)
             }
@@ -44,7 +47,7 @@ impl Command {
     }
 }
 
-/// The one word `check`, `replay`, `select`, `run`, `late` or `rooms`, `at` with a number below 2^64 of one to twenty decimal digits, or
+/// The one word `check`, `replay`, `select`, `run`, `late`, `rooms` or `runrooms`, `at` with a number below 2^64 of one to twenty decimal digits, or
 /// `gen` with three numbers that a session may be made from. All other words are none of the forms.
 pub fn command_of(words: &[String]) -> Option<Command>
     ensures named { result ≡ command_of (map string_bytes words.now) }
@@ -63,7 +66,7 @@ pub fn command_of(words: &[String]) -> Option<Command>
     }
 }
 
-/// The words but for `run`, which takes threads: it is none of the forms here.
+/// The words but for `run` and `runrooms`, which take threads: they are none of the forms here.
 pub fn plain_command_of(words: &[String]) -> Option<Command>
     ensures named { result ≡ plain_command_of (map string_bytes words.now) }
     ensures bounds { IfSome result IsBounded }
@@ -78,7 +81,7 @@ fn without_threads(command: Option<Command>) -> Option<Command>
     ensures bounds { IfSome result IsBounded }
 {
     match command {
-        Some(Command::Run) | None => None,
+        Some(Command::Run | Command::RunRooms) | None => None,
         Some(command) => Some(command),
     }
 }
@@ -123,6 +126,8 @@ fn command_named(word: &str) -> Option<Command>
         Some(Command::Late)
     } else if word == "rooms" {
         Some(Command::Rooms)
+    } else if word == "runrooms" {
+        Some(Command::RunRooms)
     } else {
         None
     }

@@ -27,7 +27,7 @@ fn main(rt: HostRuntime) -> io::Result<ExitCode> {
     let _told = match status {
         Status::Done | Status::SessionRefused => Ok(()),
         Status::Usage => eprintln!(rt;
-            "usage: check | replay | run | gen CLIENTS LINES NUMBER | select | late | at VERSION | rooms"
+            "usage: check | replay | run | gen CLIENTS LINES NUMBER | rooms | runrooms | late | at VERSION | select"
         ),
         Status::ReadFault => eprintln!(rt; "read fault"),
         Status::WriteFault => eprintln!(rt; "write fault"),

@@ -56,7 +56,7 @@ final {"content":[{"content":[{"text":"xab","type":"text"}],"type":"paragraph"}]
 
 // The words, the number of the read that fails, the status, how many bytes are written, and with what they begin. The second
 // read is the last, which finds the end. Wrong words are told before anything is read, and `gen` reads nothing.
-const ENDS: [(&str, u64, Status, usize, &str); 28] = [
+const ENDS: [(&str, u64, Status, usize, &str); 32] = [
     ("", 1, Status::Usage, 0, ""),
     ("replay x", 1, Status::Usage, 0, ""),
     ("run x", 1, Status::Usage, 0, ""),
@@ -65,6 +65,7 @@ const ENDS: [(&str, u64, Status, usize, &str); 28] = [
     ("gen 1 1 1 1", 1, Status::Usage, 0, ""),
     ("--help", 1, Status::Usage, 0, ""),
     ("late 1", 1, Status::Usage, 0, ""),
+    ("runrooms x", 1, Status::Usage, 0, ""),
     ("at", 1, Status::Usage, 0, ""),
     ("at x", 1, Status::Usage, 0, ""),
     ("at 18446744073709551616", 1, Status::Usage, 0, ""),
@@ -97,6 +98,9 @@ const ENDS: [(&str, u64, Status, usize, &str); 28] = [
     ("run", 1, Status::ReadFault, 0, ""),
     ("run", 2, Status::ReadFault, 0, ""),
     ("run", 3, Status::Done, 369, "order 4 5\n4 made 1\n"),
+    ("runrooms", 1, Status::ReadFault, 0, ""),
+    ("runrooms", 2, Status::ReadFault, 0, ""),
+    ("runrooms", 3, Status::SessionRefused, 12, "refused 1 6\n"),
 ];
 
 // The words of a text, which blanks part.
@@ -153,11 +157,15 @@ fn a_sink_that_fails_keeps_a_front(rt: HostRuntime) -> Result<(), Fail> {
     Ok(())
 }
 
-// To `plain` the word `run` is none of the forms.
+// To `plain` the words `run` and `runrooms` are none of the forms.
 #[test]
 fn plain_takes_no_threads(rt: HostRuntime) -> Result<(), Fail> {
     let alloc = rt.alloc();
-    for (given, want) in [("run", Status::Usage), ("check", Status::Done)] {
+    for (given, want) in [
+        ("run", Status::Usage),
+        ("runrooms", Status::Usage),
+        ("check", Status::Done),
+    ] {
         let words = words(&rt, given)?;
         let mut source = SureSource::new(Vec::from_slice(alloc, SESSION.as_bytes())?);
         let mut sink = MemSink::new(alloc, 1000, Vec::new(alloc))?;
@@ -177,6 +185,28 @@ const TWO: &str =
 {"c":"a","op":"push"}
 {"c":"b","op":"push"}
 "#;
+
+// Two people in two rooms, each with an exchange in either. The second room lists them the other way round.
+const HALL: &str = r#"["x","y"]
+{"nodes":[{"name":"doc","content":"paragraph+"},{"name":"paragraph","content":"text*"},{"name":"text"}]}
+{"type":"doc","content":[{"type":"paragraph","content":[{"type":"text","text":"ab"}]}]}
+["a","b"]
+{"nodes":[{"name":"doc","content":"paragraph+"},{"name":"paragraph","content":"text*"},{"name":"text"}]}
+{"type":"doc","content":[{"type":"paragraph","content":[{"type":"text","text":"cd"}]}]}
+["b","a"]
+{"room":"x","c":"a","op":"push"}
+{"room":"x","c":"b","op":"push"}
+{"room":"y","c":"a","op":"push"}
+{"room":"y","c":"b","op":"push"}
+"#;
+
+// The word, the file, who is held back, for whom, and with what the output begins then.
+const HELD: [(&str, &str, u32, u32, &str); 4] = [
+    ("run", TWO, 1, 0, "order 4 "),
+    ("run", TWO, 0, 1, "order 5 "),
+    ("runrooms", HALL, 1, 0, "room x\norder 8 9\n"),
+    ("runrooms", HALL, 0, 1, "room x\norder 9 8\n"),
+];
 
 // How many turns a call is held back at most.
 const TURNS: u32 = 1_000_000;
@@ -227,15 +257,16 @@ impl Gate for HoldsBack {
     }
 }
 
-// Whichever client is held back, the other has a thread of its own: its line is the first of the order. The gate was asked for
+// Whichever client is held back, the other has a thread of its own: its line is the first of the order. So it is with two people
+// in rooms: their numbers are those of their first appearance, and their calls are counted over all rooms. The gate was asked for
 // all four calls, and held none of them to its limit.
 #[test]
 fn clients_have_threads_of_their_own(rt: HostRuntime) -> Result<(), Fail> {
     let alloc = rt.alloc();
-    let words = words(&rt, "run")?;
-    for (held, other, front) in [(1, 0, "order 4 "), (0, 1, "order 5 ")] {
+    for (word, file, held, other, front) in HELD {
+        let words = words(&rt, word)?;
         let gate = HoldsBack::new(held, other);
-        let mut source = SureSource::new(Vec::from_slice(alloc, TWO.as_bytes())?);
+        let mut source = SureSource::new(Vec::from_slice(alloc, file.as_bytes())?);
         let mut sink = MemSink::new(alloc, 1000, Vec::new(alloc))?;
         let status = run(alloc, &rt, &words, &mut source, &mut sink, &gate);
         assert_eq!(rt; status, Status::Done);
