@@ -39,19 +39,6 @@ use Rattle.pm_call.specs.Playing.{Room, room_of}
 use Rattle.pm_call.specs.LatePlaying.{late_playing, late_room_after, late_room_settled, late_report_of, version_line, past_line, IsTextAt, IsVersionText}
 use Rattle.pm_call.specs.LateSounds.{LateRoomsSound, AllLateSound}
 
-pub late-reported : (s : Session) (r : Result (String Global) AllocError) (outcomes : List Numbered) (before after : Room) (standing : List ℕ)
-    → outcomes ≡ with_numbers s.lines (late_playing s).0 → before ≡ (late_playing s).1 → standing ≡ client_lines s.head.schema.spec s.head.clients 0 before.members
-    → after ≡ settled meaning s.head.schema before
-    → IfOk r (λ t. string_bytes t ≡ outcome_lines outcomes ++ standing
-    ++ line (codes "log" & decimal (length after.authority.log)) ++ entry_lines s.head.schema.spec s.head.clients 1 after.authority.log
-    ++ settled_lines s.head.clients 0 after.members ++ line (codes "final" & doc_text s.head.schema.spec after.authority.doc))
-    → IfOk r (λ t. string_bytes t ≡ late_report_of s)
-late-reported s r outcomes before after standing o b st a h =
-    let one = rw a at h in
-    let two = rw st at one in
-    let three = rw b at two in
-    rw o at three
-
 -- the lines of a session that is read suit its room
 pub late-suits : (s : Session) → HoldsLate s → LateLinesSuit (room_of s) s.lines
 late-suits s held = opened-suits-late Schema Doc Reason Step s.head.doc (raw_flags s.head.clients) s.lines held.suit
@@ -108,12 +95,6 @@ module _ (schema : Schema) (first : Doc) (log : List (Named Step)) (n : ℕ) (te
   text-found doc within applies is =
       subst (λ b. MatchBool b (text ≡ past_line (length log)) ((doc : Doc) × AllApply meaning schema first (take n log) doc × (text ≡ version_line schema.spec n doc)))
       (sym (is-within (length log) n within)) (doc, applies, is)
-
-  -- or there are fewer steps
-  pub text-past : (told : ℕ) → length log < n → told ≡ length log → text ≡ past_line told → IsTextAt schema first log n text
-  text-past told past same is =
-      subst (λ b. MatchBool b (text ≡ past_line (length log)) ((doc : Doc) × AllApply meaning schema first (take n log) doc × (text ≡ version_line schema.spec n doc)))
-      (sym (is-past (length log) n past)) (is ∙ ap past_line same)
 
 -- the rooms of every session
 pub all_late_sound : (input : List ℕ) → AllLateSound input

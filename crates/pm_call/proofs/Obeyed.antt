@@ -20,31 +20,9 @@ use Rattle.pm_call.specs.Cases.{Tells, IsByCase}
 use Rattle.pm_call.proofs.Cases.{tells, by-case}
 use Rattle.pm_call.proofs.Answered.{answered-found, answer-of, answers-read}
 
-no-read-answers : IsAnswer ReadFault → ⊥
-no-read-answers (inl e) = absurd (cc)
-no-read-answers (inr e) = absurd (cc)
-
 no-memory-answers : IsAnswer NoMemory → ⊥
 no-memory-answers (inl e) = absurd (cc)
 no-memory-answers (inr e) = absurd (cc)
-
--- a read failed, and nothing was written
-pub read-failed : (asked : Command) (left rest : Option (List ℕ)) (f g : ℕ) (old : Option (List ℕ)) (w : ℕ) → Rose f g
-    → ReadsInput asked ⊎ ((rest ≡ left) × (g ≡ f)) → Obeyed asked ReadFault left rest f g old old w w
-read-failed asked left rest f g old w rose made = record {
-  no_usage = λ e. absurd (cc);
-  silent = refl;
-  output = λ input is. refl;
-  read_fault = λ e. rose;
-  write_fault = λ e. absurd (cc);
-  no_read_fault = inl refl;
-  no_write_fault = inr refl;
-  read_whole = λ reads e. absurd (cc);
-  read_enough = λ reads e. absurd (cc);
-  made = made;
-  complete = λ no_read no_write. absurd (no_read rose);
-  answers = λ h. absurd (no-read-answers h);
-}
 
 -- memory ran out before anything was written
 pub out-of-memory : (asked : Command) (left rest : Option (List ℕ)) (f g : ℕ) (old : Option (List ℕ)) (w : ℕ) → g ≡ f

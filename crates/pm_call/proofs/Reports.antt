@@ -36,18 +36,6 @@ use Rattle.pm_call.specs.Making.{makes}
 use Rattle.pm_call.specs.Playing.{Room, room_of, playing, room_after, room_settled, report_of}
 use Rattle.pm_call.specs.Sounds.{RoomsSound, AllSound}
 
-pub reported : (s : Session) (r : Result (String Global) AllocError) (outcomes : List Numbered) (before after : Room) (standing : List ℕ)
-    → outcomes ≡ with_numbers s.lines (playing s).0 → before ≡ (playing s).1 → standing ≡ client_lines s.head.schema.spec s.head.clients 0 before.members → after ≡ settled meaning s.head.schema before
-    → IfOk r (λ t. string_bytes t ≡ outcome_lines outcomes ++ standing
-    ++ line (codes "log" & decimal (length after.authority.log)) ++ entry_lines s.head.schema.spec s.head.clients 1 after.authority.log
-    ++ settled_lines s.head.clients 0 after.members ++ line (codes "final" & doc_text s.head.schema.spec after.authority.doc))
-    → IfOk r (λ t. string_bytes t ≡ report_of s)
-reported s r outcomes before after standing o b st a h =
-    let one = rw a at h in
-    let two = rw st at one in
-    let three = rw b at two in
-    rw o at three
-
 -- lines that suit a room suit it up to each of them
 suits-front : (room : Room) (lines : List (Line Op Step)) (k : ℕ) → LinesSuit room lines → LinesSuit room (take k lines)
 suits-front room lines k h = record { earlier = h.earlier; counted = h.counted; suit = suit-front (kinds_of room.members) h.earlier lines k h.suit }

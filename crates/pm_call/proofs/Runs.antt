@@ -105,15 +105,3 @@ pub run-in : (s : Session) (order : List ℕ) (lines : List (Line Op Step)) (out
 run-in s order lines outcomes room rules raw clients given (Err e) valid raws entries own same in_lines merges once suit plays told = told
 run-in s order lines outcomes room rules raw clients given (Ok t) valid raws entries own same in_lines merges once suit plays told =
     run-from s order lines outcomes room rules raw clients given (string_bytes t) valid raws entries own same in_lines merges once suit plays told
-
--- the line `order` and the report that was put together are what is told
-pub told-of : (clients : List ClientEntry) (schema : Schema) (lines : List (Line Op Step)) (outcomes : List LineOutcome) (room after : Room) (told : List Numbered) (front standing text : List ℕ)
-    → InFileOrder lines outcomes told → front ≡ order_line lines → standing ≡ client_lines schema.spec clients 0 room.members → after ≡ settled meaning schema room
-    → text ≡ front ++ (outcome_lines told ++ standing
-    ++ line (codes "log" & decimal (length after.authority.log)) ++ entry_lines schema.spec clients 1 after.authority.log
-    ++ settled_lines clients 0 after.members ++ line (codes "final" & doc_text schema.spec after.authority.doc))
-    → IsTold clients schema lines outcomes room text
-told-of clients schema lines outcomes room after told front standing text in_order f st a h =
-    let one = rw a at h in
-    let two = rw st at one in
-    record { told = told; in_order = in_order; written = rw f at two }
