@@ -30,7 +30,7 @@ function session(count, every) {
   return fileOf([types, first, ["a"], ...lines])
 }
 
-title("long sessions, microseconds of the processor a line", "letters.js", "")
+title("microseconds of the processor a line", "letters.js", "")
 for (const [what, every] of [["nothing undone", 0], ["an undo every 1,000 lines", 1000], ["an undo every other line", 2]]) {
   for (const count of told.length ? told : [25000, 50000, 100000]) {
     const input = session(count, every), megabytes = []

@@ -16,5 +16,5 @@ const session = fileOf([types, first, ["a"], ...Array.from({length: steps}, (_, 
 
 const words = [...[0, 63, 64, half, half + 63, steps].map(version => ["at", String(version)]), ["late"]]
 const figures = inTurn(words.map(it => () => weighed([PROGRAM, ...it], session).busy))
-title(`a log of ${steps} steps, the processor's milliseconds`, "versions.js", "")
+title("milliseconds of the processor", "versions.js", "")
 words.forEach((it, i) => row(it.join(" "), figures[i]))
