@@ -1,6 +1,6 @@
 -- How all stand where an exchange ended, and what it told.
-use Rattle.std.specs.Prelude.{◌≡◌, ◌↔◌, ◌==◌, if◌then◌else◌, ℕ, ◌+◌, ◌-◌, Bool, true, false, List, [], ◌∷◌, ◌++◌, length, slice_get, Some, Result, Ok, Err, IfOk, OnErr, refl}
-use Rattle.std.proofs.Common.{ap, subst, ◌∙◌, arith, inr}
+use Rattle.std.specs.Prelude.{◌≡◌, ◌↔◌, ◌==◌, if◌then◌else◌, ℕ, ◌+◌, ◌-◌, ◌≤◌, Bool, true, false, List, [], ◌∷◌, ◌++◌, length, drop, slice_get, Some, Result, Ok, Err, IfOk, OnErr, refl}
+use Rattle.std.proofs.Common.{ap, sym, subst, ◌∙◌, arith, inr, length-append, length-drop}
 use Rattle.std.proofs.lemmas.Bool.{eqb-true, eqb-false}
 use Rattle.pm_change.specs.Changes.{Meaning, Laws}
 use Rattle.pm_authority.specs.declared.authority.Authority.{Authority}
@@ -23,6 +23,7 @@ use Rattle.pm_client.proofs.Answering.{never-refused}
 use Rattle.pm_session.proofs.Keeping.{taken-last}
 use Rattle.pm_session.proofs.Moves.{Moved, composes-moved, sent-moved, given-moved, takes-moved}
 use Rattle.pm_session.proofs.SoundLaws.{new-stands}
+use Rattle.pm_session.specs.Hosts.{EndsWith}
 use Rattle.pm_engine.specs.Exchanges.{answered, keeper, Exchanged, LeftExchanging, SubmitsOld}
 
 pub on-err : {T E P : Type 0} (r : Result T E) → P → OnErr r P
@@ -59,11 +60,40 @@ module _ {Rules Doc Reason C : Type 0} (m : Meaning Rules Doc Reason C) (rules :
     pub kept-stood : new ≡ (answered m rules a c kind).1 → next ≡ keeper m rules a c kind → Stood m rules a c new next
     kept-stood is to = rw (is, to) (by-move true true (answered m rules a c kind).1 (keeper m rules a c kind) (given-moved m rules laws a stood c kin kind))
 
+  -- where the answer is entries, the log ends with them
+  answer-ends : EndsWith (answered m rules a c kind).1.log (Some (answered m rules a c kind).0)
+  answer-ends = by-kind kind
+    where
+      within : c.version ≤ length a.log
+      within = omega (arith, kin.version_is, ap length kin.log_is, length-append kin.before kin.past)
+
+      by-run : (r : Result Doc (Refusal Reason)) → EndsWith (tried m rules a c.pending r).1.log (Some (tried m rules a c.pending r).0)
+      by-run (Ok d) = tt
+      by-run (Err f) = tt
+
+      by-test : (t : Bool)
+          → EndsWith (if t then tried m rules a c.pending (run m rules a.doc 0 c.pending) else (WrongVersion (length a.log), a)).1.log
+          (Some (if t then tried m rules a c.pending (run m rules a.doc 0 c.pending) else (WrongVersion (length a.log), a)).0)
+      by-test true = by-run (run m rules a.doc 0 c.pending)
+      by-test false = tt
+
+      by-kind : (k : MessageKind) → EndsWith (answered m rules a c k).1.log (Some (answered m rules a c k).0)
+      by-kind Submit = by-test (c.version == length a.log)
+      by-kind Ask = omega (arith, within, length-drop c.version a.log)
+
   -- the last answer is the one kept
   at-last : (n : ℕ) → n ≡ length c.answers + 1 → (keeps : Client C Rules Doc Reason) → keeps ≡ keeper m rules a c kind → answer_at keeps n ≡ Some (answered m rules a c kind).0
   at-last n number keeps to =
       let place : n - 1 ≡ length c.answers = omega (arith, number) in
       rw (to, place) (get-last c.answers (answered m rules a c kind).0)
+
+  -- with which the log ends
+  pub last-ends : (n : ℕ) → n ≡ length c.answers + 1 → (keeps : Client C Rules Doc Reason) → keeps ≡ keeper m rules a c kind
+      → (new : Authority C Rules Doc Reason) → new ≡ (answered m rules a c kind).1 → EndsWith new.log (answer_at keeps n)
+  last-ends n number keeps to new is =
+      let at : answer_at keeps n ≡ Some (answered m rules a c kind).0 = at-last n number keeps to in
+      subst (λ o. EndsWith new.log o) (sym at)
+      (subst (λ (x : Authority C Rules Doc Reason). EndsWith x.log (Some (answered m rules a c kind).0)) (sym is) answer-ends)
 
   module _ {E : Type 0} (n : ℕ) (number : n ≡ length c.answers + 1) (new : Authority C Rules Doc Reason) (is : new ≡ (answered m rules a c kind).1)
       (keeps : Client C Rules Doc Reason) (to : keeps ≡ keeper m rules a c kind) (next : Client C Rules Doc Reason) where

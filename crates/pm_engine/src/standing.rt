@@ -1,14 +1,15 @@
 //! Calls of a client that stands to the log of an authority in the same program.
-ghost use Rattle.std.specs.Prelude.{◌≡◌, ◌↔◌, [], false, Ok, Err, Some, None, IfOk, IfErr, OnErr, length};
+ghost use Rattle.std.specs.Prelude.{◌≡◌, ◌↔◌, ◌<◌, ◌≤◌, [], false, Ok, Err, Some, None, IfOk, IfErr, OnErr, length};
 ghost use Rattle.pm_authority.specs.Kept.{IsKept};
 ghost use Rattle.pm_client.specs.Causes.{IsTaken};
-ghost use Rattle.pm_client.specs.Clients.{edited, undone_last, undone_event, IsRefusal};
+ghost use Rattle.pm_client.specs.Clients.{edited, undone_last, undone_event, answer_at, taken_at, IsRefusal};
 ghost use Rattle.pm_client.specs.Kins.{Kin};
 ghost use Rattle.pm_client.specs.declared.client.Client.{Client};
 ghost use Rattle.pm_client.specs.declared.failing.UndoError.TheVariants.{NothingToUndo};
 ghost use Rattle.pm_client.specs.declared.taken.Taken.{Taken};
 ghost use Rattle.pm_client.specs.declared.taken.Taken.TheVariants.{Refused};
 ghost use Rattle.pm_history.specs.Turns.{any_numbered};
+ghost use Rattle.pm_session.specs.Hosts.{EndsWith};
 ghost use Rattle.pm_engine.specs.Exchanges.{answered, keeper, Exchanged, LeftExchanging, SubmitsOld};
 
 use pm_authority::Authority;
@@ -110,7 +111,28 @@ pub fn exchange<C: Change>(
     let number = client.compose(alloc, kind)?;
     let answer = authority.present(alloc, rules, client.name(), client.message_at(number))?;
     let kept = client.keep(answer)?;
+    take_last(alloc, rules, authority, client, kept)
+}
+
+/// The client takes the answer of this number, the last that this authority gave. Its entries lead to the authority's document.
+fn take_last<C: Change>(
+    alloc: Global,
+    rules: &C::Rules,
+    authority: &Authority<C>,
+    client: &mut Client<C>,
+    number: u64,
+) -> Result<Taken, AllocError>
+    requires kept { IsKept C.means rules.now authority.now }
+    requires stands { Kin C.means rules.now authority.now.first authority.now.log client.old }
+    requires number { (0 < number) × (number ≤ length client.old.answers) }
+    requires last { EndsWith authority.now.log (answer_at client.old number) }
+    ensures takes { IfOk result (λ told. (told, client.new) ≡ taken_at C.means rules.now client.old number) }
+    ensures err { OnErr result (client.new ≡ client.old) }
+    ensures causes { (answer : _) (t : Taken) → answer_at client.old number ≡ Some answer
+        → IfOk result (λ told. (told ≡ t) ↔ IsTaken C.means rules.now client.old answer t) }
+{
     // A log that is held has a length of 64 bits.
     let _length = authority.log().len();
-    client.take(alloc, rules, kept)
+    let end = C::copy_doc(alloc, authority.doc())?;
+    client.take_to(alloc, rules, number, end)
 }
