@@ -93,7 +93,6 @@ reaches-none m xs i = sym (append-nil xs) ∙ ap (λ z. xs ++ reaches z) (sym (n
 -- ---- one more of a list read
 
 module _ {C : Type 0} where
-
   pub named-none : (ns : List Name) (is : List (Item C)) → length is < length ns → are_named ns is ≡ false
   named-none [] is h = absurd (omega (arith, h))
   named-none (n ∷ ns) [] h = refl
