@@ -1,6 +1,6 @@
 -- What the calls on items need.
 use Rattle.std.specs.Prelude.{◌≡◌, ◌&&◌, ℕ, zero, suc, ◌+◌, ◌-◌, ◌≤◌, ◌<◌, ◌^◌, Bool, true, false, if◌then◌else◌, nat_lt, List, [], ◌∷◌, ◌++◌, length, take, drop, get_or, Some, None, refl}
-use Rattle.std.proofs.Common.{arith, ap, sym, subst, ◌∙◌, drop-cons, append_assoc, append-nil}
+use Rattle.std.proofs.Common.{Option, arith, ap, sym, subst, ◌∙◌, drop-cons, append_assoc, append-nil}
 use Rattle.std.proofs.lemmas.List.{length-drop}
 use Rattle.std.proofs.Math.Seq.{take-length}
 use Rattle.pm_map.specs.declared.step_map.Span.{Span}
@@ -181,11 +181,11 @@ module _ {C : Type 0} where
   behind-event count xs is k d l =
       ap (apart_behind (suc count) xs) (drop-cons is k d l) ∙ ap (λ j. apart_behind count (moved_reaches (get_or is k d).map xs ++ reaches (inverted_ranges (get_or is k d).map)) (drop j is)) (one-more k)
 
-  pub named-fails : (ns : List Name) (is : List (Item C)) (k : ℕ) (n : Name) (i : Item C) (t : Bool) → k < length ns → k < length is → t ≡ one_step (Some (get_or ns k n)) (get_or is k i).name → t ≡ false
+  pub named-fails : (ns : List Name) (is : List (Item C)) (k : ℕ) (n : Name) (i : Item C) (o : Option Name) (t : Bool) → k < length ns → k < length is → t ≡ one_step (Some (get_or ns k n)) o → o ≡ (get_or is k i).name → t ≡ false
       → are_named (drop k ns) (drop k is) ≡ false
-  named-fails ns is k n i t h l e f =
+  named-fails ns is k n i o t h l e q f =
       named-next ns is k n i h l
-      ∙ ap (λ b. b && are_named (drop (k + 1) ns) (drop (k + 1) is)) (sym e ∙ f)
+      ∙ ap (λ b. b && are_named (drop (k + 1) ns) (drop (k + 1) is)) (sym (e ∙ ap (one_step (Some (get_or ns k n))) q) ∙ f)
 
   pub room-at : (xs ys : List Reach) (is : List (Item C)) (k : ℕ) (i : Item C) → k < length is → i ≡ get_or is k i → ys ≡ xs → FitReaches xs (drop k is) → HasRoomAll i.map ys
   room-at xs ys is k i l at e h =
