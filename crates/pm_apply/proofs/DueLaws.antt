@@ -16,9 +16,6 @@ use Rattle.std.proofs.lemmas.Bool.{and_from}
 abbrev pub differ : Marks → Marks → Bool
 differ old new = not (same_marks same_attrs old new)
 
-pub differ-not : (m : Marks) → differ m m ≡ false
-differ-not m = ap not (marks-itself m)
-
 module _ (s : Schema) where
   -- at one token
   abbrev pub due_at : ℕ → Option Run → Token → Token → List Step

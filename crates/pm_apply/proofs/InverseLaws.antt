@@ -6,12 +6,12 @@ use Rattle.pm_tokens.specs.Schemas.{Schema}
 use Rattle.pm_tokens.specs.Scan.{parts_pair}
 use Rattle.pm_tokens.specs.Slices.{Slice}
 use Rattle.pm_tokens.proofs.PartLaws.{is-slice}
-use Rattle.pm_meaning.specs.Steps.{Replace, ReplaceAround, AddMark, RemoveMark, AddNodeMark, RemoveNodeMark}
+use Rattle.pm_meaning.specs.Steps.{ReplaceAround, AddMark, RemoveMark, AddNodeMark, RemoveNodeMark}
 use Rattle.pm_meaning.specs.declared.reason.Reason.TheVariants.{Range, Pair, NoNode}
 use Rattle.pm_meaning.specs.Marked.{add, remove, mark_added, mark_removed, marked, node_marked, starts_node}
 use Rattle.pm_meaning.specs.Outcomes.{in_order, parts_no_pair, and_unless, checked, range_outcome, node_outcome, outcome}
 use Rattle.pm_meaning.proofs.OutcomeLaws.{unless-ok, made-ok}
-use Rattle.pm_meaning.proofs.ReplaceLaws.{not-true, of-depths, replaced}
+use Rattle.pm_meaning.proofs.ReplaceLaws.{not-true, of-depths}
 use Rattle.pm_meaning.proofs.AroundLaws.{moved}
 use Rattle.pm_meaning.proofs.MarkStepLaws.{range-order, node-order, node-stands}
 use Rattle.pm_apply.specs.declared.around.Ends.{Ends}
@@ -21,9 +21,6 @@ use Rattle.pm_apply.specs.Around.{IsPlaced}
 use Rattle.pm_step.specs.Steps.{range_step, node_step}
 use Rattle.pm_apply.specs.Nodes.{marks_first}
 use Rattle.std.proofs.lemmas.Bool.{and_parts}
-
-pub replace-order : (s : Schema) (from to : ℕ) (sl : Slice) (structure : Bool) (d next : Doc) → outcome s (Replace from to sl structure) d ≡ Ok next → (from ≤ to) × (to ≤ length d.tokens)
-replace-order s from to sl structure d next h = let r = replaced s from to sl structure d next h in (r.ordered, r.within)
 
 pub around-placed : (s : Schema) (ends : Ends) (sl : Slice) (structure : Bool) (d next : Doc)
     → outcome s (ReplaceAround ends.from ends.to ends.gap_from ends.gap_to sl ends.insert structure) d ≡ Ok next → IsPlaced d.tokens ends sl

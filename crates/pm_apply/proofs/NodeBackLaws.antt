@@ -31,13 +31,6 @@ use Rattle.pm_replace.proofs.OutcomeAnswers.{passes}
 
 -- ---- the node that stands first
 
-first-length : (f : Marks → Marks) (r : List Token) → length (with_node_marks f r) ≡ length r
-first-length f [] = refl
-first-length f (Open k a m ∷ r) = refl
-first-length f (Close ∷ r) = refl
-first-length f (Leaf k a m ∷ r) = refl
-first-length f (CodeUnit u m ∷ r) = refl
-
 first-low : (f : Marks → Marks) (r : List Token) → starts_low (with_node_marks f r) ≡ starts_low r
 first-low f [] = refl
 first-low f (Open k a m ∷ r) = refl

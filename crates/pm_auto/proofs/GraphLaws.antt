@@ -11,7 +11,7 @@ use Rattle.pm_auto.specs.States.{has, once, kinds, edge_kinds, Lead_on, Edges_of
 use Rattle.pm_auto.specs.Walks.{target, edges_at, ends_at}
 use Rattle.pm_auto.specs.Graph.{Parted, Inside, Is_graph}
 use Rattle.pm_auto.specs.Fills.{kept, makeable, fits_from}
-use Rattle.pm_auto.specs.Wraps.{wrappers, inner_links, wrap_links, holds_first, wrap_goals}
+use Rattle.pm_auto.specs.Wraps.{wrappers, inner_links, wrap_links}
 use Rattle.pm_auto.proofs.OnceLaws.{has-once}
 use Rattle.pm_auto.proofs.SetLaws.{has-append}
 use Rattle.pm_auto.proofs.AcceptLaws.{or-right}
@@ -148,9 +148,6 @@ all-inner may n (a ∷ more) last h =
 pub wrap-length : (a : Auto) (s : ℕ) (autos : List Auto) (may : List Bool) → length (wrap_links a s autos may) ≡ length autos + 1
 wrap-length a s autos may =
     length-append (map (inner_links may (length autos)) autos) (wrappers may (length autos) false a.sets (edges_at a.edges s) ∷ []) ∙ rw (length-map autos (inner_links may (length autos))) (omega arith)
-
-pub goals-length : (a : Auto) (s t : ℕ) (autos : List Auto) → length (wrap_goals a s t autos) ≡ length autos + 1
-goals-length a s t autos = length-append (map (holds_first t) autos) (has t (edge_kinds (edges_at a.edges s)) ∷ []) ∙ rw (length-map autos (holds_first t)) (omega arith)
 
 pub wrap-graph : (a : Auto) (s : ℕ) (autos : List Auto) (may : List Bool) → Is_graph (length (wrap_links a s autos may)) (wrap_links a s autos may)
 wrap-graph a s autos may =

@@ -8,7 +8,6 @@ use Rattle.pm_auto.specs.States.{has}
 use Rattle.pm_auto.specs.Members.{is_in, members_below, members}
 use Rattle.pm_auto.proofs.Orders.{le_or_lt}
 use Rattle.pm_auto.proofs.SetLaws.{or-false, has-append}
-use Rattle.pm_auto.proofs.BitLaws.{zeros-at}
 
 and-false : (b : Bool) → b && false ≡ false
 and-false true = refl
@@ -61,20 +60,11 @@ has-members ws j = at (le_or_lt (64 * length ws) j)
     at (inl h) = below-past ws (64 * length ws) j h ∙ sym (in-past ws j h)
     at (inr h) = below-in ws (64 * length ws) j h
 
--- words of zero at the end add nothing
-get-more : (ws : List ℕ) (n k : ℕ) → get_or (ws ++ replicate n 0) k 0 ≡ get_or ws k 0
-get-more [] n k = zeros-at n k
-get-more (w ∷ ws) n zero = refl
-get-more (w ∷ ws) n (suc k) = get-more ws n k
-
 take-all : (ws : List ℕ) (n : ℕ) → length ws ≤ n → take n ws ≡ ws
 take-all [] zero h = refl
 take-all [] (suc n) h = refl
 take-all (w ∷ ws) zero h = absurd (omega arith)
 take-all (w ∷ ws) (suc n) h = ap (λ z. w ∷ z) (take-all ws n (omega arith))
-
-pub in-wider : (ws : List ℕ) (m n j : ℕ) → length ws ≤ m → is_in (take m ws ++ replicate n 0) j ≡ is_in ws j
-in-wider ws m n j h = ap (λ z. is_in (z ++ replicate n 0) j) (take-all ws m h) ∙ ap (λ w. eqb (bit_at w (j % 64)) 1) (get-more ws n (j / 64))
 
 -- a set joined with one that its words reach
 pub in-joined : (a b c w : List ℕ) (j : ℕ) → (j < 64 * length w → is_in c j ≡ is_in w j || is_in b j) → length c ≡ length w → length b ≤ length w → is_in w j ≡ is_in a j → is_in c j ≡ is_in a j || is_in b j

@@ -7,9 +7,6 @@ use Rattle.pm_auto.specs.Prints.{print_of, Are_prints}
 use Rattle.pm_auto.proofs.GroupLaws.{number-front, number-last}
 use Rattle.pm_auto.proofs.StateLaws.{at-append, at-end, at-is}
 
-pub no-prints : Are_prints [] []
-no-prints = record { full = omega arith; each = λ i l. absurd (omega arith) }
-
 pub prints-end : (ss : List PlaceSet) (ns : List ℕ) (s : PlaceSet) (n : ℕ) → Are_prints ss ns → n ≡ print_of s → Are_prints (ss ++ s ∷ []) (ns ++ n ∷ [])
 prints-end ss ns s n h e = record {
   full = let m = h.full in omega (arith, length-append ss (s ∷ []), length-append ns (n ∷ []), m);

@@ -6,8 +6,6 @@ use Rattle.pm_auto.specs.Table.{rows}
 use Rattle.pm_auto.specs.Numbers.{number}
 use Rattle.pm_auto.specs.Runs.{next_rows, end_rows, runs_rows, accepts_rows}
 use Rattle.pm_auto.proofs.HasLaws.{Has, Found, has-find, has-back}
-use Rattle.pm_auto.proofs.LangLaws.{Begin}
-use Rattle.pm_auto.proofs.RunLaws.{Leads}
 use Rattle.pm_auto.proofs.TableLaws.{map-join, map-when, firsts-first}
 use Rattle.pm_auto.proofs.LookLaws.{look-row}
 
@@ -31,7 +29,3 @@ accepts-same e w = ap (λ z. runs_rows (rows 0 e) z (nullable e) w) (sym (firsts
 -- states with the same members lead to an end by the same lists
 pub has-members : {A : Type 0} (P : A → Type 0) (xs ys : List A) → ((x : A) → Has (λ y. y ≡ x) xs → Has (λ y. y ≡ x) ys) → Has P xs → Has P ys
 has-members P xs ys g h = let f : Found P xs = has-find P xs h in has-back P ys f.it (g f.it f.at) f.holds
-
-pub leads-members : (e : Core) (ps qs : List (Place e)) (end : Bool) (w : List ℕ) → ((x : Place e) → Has (λ y. y ≡ x) ps → Has (λ y. y ≡ x) qs) → Leads e ps end w → Leads e qs end w
-leads-members e ps qs end [] g h = h
-leads-members e ps qs end (k ∷ w) g h = has-members (Begin e k w) ps qs g h

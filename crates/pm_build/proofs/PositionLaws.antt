@@ -166,6 +166,3 @@ both-are (t ∷ (u ∷ ts)) (suc p) = both-are (u ∷ ts) p
 pub parts-is : (ts : List Token) (p : ℕ) → 0 < p → parts_pair ts p ≡ (high_unit (unit_at ts (p - 1)) && low_unit (unit_at ts p))
 parts-is ts zero h = absurd (omega (arith, h))
 parts-is ts (suc p) h = both-are ts p ∙ ap (λ q. high_unit (unit_at ts q) && low_unit (unit_at ts (suc p))) (let e : p ≡ suc p - 1 = omega arith in e)
-
-pub parts-none : (ts : List Token) (p : ℕ) → p ≡ 0 → parts_pair ts p ≡ false
-parts-none ts p e = ap (parts_pair ts) e

@@ -6,14 +6,13 @@ use Rattle.serde_json.specs.Written.{compact_text}
 use Rattle.pm_tokens.specs.Tokens.{Token, Doc}
 use Rattle.pm_tokens.specs.Scan.{Balanced}
 use Rattle.pm_schema.specs.declared.spec.SchemaSpec.{SchemaSpec}
-use Rattle.pm_docjson.specs.Trees.{none, Levels, innermost, read_back, trees_of}
-use Rattle.pm_docjson.specs.Writing.{trees_written, nodes_written, doc_written}
+use Rattle.pm_docjson.specs.Writing.{nodes_written, doc_written}
 use Rattle.pm_docjson.proofs.TreeLaws.{one_level}
 use Rattle.pm_view.specs.Known.{known}
 use Rattle.pm_view.specs.Seen.{Seen, ArePartsOf}
 use Rattle.pm_view.specs.Views.{viewed}
 use Rattle.pm_view.proofs.KnownLaws.{length-known}
-use Rattle.pm_doctext.specs.Texts.{front_text, back_text, part_text, opens, content_text}
+use Rattle.pm_doctext.specs.Texts.{front_text, back_text, content_text}
 use Rattle.pm_doctext.proofs.Members.{list_text, branch-is}
 use Rattle.pm_doctext.proofs.Levels.{Ends, ends-more, levels_text, contents}
 
@@ -41,10 +40,6 @@ text-after s d ps b are (Ok u) old before inner new f i h =
     ∙ (ap (λ z. z ++ back) (i ∙ ap (λ z. z ++ content) f)
     ∙ (append_assoc (old ++ front) content back ∙ (append_assoc old front (content ++ back) ∙ ap (λ z. old ++ z) (sym (document-is s d ps b are)))))
 text-after s d ps b are (Err e) old before inner new f i h = tt
-
--- the next part and the parts behind it
-pub content-more : (s : SchemaSpec) (first : Bool) (parts : List Seen) (p : Seen) (ps : List Seen) → parts ≡ p ∷ ps → content_text s first parts ≡ part_text s first p ++ content_text s (opens p) ps
-content-more s first parts p ps is = ap (content_text s first) is
 
 -- a view from the first position to the last one shows all tokens
 pub whole-view : (ts : List Token) (n : ℕ) → n ≡ length ts → viewed ts 0 n ≡ known [] ts

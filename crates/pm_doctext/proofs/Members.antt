@@ -27,10 +27,6 @@ comma (member k d ms) h = refl
 
 -- ---- attributes
 
-filled-attrs : (ks : List (List ℕ)) (vs : List Plain) (ms : Members) → Filled ms → Filled (with_attrs ks vs ms)
-filled-attrs [] vs ms h = h
-filled-attrs (k ∷ ks) vs ms h = tt
-
 attrs-first : (ks : List (List ℕ)) (vs : List Plain) (ms : Members) → Filled ms → members_text false (with_attrs ks vs ms) ≡ attrs_text ks vs ++ members_text false ms
 unfolding escape_byte
 attrs-first [] vs ms h = refl

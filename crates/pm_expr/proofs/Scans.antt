@@ -5,7 +5,7 @@ use Rattle.std.proofs.lemmas.Bool.{eqb-true}
 use Rattle.std.proofs.lemmas.List.{take_more, get_or-drop}
 use Rattle.std.proofs.Math.Seq.{drop-length}
 use Rattle.pm_auto.proofs.Orders.{le_or_lt}
-use Rattle.pm_expr.specs.Tokens.{Token, is_blank, in_run, inside_after, sign, completed, run_token, tokens_from}
+use Rattle.pm_expr.specs.Tokens.{Token, is_blank, in_run, inside_after, sign, completed, tokens_from}
 
 pub drop-one : (text : List ℕ) (i : ℕ) → i < length text → drop i text ≡ get_or text i 0 ∷ drop (i + 1) text
 drop-one text i h = drop-cons text i 0 h ∙ ap (λ z. get_or text i 0 ∷ drop z text) (sym (add-one i))
@@ -27,9 +27,6 @@ range-more text at i h l =
     ∙ take_more (drop at text) (i - at) 0 k
     ∙ ap (λ z. take (i - at) (drop at text) ++ z ∷ []) (get_or-drop at text (i - at) 0 ∙ ap (λ z. get_or text z 0) f)
 
-pub range-none : (text : List ℕ) (at : ℕ) → slice_range text at at ≡ []
-range-none text at = let e : at - at ≡ 0 = omega arith in ap (λ z. take z (drop at text)) e
-
 pub length-range : (text : List ℕ) (at to : ℕ) → at ≤ to → to ≤ length text → length (slice_range text at to) ≡ to - at
 length-range text at to h l = omega (arith, length-take (to - at) (drop at text), length-drop at text)
 
@@ -48,10 +45,6 @@ run-ends-at inside at run text i l f = cases (le_or_lt (length text) i)
         let d : drop i text ≡ [] = ap (λ z. drop z text) e ∙ drop-length text in
         rw d refl
     cases (inr h) = rw (drop-one text i h) (run-ends inside at run (get_or text i 0) (drop (i + 1) text) (f h))
-
-pub completed-run : (inside : Bool) (at : ℕ) (run : List ℕ) (ts : List Token) → 0 < length run → completed inside at run ts ≡ run_token inside at run ∷ ts
-completed-run inside at [] ts h = absurd (omega arith)
-completed-run inside at (b ∷ bs) ts h = refl
 
 or-cases : (a b : Bool) → a || b ≡ true → (a ≡ true) ⊎ (b ≡ true)
 or-cases true b h = inl refl

@@ -14,10 +14,6 @@ pub length-hollow : (d : Doc) (p j count : ℕ) → length (hollow d p j count) 
 length-hollow d p j zero = refl
 length-hollow d p j (suc count) = omega (arith, length-append (hollow d p (suc j) count) (Close ∷ []), length-hollow d p (suc j) count)
 
--- at the innermost node nothing is left
-pub hollow-none : (d : Doc) (p j n : ℕ) → j ≡ n → hollow d p j (n - j) ≡ []
-hollow-none d p j n e = ap (hollow d p j) (let z : n - j ≡ 0 = omega (arith, e) in z)
-
 -- the next node around the others
 pub hollow-more : (d : Doc) (p j n : ℕ) (head : Doc) → j < n → head ≡ node_around d p (j + 1)
     → hollow d p j (n - j) ≡ Open head.kind head.attrs head.marks ∷ (hollow d p (j + 1) (n - (j + 1)) ++ (Close ∷ []))

@@ -28,9 +28,6 @@ module _ (ess : List (List Edge)) (types : List ℕ) (i k s : ℕ) (h : i < leng
   pub state-stop : target k (edges_at ess s) ≡ None → state_after ess 0 types ≡ state_after ess s (drop i types) → None ≡ state_after ess 0 types
   state-stop q v = sym (v ∙ (here ∙ ap (option_and_then (λ t. state_after ess t (drop (i + 1) types))) q))
 
-pub state-end : (ess : List (List Edge)) (types : List ℕ) (i s : ℕ) → length types ≤ i → state_after ess 0 types ≡ state_after ess s (drop i types) → Some s ≡ state_after ess 0 types
-state-end ess types i s h v = sym (v ∙ ap (state_after ess s) (drop_all i types h))
-
 module _ (s : Schema) (kind : ℕ) (before : List ℕ) (to : ℕ) where
   pub wrapping-unknown : length s.spec.nodes ≤ kind → None ≡ wrapping_of s kind before to
   wrapping-unknown h =

@@ -4,9 +4,8 @@ use Rattle.std.proofs.Common.{refl, ap, sym, ◌∙◌, arith, eq-eqb}
 use Rattle.std.proofs.lemmas.Bool.{ne_eqb}
 use Rattle.std.proofs.lemmas.Bool.Decides.{nat_tests}
 use Rattle.pm_tokens.specs.Tokens.{Token, Doc}
-use Rattle.pm_tokens.specs.Slices.{Slice, is_slice}
+use Rattle.pm_tokens.specs.Slices.{Slice}
 use Rattle.pm_tokens.specs.Schemas as documents
-use Rattle.pm_slice.specs.Sides.{sides, or_none}
 use Rattle.pm_meaning.specs.declared.reason.Reason.{Reason}
 use Rattle.pm_meaning.specs.Steps.{Replace}
 use Rattle.pm_meaning.specs.Outcomes.{outcome}
@@ -21,16 +20,6 @@ not-true true h = absurd (h refl)
 not-true false h = refl
 
 -- ---- slices
-
-pub sided-some : (content : List Token) (a b : ℕ) → is_slice (sides content a b) ≡ true → sided content a b ≡ Some (or_none (sides content a b))
-sided-some content a b e = ap (λ (t : Bool). if t then Some (or_none (sides content a b)) else None) e
-
-pub sided-none : (content : List Token) (a b : ℕ) → (is_slice (sides content a b) ≡ true → ⊥) → sided content a b ≡ None
-sided-none content a b h = ap (λ (t : Bool). if t then Some (or_none (sides content a b)) else None) (not-true (is_slice (sides content a b)) h)
-
-pub wrapped-none : (s : SchemaSpec) (ks : List ℕ) (content : List Token) → length ks ≡ 0 → wrapped s (Some ks) content ≡ None
-wrapped-none s [] content e = refl
-wrapped-none s (k ∷ ks) content e = absurd (omega (arith, e))
 
 pub wrapped-some : (s : SchemaSpec) (ks : List ℕ) (content : List Token) → (length ks ≡ 0 → ⊥) → wrapped s (Some ks) content ≡ sided (in_nodes s ks content) 0 0
 wrapped-some s [] content h = absurd (h refl)

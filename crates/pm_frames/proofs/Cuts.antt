@@ -79,11 +79,6 @@ run-one f a b h q k l =
     let e : q ≡ a = omega (arith, h, k, l) in
     rw e (ap (λ p. record { pos = p; exits = (f a).exits; flags = (f a).flags }) (plus-zero (f a).pos))
 
--- a run less
-pub run-later : (f : ℕ → Place) (a b c : ℕ) → IsRun f true a c → a ≤ b → IsRun f true b c
-run-later f a b c r h q k l =
-    r q (omega (arith, h, k)) l ∙ rw (r b h (omega (arith, k, l))) (ap (λ p. record { pos = p; exits = (f a).exits; flags = (f a).flags }) (omega (arith, h, k)))
-
 near-from : (rs : List Span) (g l e : ℕ) → AreInOrder rs e g l → AreSmall rs → e < 2 ^ 32 → IsNear rs (e + 1)
 near-from [] g l e o s h = omega (arith, h)
 near-from (r ∷ rs) g l e o s h = (omega (arith, o.0), near-from rs (g + r.new_size) (l + r.old_size) (r.start + r.old_size) o.3 s.2 s.0)

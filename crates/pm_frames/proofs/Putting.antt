@@ -122,9 +122,6 @@ module _ (old new : List Block) (front behind : List Span) (b : Bool) (ms : List
             ∙ sym (pushes ms behind i.paired b x);
       }
 
-pub holds-none : (b : Bool) (n : ℕ) → n < 2 ^ 32 → Holds [] [] b n n
-holds-none b n h = record { fit = (h, refl); paired = tt; same = λ x u. refl }
-
 -- the place as a mapping gives it
 pub answered : (ms : List Mirrored) (p : ℕ) (z : Side) (b : Bool) (v : Place) → is_before z ≡ b → v ≡ over_all ms b p
     → record { pos = v.pos; deleted = v.flags.deleted; across = v.flags.across; after = v.flags.after; recover = None } ≡ through ms p z

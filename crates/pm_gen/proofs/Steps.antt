@@ -8,9 +8,6 @@ use Rattle.pm_gen.specs.Session.{further_name, further_names, turn_lines}
 pub names-next : (client n m : ℕ) → n ≡ suc m → further_names client n ≡ further_name client ++ further_names (client + 1) m
 names-next client n m is = rw is refl
 
-pub names-none : (client n : ℕ) → n ≡ 0 → further_names client n ≡ []
-names-none client n is = rw is refl
-
 -- one turn more
 pub turns-next : (clients i n m x : ℕ) → n ≡ suc m → turn_lines clients i n x ≡ turn_line (i % clients + 1) (turn_at x) ++ turn_lines clients (i + 1) m (after_turn x)
 unfolding turn_lines

@@ -13,12 +13,6 @@ fit-shape [] (s ∷ ss) h = absurd (true≢false (cc))
 fit-shape (r ∷ rs) [] h = absurd (true≢false (cc))
 fit-shape (r ∷ rs) (s ∷ ss) h = let p = and_parts (s.new_size == r.old_size) (has_shape rs ss) h in (eqb-true s.new_size r.old_size p.0, fit-shape rs ss p.1)
 
-pub shape-fit : (rs ss : List Span) → SameShape rs ss → has_shape rs ss ≡ true
-shape-fit [] [] h = refl
-shape-fit [] (s ∷ ss) h = absurd h
-shape-fit (r ∷ rs) [] h = absurd h
-shape-fit (r ∷ rs) (s ∷ ss) h = and_from _ _ (eq-eqb s.new_size r.old_size h.0) (shape-fit rs ss h.1)
-
 pub partner-append : (es fs : List Mirrored) (k : ℕ) → k < length es → partner (es ++ fs) k ≡ partner es k
 partner-append [] fs k h = absurd (omega arith)
 partner-append (e ∷ es) fs zero h = refl

@@ -6,10 +6,10 @@ use Rattle.pm_map.specs.declared.step_map.Span.{Span}
 use Rattle.pm_map.specs.declared.step_map.Moved.{Moved}
 use Rattle.pm_map.specs.declared.step_map.Recover.{Recover}
 use Rattle.pm_map.specs.declared.mapping.Mirrored.{Mirrored}
-use Rattle.pm_map.specs.Moves.{moved_from, kept_at, or_moved, goes_before}
+use Rattle.pm_map.specs.Moves.{moved_from, or_moved, goes_before}
 use Rattle.pm_map.specs.Through.{through_from, HasRoom, ArePaired, IsPairedAt, partner, stepped, skipped, start_from, new_at, IsIn}
 use Rattle.pm_map.proofs.Recovers.{recover-in, partner-fits}
-use Rattle.pm_map.specs.Fits.{FitsFrom, FitsSizes, FitAll, first_size, last_size}
+use Rattle.pm_map.specs.Fits.{FitsFrom, FitsSizes, FitAll, last_size}
 
 abbrev put_in : List Span → ℕ
 put_in [] = 0
@@ -115,10 +115,6 @@ room (e ∷ es) (n ∷ k ∷ ns) zero b so p h l =
     first-small [] k (x ∷ ns) h = absurd h
     first-small (e ∷ es) k [] h = absurd h
     first-small (e ∷ es) k (x ∷ ns) h = h.0
-
-pub room-first : (es : List Mirrored) (sizes : List ℕ) (p : ℕ) (b : Bool) → ArePaired es → FitAll es sizes → p ≤ first_size sizes → HasRoom es 0 b (kept_at p)
-room-first es [] p b q h l = room es [] 0 b (kept_at p) q h l
-room-first es (n ∷ ns) p b q h l = room es (n ∷ ns) 0 b (kept_at p) q h l
 
 -- a position comes out within the last size
 pub ends-within : (es : List Mirrored) (sizes : List ℕ) (skip : ℕ) (b : Bool) (so : Moved) → ArePaired es → FitAll es sizes → so.pos ≤ size_at sizes skip

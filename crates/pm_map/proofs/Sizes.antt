@@ -37,12 +37,6 @@ fit-sizes (e ∷ es) n k (mid, h) =
     let r = fit-sizes es mid k h.2 in
     (mid ∷ r.0, (h.0, h.1, r.1), r.2)
 
-pub sizes-fit : (ms : List Mirrored) (n : ℕ) (ns : List ℕ) → FitAll ms (n ∷ ns) → FitBetween ms n (last_size (n ∷ ns))
-sizes-fit [] n [] h = (h, refl)
-sizes-fit [] n (k ∷ ns) h = absurd h
-sizes-fit (e ∷ es) n [] h = absurd h
-sizes-fit (e ∷ es) n (k ∷ ns) h = (k, (h.0, h.1, sizes-fit es k ns h.2))
-
 -- a position within the first size has room, and comes out within the last
 pub all-fit : (ms : List Mirrored) (sizes : List ℕ) (p : ℕ) (side : Side) → ArePaired ms → FitAll ms sizes → p ≤ first_size sizes
     → HasRoom ms 0 (is_before side) (kept_at p) × ((through ms p side).pos ≤ last_size sizes)

@@ -148,14 +148,6 @@ stands-sized ps pos index start h l s = record {
       );
 }
 
--- what is kept of chunks with the same pairs
-pub kept-along : (s t : Chunks (Arc Node Global)) → IsKept s → IsLaid t → pairs_of t ≡ pairs_of s → IsKept t
-kept-along s t k l e = record {
-  laid = l;
-  sized = subst EachSized (sym e) k.sized;
-  form = subst (λ z. Form (total_of z) (items_in z)) (sym e) k.form;
-}
-
 pub kept-none : (t : Chunks (Arc Node Global)) → IsLaid t → pairs_of t ≡ [] → IsKept t
 kept-none t l e =
     let empty : Form {Z = Global} 0 [] = record { counted = refl; bounded = omega arith; whole = none; normal = tt; each = tt } in

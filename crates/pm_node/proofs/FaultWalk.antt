@@ -32,18 +32,6 @@ tells-first error.NoMemory x y h = tt
 
 -- ---- one token
 
--- what attributes and marks answer, where the children do not fit either
-pub tells-content : (e : CheckError) (a m k : Bool) (at : ℕ) → Tells e (fault_unless a m true at) → Tells e (fault_unless a m k at)
-tells-content error.NoMemory a m k at h = tt
-tells-content e false m k at h = h
-tells-content e true false k at h = h
-tells-content (error.Content p) true true k at h = absurd (cc)
-tells-content (error.Marks p) true true k at h = absurd (cc)
-tells-content (error.Attrs p) true true k at h = absurd (cc)
-tells-content error.Deep true true k at h = absurd (cc)
-tells-content error.Large true true k at h = absurd (cc)
-tells-content (error.Pair p) true true k at h = absurd (cc)
-
 pub no-content : (a m k : Bool) (at : ℕ) → fault_unless a m true at ≡ None → fault_unless a m k at ≡ fault_unless true true k at
 no-content true true k at h = refl
 no-content true false k at h = absurd (cc)

@@ -129,9 +129,6 @@ pub both-more : (o p : Option (List Token)) (ts us new : List Token) → o ≡ S
 both-more o None ts us new e f = rw e refl
 both-more o (Some vs) ts us new e f = rw (e, f) (ap Some (sym (append_assoc ts us vs)))
 
-pub both-all : (ts : List Token) (o : Option (List Token)) → o ≡ Some [] → both (Some ts) o ≡ Some (ts ++ [])
-both-all ts o e = rw e refl
-
 -- the nodes from one on
 pub joined-at : (f : ℕ → Option (List Token)) (ks : List ℕ) (i k : ℕ) → i < length ks → k ≡ get_or ks i k → joined (map f (drop i ks)) ≡ both (f k) (joined (map f (drop (i + 1) ks)))
 joined-at f ks i k l e = at_drop_more (λ xs. joined (map f xs)) ks i k l ∙ ap (λ j. both (f j) (joined (map f (drop (i + 1) ks)))) (sym e)

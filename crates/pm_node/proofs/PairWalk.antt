@@ -12,16 +12,13 @@ use Rattle.pm_node.specs.declared.node.Body.{Body}
 use Rattle.pm_node.specs.declared.node.Body.TheVariants.{Text, Leaf as Childless, Children}
 use Rattle.pm_node.specs.Trees.{body_tokens, node_tokens, list_tokens, IsText}
 use Rattle.pm_node.proofs.TreeLaws.{node_tokens_at}
-use Rattle.pm_node.proofs.WalkLaws.{rest, rest-end, rest-length, Child}
+use Rattle.pm_node.proofs.WalkLaws.{rest, rest-length, Child}
 use Rattle.pm_node.proofs.KindLaws.{ends-apart}
 
 -- the children before child i have no broken unit, and `at` is the place of its first token
 pub record Walked {Z : Type 0} (xs : List (Arc Node Z)) (i from at : ℕ) : Type 0 where
   pub fine : first_broken from None (list_tokens xs) ≡ first_broken at None (rest xs i)
   pub place : at + length (rest xs i) ≡ from + length (list_tokens xs)
-
-pub walked-start : {Z : Type 0} (xs : List (Arc Node Z)) (at : ℕ) → Walked xs 0 at at
-walked-start xs at = record { fine = refl; place = refl }
 
 last-text : (r : Option Marks) (m : Marks) (us : List ℕ) → 0 < length (text_tokens m us) → last_unit r (text_tokens m us) ≡ Some m
 last-text r m [] p = absurd (omega arith)
@@ -56,9 +53,6 @@ module _ {Z : Type 0} (xs : List (Arc Node Z)) (i : ℕ) (n : Node) (c : Child x
   -- the child has room
   pub walked-room : (from at : ℕ) → Walked xs i from at → at + length (node_tokens n) ≤ from + length (list_tokens xs)
   walked-room from at w = omega (arith, w.place, rest-length c)
-
-pub walked-end : {Z : Type 0} (xs : List (Arc Node Z)) (i from at : ℕ) → Walked xs i from at → length xs ≤ i → first_broken from None (list_tokens xs) ≡ None
-walked-end xs i from at w h = w.fine ∙ ap (first_broken at None) (rest-end xs i h)
 
 -- ---- of one node
 

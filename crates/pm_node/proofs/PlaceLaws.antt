@@ -5,7 +5,7 @@ use Rattle.pm_tokens.specs.Tokens.{Marks, Token}
 use Rattle.pm_tokens.specs.Schemas.{Schema, node_attrs}
 use Rattle.pm_tokens.specs.Scan.{head_of}
 use Rattle.pm_tokens.specs.Kids.{kids}
-use Rattle.pm_tokens.specs.Faults.{Fault, Pair, attrs_fit, marks_fit, content_fits, pair_fits, high_of, under, fault_unless, first_some, first_fault, first_broken, one_on, place_unless, place_from, no_marks, top_fits, fault_place}
+use Rattle.pm_tokens.specs.Faults.{Fault, Pair, attrs_fit, marks_fit, content_fits, pair_fits, high_of, under, fault_unless, first_some, first_fault, first_broken, one_on, place_unless, place_from, top_fits, fault_place}
 use Rattle.pm_node.specs.Places.{place_in, least}
 use Rattle.pm_node.specs.declared.node.Node.{Node}
 use Rattle.pm_node.specs.Documents.{doc_with}
@@ -79,25 +79,8 @@ one-moved (Some p) = ap Some (let e : p + 1 ≡ 1 + p = omega arith in e)
 
 -- ---- a document
 
--- where the top node has a fault it is the least
-pub top-unfit : (a m k : Bool) (later : Option ℕ) → (a && m && k) ≡ false → Some 0 ≡ place_unless (a && m && k) later
-top-unfit a m k later e = rw e refl
-
 pub bad-first : (a m k : Bool) → a ≡ false → (a && m && k) ≡ false
 bad-first a m k e = rw e refl
-
-pub bad-second : (a m k : Bool) → m ≡ false → (a && m && k) ≡ false
-bad-second true m k e = rw e refl
-bad-second false m k e = refl
-
-pub bad-third : (a m k : Bool) → k ≡ false → (a && m && k) ≡ false
-bad-third true true k e = e
-bad-third true false k e = refl
-bad-third false m k e = refl
-
-pub some-marks : (ms : Marks) → (ms ≡ [] → ⊥) → no_marks ms ≡ false
-some-marks [] h = absurd (h refl)
-some-marks (m ∷ ms) h = refl
 
 -- else it is the least below it
 pub below-top : (s : Schema) (n : Node) (ts : List Token) (broken : Option ℕ) → node_attrs s n.kind n.attrs ≡ true → n.marks ≡ [] → s.accepts n.kind (kids s.text 0 None ts) ≡ true

@@ -8,8 +8,8 @@ use Rattle.std.proofs.Math.Seq.{take-add}
 use Rattle.pm_tokens.specs.Scan.{Balanced, none, part}
 use Rattle.pm_tokens.proofs.BalanceLaws.{balanced-append}
 use Rattle.pm_node.specs.declared.node.Node.{Node}
-use Rattle.pm_node.specs.Trees.{node_tokens, list_tokens, IsText, IsNormal, EachWhole, Form}
-use Rattle.pm_node.proofs.TreeLaws.{list_tokens-append, normal-append, each-append}
+use Rattle.pm_node.specs.Trees.{node_tokens, list_tokens, IsNormal, EachWhole}
+use Rattle.pm_node.proofs.TreeLaws.{list_tokens-append}
 use Rattle.pm_node.proofs.WalkLaws.{whole-node, normal-rest, each-rest}
 
 -- a part is what comes before a place in it, and what comes behind
@@ -60,13 +60,3 @@ each-run f t xs h = each-front-part (t - f) (drop f xs) (each-rest xs f h)
 pub whole-nodes : {Z : Type 0} (xs : List (Arc Node Z)) → EachWhole xs → Balanced (list_tokens xs)
 whole-nodes [] h = none
 whole-nodes (x ∷ xs) h = balanced-append (whole-node (arc_value x) h.0) (whole-nodes xs h.1)
-
--- a fragment with a run of nodes more, of which the first is no text
-pub form-append : {Z : Type 0} (size n : ℕ) (xs ys : List (Arc Node Z)) → Form size xs → IsNormal ys → EachWhole ys → n ≡ length (list_tokens ys) → size + n < 2 ^ 32 → ((x : Arc Node Z) (rest : List (Arc Node Z)) → ys ≡ x ∷ rest → ¬ IsText (arc_value x).body) → Form (size + n) (xs ++ ys)
-form-append size n xs ys f m e s b h = record {
-  counted = omega (arith, f.counted, s, ap length (list_tokens-append xs ys), length-append (list_tokens xs) (list_tokens ys));
-  bounded = b;
-  whole = subst Balanced (sym (list_tokens-append xs ys)) (balanced-append f.whole (whole-nodes ys e));
-  normal = normal-append xs ys f.normal m h;
-  each = each-append xs ys f.each e;
-}

@@ -11,7 +11,7 @@ use Rattle.pm_tokens.proofs.BalanceLaws.{balanced-append}
 use Rattle.pm_node.specs.declared.node.Node.{Node}
 use Rattle.pm_node.specs.declared.node.Body.{Body}
 use Rattle.pm_node.specs.declared.node.Body.TheVariants.{Text, Leaf as Childless, Children}
-use Rattle.pm_node.specs.Trees.{body_tokens, node_tokens, list_tokens, nodes_tokens, IsText, Meets, Joined, IsNormal, Form, WholeBody, EachWhole}
+use Rattle.pm_node.specs.Trees.{body_tokens, node_tokens, list_tokens, IsText, Meets, Joined, IsNormal, Form, WholeBody, EachWhole}
 
 pub length-text_tokens : (m : Marks) (us : List ℕ) → length (text_tokens m us) ≡ length us
 length-text_tokens m [] = refl
@@ -48,14 +48,6 @@ normal-last (w ∷ (v ∷ vs)) x y n m p = (n.0, n.1, normal-last (v ∷ vs) x y
 -- the last of a list
 pub split_last : {A : Type 0} (xs : List A) (d : A) (i : ℕ) → i + 1 ≡ length xs → xs ≡ take i xs ++ (get_or xs i d ∷ [])
 split_last xs d i e = sym (take_all (i + 1) xs (omega arith)) ∙ take_more xs i d (omega arith)
-
-same_last : {A : Type 0} (f g : List A) (x y : A) → f ++ (x ∷ []) ≡ g ++ (y ∷ []) → x ≡ y
-same_last [] [] x y e = cc
-same_last [] (b ∷ []) x y e = cc
-same_last [] (b ∷ (c ∷ g)) x y e = cc
-same_last (a ∷ []) [] x y e = cc
-same_last (a ∷ (c ∷ f)) [] x y e = cc
-same_last (a ∷ f) (b ∷ g) x y e = let h : f ++ (x ∷ []) ≡ g ++ (y ∷ []) = cc in same_last f g x y h
 
 pub each-push : {Z : Type 0} (xs : List (Arc Node Z)) (y : Arc Node Z) → EachWhole xs → WholeBody (arc_value y).body → EachWhole (xs ++ (y ∷ []))
 each-push [] y e w = (w, tt)
@@ -125,11 +117,6 @@ text-not (Children ts) t f = t
 pub joined-tokens : (a b : Node) (us vs ws : List ℕ) → Meets a b → a.body ≡ Text us → b.body ≡ Text vs → ws ≡ us ++ vs → text_tokens a.marks ws ≡ node_tokens a ++ node_tokens b
 joined-tokens a b us vs ws m e f g =
     ap (text_tokens a.marks) g ∙ (text_tokens-append a.marks us vs ∙ (ap (λ z. z ++ text_tokens a.marks vs) (sym (node_tokens_at a (Text us) e)) ∙ ap (λ z. node_tokens a ++ z) (ap (λ n. text_tokens n vs) m.2 ∙ sym (node_tokens_at b (Text vs) f))))
-
--- the nodes from i on: the one at i, and the rest
-pub nodes-rest : (ns : List Node) (i : ℕ) (n : Node) → i < length ns → n ≡ get_or ns i n → length (nodes_tokens (drop i ns)) ≡ length (node_tokens n) + length (nodes_tokens (drop (i + 1) ns))
-nodes-rest ns i n h r =
-    ap length (at_drop_more nodes_tokens ns i n h ∙ ap (λ m. node_tokens m ++ nodes_tokens (drop (i + 1) ns)) (sym r)) ∙ length-append (node_tokens n) (nodes_tokens (drop (i + 1) ns))
 
 -- there are no more nodes than tokens
 pub no-more-nodes : {Z : Type 0} (xs : List (Arc Node Z)) → IsNormal xs → length xs ≤ length (list_tokens xs)

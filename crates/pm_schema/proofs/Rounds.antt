@@ -23,9 +23,6 @@ made-is n a table b r c f = (
   (λ m. f.1 record { list = m.list; makeable = m.of_table; ends = r.accepts m.list ∙ m.fit }),
 )
 
-pub not-made : (n : NodeSpec) (table : List Bool) → can_be_made n ≡ false → (false ≡ true) ↔ IsMade n table
-not-made n table c = ((λ e. absurd (cc)), (λ m. absurd (let z : true ≡ false = sym m.can ∙ c in cc)))
-
 falses-set : (bs : List Bool) (i : ℕ) → i < length bs → get_or bs i false ≡ false → falses (set bs i true) < falses bs
 falses-set [] i l e = absurd (omega arith)
 falses-set (true ∷ bs) zero l e = absurd (cc)
@@ -93,10 +90,6 @@ length-set [] i = refl
 length-set (b ∷ bs) zero = refl
 length-set (b ∷ bs) (suc i) = ap suc (length-set bs i)
 
-pub round-begins : (nodes : List NodeSpec) (table : List Bool) → length table ≡ length nodes → Round nodes table table false 0
-round-begins nodes table l =
-    record { full = l; filling = λ x. x; fewer = λ e. absurd (cc); same = λ e. refl; closed = λ e j k m. absurd (omega arith) }
-
 -- a type that is made goes into the table
 pub round-adds : (nodes : List NodeSpec) (old table : List Bool) (more : Bool) (k : ℕ) → k < length nodes → get_or table k false ≡ false → IsMade (nth nodes k) table → Round nodes old table more k
     → Round nodes old (set table k true) true (k + 1)
@@ -128,11 +121,3 @@ round-passes nodes old table more k p r =
     at : more ≡ false → (j : ℕ) → (k ≤ j) ⊎ (j < k) → j < k + 1 → IsMade (nth nodes j) table → Has table j
     at t j (inl a) i m = let z : k ≡ j = omega (arith, a, i) in subst (Has table) z (p (subst (λ (n : ℕ). IsMade (nth nodes n) table) (sym z) m))
     at t j (inr a) i m = r.closed t j a m
-
-none-has : (n k : ℕ) → Has (replicate n false) k → ⊥
-none-has zero k h = absurd (cc)
-none-has (suc n) zero h = absurd (cc)
-none-has (suc n) (suc k) h = none-has n k h
-
-pub filled-begins : (nodes : List NodeSpec) (n : ℕ) → HasFilled nodes (replicate n false)
-filled-begins nodes n k h = absurd (none-has n k h)

@@ -10,7 +10,7 @@ use Rattle.pm_serve.specs.declared.lines.Came.{Came}
 use Rattle.pm_serve.specs.declared.lines.Came.TheVariants.{Line, Last, End, Failed, Spent}
 use Rattle.pm_serve.specs.Bytes.{has_lf, Passed, PassedAll}
 use Rattle.pm_serve.specs.Pieces.{Gave, AskedInTime}
-use Rattle.pm_serve.specs.Reads.{LineCame, EndCame, PartCame, Reads, ReadFaults, IsLast}
+use Rattle.pm_serve.specs.Reads.{LineCame, EndCame, PartCame, Reads, IsLast}
 use Rattle.pm_serve.proofs.Cuts.{kept-more, no_lf-append}
 use Rattle.pm_serve.proofs.Timely.{Asked, none-asked, asked-more, so-far}
 
@@ -113,10 +113,3 @@ at-end Last left rest before after line i e = (e, i)
 at-end End left rest before after line i e = (e, i)
 at-end Failed left rest before after line i e = absurd i
 at-end Spent left rest before after line i e = absurd i
-
-pub at-end-faults : (came : Came) (line : List ℕ) (old new : ℕ) → IsLast came line → new ≡ old → ReadFaults came old new
-at-end-faults Line line old new i e = absurd i
-at-end-faults Last line old new i e = e
-at-end-faults End line old new i e = e
-at-end-faults Failed line old new i e = absurd i
-at-end-faults Spent line old new i e = absurd i

@@ -13,7 +13,7 @@ use Rattle.pm_sized.specs.Parts.{part, all_but_last, values_in}
 use Rattle.pm_sized.specs.Bound.{find_bound}
 use Rattle.pm_sized.proofs.PairLaws.{total_of-append}
 use Rattle.pm_sized.proofs.PartLaws.{values-append, values-part, part-one, values-take, length-values, counts-append, total-next, part-front}
-use Rattle.pm_sized.proofs.LastLaws.{split-last, set-last}
+use Rattle.pm_sized.proofs.LastLaws.{split-last}
 
 module _ {T : Type 0} (ps : List (T × ℕ)) (i : ℕ) (p : T × ℕ) (l : i < length ps) (e : p ≡ get_or ps i p) where
   -- the first items and one more
@@ -30,10 +30,6 @@ module _ {T : Type 0} (ps : List (T × ℕ)) (i : ℕ) (p : T × ℕ) (l : i < l
   -- a position before the end of item i stands there
   pub stands-first : (pos start : ℕ) → start ≡ total_of (take i ps) → start ≤ pos → pos < start + p.1 → Stands ps pos i start
   stands-first pos start s low high = record { within = omega (arith, l); start_is = s; reached = low; next = λ _. omega (arith, total-more, s, high) }
-
--- a position at the end stands behind all
-pub stands-last : {T : Type 0} (ps : List (T × ℕ)) (pos start len : ℕ) → len ≡ length ps → start ≡ total_of (take len ps) → start ≤ pos → Stands ps pos len start
-stands-last ps pos start len n s low = record { within = omega (arith, n); start_is = s; reached = low; next = λ h. absurd (omega (arith, h, n)) }
 
 pub counts-at : {T : Type 0} (ps : List (T × ℕ)) (i : ℕ) (p : T × ℕ) → EachCounts ps → i < length ps → p ≡ get_or ps i p → 1 ≤ p.1
 counts-at [] i p h l e = absurd (omega (arith, l))

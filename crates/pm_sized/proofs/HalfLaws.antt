@@ -45,15 +45,6 @@ module _ (starts : List ℕ) (pos low high before now middle next : ℕ) (a : Am
     left = λ k l. let P : ℕ → Type 0 = λ z. Left (middle - low) before z k in subst P (sym e) (left-half (high - low) (middle - low) before now k more (omega (arith, m)) (a.left k l));
   }
 
-pub among-all : (starts : List ℕ) (pos before : ℕ) → 0 < length starts → get_or starts 0 0 ≤ pos → Among starts pos 0 (length starts) before before
-among-all starts pos before some first = record {
-  some = some;
-  within = omega arith;
-  at = first;
-  behind = λ h. absurd (omega (arith, h));
-  left = λ k l. record { rest = k; counted = refl; enough = omega (arith, l) };
-}
-
 -- a number with so many binary digits is below that power of two
 halvings-above : (most n : ℕ) → n ≤ most → n < 2 ^ halvings most n
 halvings-above zero n h = omega (arith, h)

@@ -8,7 +8,6 @@ use Rattle.std.proofs.Common.{zero, suc, ap, sym, ◌∙◌, subst, arith, lengt
 use Rattle.std.proofs.lemmas.List.{take_all, take_more, take-append-le, length-set}
 use Rattle.std.proofs.Math.Seq.{take-suc-set}
 use Rattle.pm_sized.specs.declared.chunk.Chunk.{Chunk}
-use Rattle.pm_sized.specs.declared.many.Many.{Many}
 use Rattle.pm_sized.specs.Pairs.{chunk_pairs, all_pairs, total_of, IsChunk, AreFull, AreChunks, IsMany}
 use Rattle.pm_sized.specs.Parts.{all_but_last, values_in, chunk_values}
 use Rattle.pm_sized.proofs.PairLaws.{all_pairs-push, chunks-push, full-push, total_of-append}
@@ -76,20 +75,6 @@ module _ {T : Type 0} where
 
 pub values-pushed : {T : Type 0} (cs ds : List (Arc (Chunk (Arc T Global)) Global)) (c : Arc (Chunk (Arc T Global)) Global) → ds ≡ cs ++ c ∷ [] → values_in (all_pairs ds) ≡ values_in (all_pairs cs) ++ chunk_values (arc_value c)
 values-pushed cs ds c e = ap (λ z. values_in (all_pairs z)) e ∙ (ap values_in (all_pairs-push cs c) ∙ values-append (all_pairs cs) (chunk_pairs (arc_value c)))
-
--- chunks whose fields have the same lists
-pub laid-along : {T : Type 0} (s t : Many T) → t.chunks.items ≡ s.chunks.items → t.starts.items ≡ s.starts.items → t.firsts.items ≡ s.firsts.items → t.total ≡ s.total → t.len ≡ s.len → IsMany s → IsMany t
-laid-along s t ec es ef et el h = record {
-  chunks = subst AreChunks (sym ec) h.chunks;
-  starts_count = ap length es ∙ (h.starts_count ∙ ap length (sym ec));
-  firsts_count = ap length ef ∙ (h.firsts_count ∙ ap length (sym ec));
-  starts = λ k l. ap (λ z. get_or z k 0) es ∙ (h.starts k (omega (arith, l, ap length ec)) ∙ ap (λ z. total_of (all_pairs (take k z))) (sym ec));
-  firsts = λ k l. ap (λ z. get_or z k 0) ef ∙ (h.firsts k (omega (arith, l, ap length ec)) ∙ ap (λ z. length (all_pairs (take k z))) (sym ec));
-  total = et ∙ (h.total ∙ ap (λ z. total_of (all_pairs z)) (sym ec));
-  len = el ∙ (h.len ∙ ap (λ z. length (all_pairs z)) (sym ec));
-  bound = omega (arith, et, h.bound);
-  few = omega (arith, el, h.few);
-}
 
 -- another chunk in the place of the last one
 pub laid-last : {T : Type 0} (cs ds : Vec (Arc (Chunk T) Global) Global) (ss fs : Vec ℕ Global) (total len size count : ℕ) (c d : Arc (Chunk T) Global) (front : List (Arc (Chunk T) Global)) → cs.items ≡ front ++ c ∷ [] → ds.items ≡ front ++ d ∷ [] → IsMany (record { chunks = cs; starts = ss; firsts = fs; total = total; len = len }) → IsChunk (arc_value d) → size ≡ total_of (all_pairs front) + total_of (chunk_pairs (arc_value d)) → count ≡ length (all_pairs front) + length (chunk_pairs (arc_value d)) → size < 2 ^ 32 → count < 2 ^ 32 → IsMany (record { chunks = ds; starts = ss; firsts = fs; total = size; len = count })

@@ -125,6 +125,3 @@ module _ (ts : List Token) (os oe : ℕ) where
   some-left h n =
       let w = slice-is (sides ts os oe) h in
       sym (ap (λ b. cond b no_slice (sides ts os oe)) (ne_eqb (slice_size (sides ts os oe)) 0 (λ z. n (omega (arith, z, w.within)))))
-
-pub no-slice-is : (ts : List Token) → ts ≡ [] → is_slice (sides ts 0 0) ≡ true
-no-slice-is ts e = ap (λ z. is_slice (sides z 0 0)) e

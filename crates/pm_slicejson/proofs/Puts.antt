@@ -15,9 +15,4 @@ puts-by false false c e s = refl
 pub puts : (c : Data) (e s : ℕ) → put (codes "content") c (put_count (codes "openEnd") e (put_count (codes "openStart") s no_members)) ≡ member (codes "content") c (with_count (codes "openEnd") e (with_count (codes "openStart") s no_members))
 puts c e s = puts-by (e == 0) (s == 0) c (number (unsigned e)) (number (unsigned s))
 
-pub sides-put : (c d : Data) (e s : ℕ) (m0 m1 m2 m3 : Members) → m0 ≡ no_members → m1 ≡ put_count (codes "openStart") s m0 → m2 ≡ put_count (codes "openEnd") e m1 → m3 ≡ put (codes "content") c m2 → d ≡ object m3
-    → d ≡ object (member (codes "content") c (with_count (codes "openEnd") e (with_count (codes "openStart") s no_members)))
-sides-put c d e s m0 m1 m2 m3 none start end content seen =
-    seen ∙ ap object (content ∙ (ap (put (codes "content") c) (end ∙ ap (put_count (codes "openEnd") e) (start ∙ ap (put_count (codes "openStart") s) none)) ∙ puts c e s))
-
 pub ruleset counts = (puts)

@@ -69,7 +69,3 @@ module _ (text : ℕ) where
   -- there are as many children as types of children
   pub children-length : {ts : List Token} → Balanced ts → length (children ts) ≡ length (kids text 0 None ts)
   children-length b = (forest-children (balanced-forest text b)).0
-
--- the children one after another are the content
-pub children-joined : {ts : List Token} → Balanced ts → joined (children ts) ≡ ts
-children-joined b = (forest-children 0 (balanced-forest 0 b)).1

@@ -5,7 +5,6 @@ pub mod MarkLaws
 pub mod PartLaws
 pub mod PairLaws
 pub mod Restored
-pub mod MetLaws
 pub mod KidLaws
 pub mod ForestLaws
 pub mod ChildLaws

@@ -6,7 +6,7 @@ use Rattle.pm_marks.specs.Sets.{same_mark, same_marks, removed, added, all_added
 use Rattle.pm_marks.specs.Together.{StandsBefore}
 use Rattle.pm_marks.specs.declared.mark.Mark.{Mark}
 use Rattle.pm_marks.proofs.Places.{Ordered}
-use Rattle.pm_marks.proofs.Laws.{same-equal, same-itself, same_marks-equal, same_marks-itself, set-ordered, ordered-set, set-added, set-removed}
+use Rattle.pm_marks.proofs.Laws.{same-equal, same-itself, same_marks-equal, same_marks-itself, set-ordered, ordered-set, set-removed}
 use Rattle.pm_tokens.specs.Tokens.{Attrs, Marks}
 use Rattle.pm_tokens.specs.Schemas.{Schema}
 use Rattle.pm_attrs.specs.Attrs.{same_attrs}
@@ -62,6 +62,3 @@ set-front s xs ys h =
 -- a set with a mark taken out or added is a set
 pub set-without : (s : Schema) (m : Mark Attrs) (ms : Marks) → is_set s ms ≡ true → is_set s (removed same_attrs ms m) ≡ true
 set-without s m ms h = is-set s (removed same_attrs ms m) (set-removed same_attrs same_attrs-decides s.excludes ms m (set-is s ms h))
-
-pub set-with : (s : Schema) (m : Mark Attrs) (ms : Marks) → is_set s ms ≡ true → is_set s (added same_attrs s.excludes ms m) ≡ true
-set-with s m ms h = is-set s (added same_attrs s.excludes ms m) (set-added same_attrs same_attrs-decides s.excludes ms m (set-is s ms h))

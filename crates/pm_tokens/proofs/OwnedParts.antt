@@ -7,7 +7,7 @@ use Rattle.pm_tokens.specs.Tokens.{Attrs, Marks, Token, Open, Close, Leaf, CodeU
 use Rattle.pm_tokens.specs.Scan.{Owned, Opening, Closing, Piece, unclosed, unmet, owned, plain, joins, part, Balanced}
 use Rattle.pm_tokens.specs.Kids.{text_tokens}
 use Rattle.pm_tokens.proofs.ListLaws.{part-append, part_past, part_none}
-use Rattle.pm_tokens.proofs.ScanLaws.{owned-append, length-owned, unmet-append, unmet-from, level, joins-append}
+use Rattle.pm_tokens.proofs.ScanLaws.{owned-append, length-owned, unmet-append, unmet-from, level}
 use Rattle.pm_tokens.proofs.BalanceLaws.{balanced-whole, unclosed-balanced, owned-inner, owned-balanced}
 
 pub length-part : {A : Type 0} (f t : ℕ) (xs : List A) → length (part f t xs) ≡ min (t - f) (length xs - f)
@@ -86,10 +86,6 @@ plain-pieces m (u ∷ us) = ap (λ z. CodeUnit u m ∷ z) (plain-pieces m us)
 pub open-joins : (c : ℕ → ℕ → Bool) (s : List ℕ) (f k : ℕ) (a : Attrs) (m : Marks) → joins c s (part f (f + 1) (Opening k a m ∷ [])) ≡ true
 open-joins c s zero k a m = refl
 open-joins c s (suc f) k a m = ap (joins c s) (part_past (suc f) (suc f + 1) (Opening k a m ∷ []) (omega arith))
-
--- the front of what joins joins
-pub joins-front : (c : ℕ → ℕ → Bool) (s : List ℕ) (p q : List Owned) → joins c s (p ++ q) ≡ true → joins c s p ≡ true
-joins-front c s p q h = (and_parts (joins c s p) (joins c (unclosed s (plain p)) q) (sym (joins-append c s p q) ∙ h)).0
 
 -- ---- depths
 

@@ -1,10 +1,9 @@
 -- Parts of the tokens of nodes, where each close knows its node.
 use Rattle.std.specs.Prelude.{◌≡◌, ℕ, ◌-◌, ◌≤◌, List, [], ◌∷◌, ◌++◌, length, take, drop}
 use Rattle.std.proofs.Common.{zero, suc, refl, ap, sym, ◌∙◌, arith, append_assoc, length-take, length-drop}
-use Rattle.pm_tokens.specs.Tokens.{Attrs, Marks, Token, Open, Close, Leaf, CodeUnit}
+use Rattle.pm_tokens.specs.Tokens.{Marks, Token, Open, Close, Leaf, CodeUnit}
 use Rattle.pm_tokens.specs.Scan.{part, Balanced, none, leaf, unit, node}
 use Rattle.pm_tokens.specs.Kids.{text_tokens}
-use Rattle.pm_tokens.proofs.ListLaws.{part-append}
 use Rattle.pm_view.specs.Known.{Head, head, Known, Opening, Closing, Single, Piece, outer, known, tokens_of, pieces}
 use Rattle.pm_view.specs.Views.{viewed}
 
@@ -56,22 +55,6 @@ known-balanced (node k a m {inner = inner} {ts = ts} b c) s us =
     ap (λ z. z ++ known s us) (known-balanced b (h ∷ []) (Close ∷ ts)) ∙ append_assoc (known [] inner) (Closing h ∷ known [] ts) (known s us) in
     ap (λ z. Opening h ∷ z) (left ∙ sym right)
 
--- a view of whole nodes and of what comes behind them
-pub viewed-more : (f t : ℕ) (xs ys : List Token) → Balanced xs → viewed (xs ++ ys) f t ≡ viewed xs f t ++ viewed ys (f - length xs) (t - length xs)
-viewed-more f t xs ys b =
-    ap (part f t) (known-balanced b [] ys)
-    ∙ (part-append f t (known [] xs) (known [] ys) ∙ ap (λ n. part f t (known [] xs) ++ part (f - n) (t - n) (known [] ys)) (length-known [] xs))
-
--- of a node with content: of its open, of its content, and of its close
-pub viewed-node : (f t k : ℕ) (a : Attrs) (m : Marks) (inner : List Token) → Balanced inner
-    → viewed (Open k a m ∷ (inner ++ (Close ∷ []))) f t ≡ part f t (Opening (head k a m) ∷ []) ++ (viewed inner (f - 1) (t - 1) ++ part (f - 1 - length inner) (t - 1 - length inner) (Closing (head k a m) ∷ []))
-viewed-node f t k a m inner b =
-    let h = head k a m in
-    let mid = known [] inner in
-    ap (λ z. part f t (Opening h ∷ z)) (known-balanced b (h ∷ []) (Close ∷ []))
-    ∙ (part-append f t (Opening h ∷ []) (mid ++ (Closing h ∷ []))
-    ∙ ap (λ z. part f t (Opening h ∷ []) ++ z) (part-append (f - 1) (t - 1) mid (Closing h ∷ []) ∙ ap (λ n. part (f - 1) (t - 1) mid ++ part (f - 1 - n) (t - 1 - n) (Closing h ∷ [])) (length-known [] inner)))
-
 -- of a text: its units
 pub known-text : (s : List Head) (m : Marks) (us : List ℕ) → known s (text_tokens m us) ≡ pieces m us
 known-text s m [] = refl
@@ -86,9 +69,6 @@ pub pieces-drop : (n : ℕ) (m : Marks) (us : List ℕ) → drop n (pieces m us)
 pieces-drop zero m us = refl
 pieces-drop (suc n) m [] = refl
 pieces-drop (suc n) m (u ∷ us) = pieces-drop n m us
-
-pub viewed-text : (f t : ℕ) (m : Marks) (us : List ℕ) → viewed (text_tokens m us) f t ≡ pieces m (part f t us)
-viewed-text f t m us = ap (part f t) (known-text [] m us) ∙ (ap (take (t - f)) (pieces-drop f m us) ∙ pieces-take (t - f) m (drop f us))
 
 -- ---- sizes
 
