@@ -1,3 +1,4 @@
+pub mod FoundLaws
 pub mod TypeLaws
 pub mod TreeLaws
 pub mod Pairs
