@@ -18,7 +18,6 @@ mod running;
 mod running_rooms;
 mod selecting;
 mod summing;
-mod version;
 mod words;
 
 pub use call::{Status, plain, run};

@@ -4,8 +4,7 @@ ghost use Rattle.pm_call.specs.Files.{form_of};
 ghost use Rattle.pm_call.specs.Words.{command_named, at_named, gen_named, command_of, without_threads, plain_command_of, IsBounded};
 
 use crate::files::FileForm;
-use crate::version::version_of;
-use pm_gen::{Asked, asked_of};
+use pm_gen::{Asked, asked_of, number_of};
 use pm_head::Form;
 
 /// What the words ask for.
@@ -104,7 +103,7 @@ fn at_named(word: &str, version: &str) -> Option<Command>
     ensures bounds { IfSome result IsBounded }
 {
     if word == "at" {
-        Some(Command::At(version_of(version)?))
+        Some(Command::At(number_of(version)?))
     } else {
         None
     }

@@ -43,8 +43,8 @@ fn asked_from(clients: u64, rounds: u64, number: u64) -> Option<Asked>
     }
 }
 
-/// The number below 2^64 that one to twenty decimal digits write.
-fn number_of(text: &str) -> Option<u64>
+/// The number below 2^64 that one to twenty decimal digits write. All other texts are none.
+pub fn number_of(text: &str) -> Option<u64>
     ensures { result ≡ number_of text.now }
 {
     if is_digits(text) {

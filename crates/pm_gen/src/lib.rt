@@ -11,7 +11,7 @@ mod summing;
 mod tests;
 mod turns;
 
-pub use asking::{Asked, asked_of};
+pub use asking::{Asked, asked_of, number_of};
 pub use bounds::{MAX_CLIENTS, MAX_OP_LINES, is_in_bounds};
 pub use session::generate;
 pub use summing::summary;
