@@ -30,13 +30,10 @@ use Rattle.pm_versions.proofs.PulledRuns.{all-pulled}
 use Rattle.pm_script.specs.declared.session.Session.{Session}
 use Rattle.pm_script.specs.Held.{HoldsLate}
 use Rattle.pm_script.proofs.SessionLaws.{session-holds}
-use Rattle.pm_report.specs.Words.{◌&◌, line}
-use Rattle.pm_report.specs.declared.outcomes.Numbered.{Numbered}
-use Rattle.pm_report.specs.Outcomes.{with_numbers, outcome_lines}
-use Rattle.pm_report.specs.Report.{client_lines, entry_lines, settled_lines, doc_text}
+use Rattle.pm_report.specs.Words.{◌&◌}
 use Rattle.pm_call.specs.Making.{makes}
 use Rattle.pm_call.specs.Playing.{Room, room_of}
-use Rattle.pm_call.specs.LatePlaying.{late_playing, late_room_after, late_room_settled, late_report_of, version_line, past_line, IsTextAt, IsVersionText}
+use Rattle.pm_call.specs.LatePlaying.{late_playing, late_room_after, late_room_settled, version_line, past_line, IsTextAt, IsVersionText}
 use Rattle.pm_call.specs.LateSounds.{LateRoomsSound, AllLateSound}
 
 -- the lines of a session that is read suit its room

@@ -6,7 +6,7 @@ use Rattle.pm_gen_laws.proofs.Whole.{never-refused}
 use Rattle.pm_head.specs.declared.fault.Refusal.{Refusal}
 use Rattle.pm_head.specs.declared.form.Form.TheVariants as form
 use Rattle.pm_call.specs.declared.files.FileForm.TheVariants.{OneRoom}
-use Rattle.pm_call.specs.Contents.{Content, one, many, FileIs}
+use Rattle.pm_call.specs.Contents.{Content, FileIs}
 use Rattle.pm_call.specs.declared.call.Status.{Status}
 use Rattle.pm_call.specs.declared.call.Status.TheVariants.{SessionRefused}
 use Rattle.pm_call.specs.declared.words.Command.TheVariants.{Gen}

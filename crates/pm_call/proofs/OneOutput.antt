@@ -16,7 +16,7 @@ use Rattle.pm_call.specs.Files.{file_of}
 use Rattle.pm_call.specs.Output.{refusal, counts_of, IsTextOf, IsOutput}
 use Rattle.pm_call.specs.Summing.{summary_in}
 use Rattle.pm_call.specs.OneOutput.{HasOneOutput}
-use Rattle.pm_call.proofs.Contents.{one-fault, as_content, read-text}
+use Rattle.pm_call.proofs.Contents.{as_content, read-text}
 use Rattle.pm_call.proofs.Cases.{one-status, one-check}
 use Rattle.pm_script.proofs.OneRooms.{rooms-apart, one-rooms-refusal}
 use Rattle.pm_call.proofs.RoomReports.{one-rooms-report}

@@ -29,11 +29,8 @@ use Rattle.pm_script.specs.declared.session.Session.{Session}
 use Rattle.pm_script.specs.Held.{Holds}
 use Rattle.pm_script.proofs.SessionLaws.{session-holds}
 use Rattle.pm_report.specs.Words.{◌&◌, line}
-use Rattle.pm_report.specs.declared.outcomes.Numbered.{Numbered}
-use Rattle.pm_report.specs.Outcomes.{with_numbers, outcome_lines}
-use Rattle.pm_report.specs.Report.{client_lines, entry_lines, settled_lines, doc_text}
 use Rattle.pm_call.specs.Making.{makes}
-use Rattle.pm_call.specs.Playing.{Room, room_of, playing, room_after, room_settled, report_of}
+use Rattle.pm_call.specs.Playing.{Room, room_of, playing, room_after, room_settled}
 use Rattle.pm_call.specs.Sounds.{RoomsSound, AllSound}
 
 -- lines that suit a room suit it up to each of them

@@ -8,11 +8,9 @@ use Rattle.pm_head.specs.Lines.{lines_of}
 use Rattle.pm_script.specs.declared.rooms.RoomSession.{RoomSession}
 use Rattle.pm_script.specs.Held.{Holds}
 use Rattle.pm_script.specs.OneRooms.{SameRooms}
-use Rattle.pm_script.specs.OwnLines.{AreOfOwnLines}
 use Rattle.pm_script.specs.Rooms.{RoomsAre}
 use Rattle.pm_script.proofs.OneRooms.{one-rooms}
 use Rattle.pm_script.proofs.OwnLaws.{rooms-own, rooms-hold}
-use Rattle.pm_call.specs.Playing.{report_of}
 use Rattle.pm_call.specs.RoomReports.{room_line, rooms_report}
 use Rattle.pm_call.specs.RoomSounds.{AllRoomsSound, AllRoomsApart}
 use Rattle.pm_call.specs.Sounds.{RoomsSound}

@@ -15,18 +15,15 @@ use Rattle.pm_head.specs.Clients.{raw_flags}
 use Rattle.pm_head.specs.declared.clients.ClientEntry.{ClientEntry}
 use Rattle.pm_ops.specs.declared.op.Op.{Op}
 use Rattle.pm_session.specs.declared.line.Line.{Line}
-use Rattle.pm_session.specs.Sessions.{opened, session, settled}
+use Rattle.pm_session.specs.Sessions.{opened, session}
 use Rattle.pm_session.specs.Suits.{LinesSuit}
 use Rattle.pm_script.specs.declared.session.Session.{Session}
 use Rattle.pm_workers.specs.Merges.{numbers, merged, IsOrder}
 use Rattle.pm_workers.specs.Threads.{by_client, callers, in_order}
-use Rattle.pm_report.specs.Words.{◌&◌, line}
-use Rattle.pm_report.specs.declared.outcomes.Numbered.{Numbered}
-use Rattle.pm_report.specs.Outcomes.{outcome_lines}
-use Rattle.pm_report.specs.Report.{client_lines, entry_lines, settled_lines, doc_text}
+use Rattle.pm_report.specs.Words.{◌&◌}
 use Rattle.pm_call.specs.Making.{makes}
 use Rattle.pm_call.specs.Playing.{Room, LineOutcome, room_of, playing}
-use Rattle.pm_call.specs.Running.{reordered, order_line, InFileOrder, IsTold, IsRun}
+use Rattle.pm_call.specs.Running.{reordered, IsTold, IsRun}
 use Rattle.pm_call.proofs.Reports.{rooms-sound}
 
 -- what is told of the session in an order, where the lines, the outcomes and the room are those of that order

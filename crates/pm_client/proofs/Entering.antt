@@ -3,19 +3,17 @@ use Rattle.std.specs.Prelude.{◌≡◌, ℕ, true, false, List, [], ◌∷◌, 
 use Rattle.std.specs.List.{AllByRecursion as Each}
 use Rattle.std.proofs.Common.{sym, ap, subst, ◌∙◌, arith, append-nil}
 use Rattle.std.proofs.lemmas.List.Elements.{All-from_recursion}
-use Rattle.pm_change.specs.declared.name.Name.{Name}
 use Rattle.pm_change.specs.Changes.{Meaning, fold}
 use Rattle.pm_authority.specs.declared.named.Named.{Named}
 use Rattle.pm_authority.specs.Runs.{AllApply, changes_of as changes_in}
 use Rattle.pm_history.specs.declared.item.Item.{Item}
 use Rattle.pm_history.specs.Items.{one_step}
 use Rattle.pm_history.specs.Histories.{new_history}
-use Rattle.pm_history.specs.Timelines.{Step, changes_of, items_from, next_items}
-use Rattle.pm_history.specs.Tidy.{NoneUndoes, NotNamed, NamesDiffer, Once}
+use Rattle.pm_history.specs.Timelines.{changes_of, items_from, next_items}
+use Rattle.pm_history.specs.Tidy.{NotNamed, NamesDiffer, Once}
 use Rattle.pm_history.specs.Standing.{IsHistoryOf, IsDrawn, HasDrawn}
 use Rattle.pm_client.specs.Clients.{entered_client}
 use Rattle.pm_client.specs.Kins.{IsForeign, Kin}
-use Rattle.pm_client.specs.Serials.{Parted, own_serials}
 use Rattle.pm_client.specs.Timelines.{IsTimeline}
 use Rattle.pm_client.proofs.SerialLists.{own_serials-foreign}
 use Rattle.pm_client.proofs.TimelineLaws.{foreign_step, changes-are, foreign-timeline}

@@ -1,13 +1,11 @@
 -- Own steps that were made as far as some step.
 use Rattle.std.proofs.Common.{◌≡◌, ℕ, ◌+◌, ◌<◌, List, [], ◌∷◌, ◌++◌, length, drop, get_or, suc, sym, ap, ◌∙◌, append_assoc, append-nil, None, Result, Ok, Err, add-one, refl}
 use Rattle.std.proofs.Math.Seq.{drop-cons}
-use Rattle.pm_change.specs.Changes.{Meaning, Laws}
+use Rattle.pm_change.specs.Changes.{Meaning}
 use Rattle.pm_authority.specs.declared.named.Named.{Named}
 use Rattle.pm_authority.specs.declared.running.Refusal.{Refusal}
 use Rattle.pm_authority.specs.Runs.{run}
-use Rattle.pm_history.specs.declared.item.Item.{Item}
-use Rattle.pm_history.specs.Timelines.{next_items, items_from}
-use Rattle.pm_history.specs.Undos.{own_item}
+use Rattle.pm_history.specs.Timelines.{items_from}
 use Rattle.pm_client.specs.declared.making.Made.{Made}
 use Rattle.pm_client.specs.Timelines.{edit_steps}
 use Rattle.pm_client.specs.Makes.{made_where, made_all}

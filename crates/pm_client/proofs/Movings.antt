@@ -5,7 +5,7 @@ use Rattle.pm_map.specs.declared.mapping.Mirrored.{Mirrored}
 use Rattle.pm_map.specs.Through.{through}
 use Rattle.pm_map.specs.Positions.{MayLead, EachLed, IsItself}
 use Rattle.pm_client.specs.declared.cursors.Cursor.{Cursor}
-use Rattle.pm_client.specs.Cursors.{AreIn, AreWithin, cursor, moved_over}
+use Rattle.pm_client.specs.Cursors.{AreIn, cursor, moved_over}
 
 pub moved-on : (ms : List Mirrored) (cs : List Cursor) (i : ℕ) (c : Cursor) (moved : List Cursor) (p : ℕ) → i < length cs → c ≡ get_or cs i c → p ≡ (through ms c.pos c.side).pos
     → moved ++ moved_over ms (drop i cs) ≡ moved_over ms cs → (moved ++ cursor p c.side ∷ []) ++ moved_over ms (drop (i + 1) cs) ≡ moved_over ms cs

@@ -2,8 +2,7 @@
 use Rattle.std.proofs.Common.{◌≡◌, ℕ, ◌+◌, ◌<◌, ◌^◌, List, [], ◌∷◌, ◌++◌, length, drop, get_or, suc, sym, ap, subst, ◌∙◌, append_assoc, append-nil, add-one, refl}
 use Rattle.std.proofs.Math.Seq.{drop-cons}
 use Rattle.pm_map.specs.declared.mapping.Mirrored.{Mirrored}
-use Rattle.pm_map.specs.Mirrors.{pushed}
-use Rattle.pm_map.specs.Fits.{FitsSizes, FitBetween}
+use Rattle.pm_map.specs.Fits.{FitBetween}
 use Rattle.pm_frames.specs.declared.route.Route.{Route}
 use Rattle.pm_frames.specs.Courses.{AreSmall}
 use Rattle.pm_frames.specs.Growing.{HasPushed}

@@ -2,9 +2,8 @@
 use Rattle.std.specs.Prelude.{◌≡◌, ℕ, ◌<◌, ◌^◌, List, [], ◌∷◌, ◌++◌, length, Option, Some, None, Result, Ok, Err, IfOk, OnOk}
 use Rattle.std.proofs.Common.{sym, ap, subst, ◌∙◌}
 use Rattle.pm_map.specs.declared.step_map.Span.{Span}
-use Rattle.pm_map.specs.declared.mapping.Mirrored.{Mirrored}
 use Rattle.pm_map.specs.Moves.{inverted_ranges}
-use Rattle.pm_map.specs.Mirrors.{pushed, fronted, enclosed, gap_for}
+use Rattle.pm_map.specs.Mirrors.{fronted, enclosed}
 use Rattle.pm_map.specs.Fits.{FitsSizes}
 use Rattle.pm_map.specs.Positions.{MayLead, EachLed}
 use Rattle.pm_map.proofs.Sizes.{inverted-fits}

@@ -10,10 +10,10 @@ use Rattle.pm_schema.specs.declared.spec.SchemaSpec.{SchemaSpec}
 use Rattle.serde_json.specs.Data.{Items, no_items, item}
 use Rattle.serde_json.specs.Written.{compact_text}
 use Rattle.pm_docjson.specs.Trees.{Tree, text, branch, Trees, none, tree, with_unit, Levels, innermost, with_token, read_back}
-use Rattle.pm_docjson.specs.Writing.{tree_written, trees_written, branch_written, text_written}
-use Rattle.pm_view.specs.Known.{Head, head, Known, Opening, Closing, Single, Piece, known, pieces}
-use Rattle.pm_view.specs.Seen.{Seen, Opens, Closes, Atom, Run, seen_tokens, all_tokens, EndsRun, AreWhole}
-use Rattle.pm_doctext.specs.Texts.{start_text, end_text, front_text, back_text, run_text, part_text, content_text}
+use Rattle.pm_docjson.specs.Writing.{tree_written, trees_written}
+use Rattle.pm_view.specs.Known.{Head, head, Known, known, pieces}
+use Rattle.pm_view.specs.Seen.{Seen, Opens, Closes, Atom, Run, all_tokens, EndsRun, AreWhole}
+use Rattle.pm_doctext.specs.Texts.{start_text, end_text, front_text, back_text, run_text, content_text}
 use Rattle.pm_doctext.proofs.Members.{list_text, branch-is, text-is}
 
 -- ---- nodes that are open

@@ -11,7 +11,6 @@ use Rattle.pm_schema.specs.Documents.{documents_of}
 use Rattle.pm_schema.specs.Types.{node_at}
 use Rattle.pm_docjson.specs.Values.{keys}
 use Rattle.pm_docjson.specs.Writing.{mark_written}
-use Rattle.pm_view.specs.Known.{Head}
 use Rattle.pm_view.specs.Seen.{Seen, Opens, Closes, Atom, Run}
 
 -- ---- the members of an object, each with the comma behind it; the type is the last

@@ -10,7 +10,7 @@ use Rattle.pm_tokens.proofs.PartLaws.{split-at, split-fronts}
 use Rattle.pm_slice.specs.Sides.{opens_first, closes_first, closes_last}
 use Rattle.pm_auto.proofs.AcceptLaws.{both-ways}
 use Rattle.pm_tokens.proofs.OwnedParts.{unclosed-le}
-use Rattle.pm_slice.proofs.SideLaws.{closes-both, and-swap, closes-reverse}
+use Rattle.pm_slice.proofs.SideLaws.{closes-reverse}
 
 -- ---- a token opens or closes at most one node
 

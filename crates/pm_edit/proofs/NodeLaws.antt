@@ -5,10 +5,10 @@ use Rattle.std.proofs.Common.{zero, suc, refl, ap, sym, ◌∙◌, arith, length
 use Rattle.std.proofs.lemmas.List.{reverse-append, length-reverse, get_or-append_right}
 use Rattle.std.proofs.Math.Seq.{take-add}
 use Rattle.pm_tokens.specs.Tokens.{Token, Open, Close, Leaf, CodeUnit, Doc}
-use Rattle.pm_tokens.specs.Scan.{tail_of, unclosed, depth_at, open_places, open_at}
+use Rattle.pm_tokens.specs.Scan.{tail_of, depth_at, open_places, open_at}
 use Rattle.pm_resolve.specs.Places.{up_to_close, first_node, opens_at, node_around, start_at}
 use Rattle.pm_edit.specs.Nodes.{opened_node, node_at, behind}
-use Rattle.pm_tokens.proofs.DepthLaws.{places-append, places-length}
+use Rattle.pm_tokens.proofs.DepthLaws.{places-append}
 use Rattle.pm_resolve.proofs.OpenLaws.{places-depth, below-tail, places-below}
 
 -- ---- the places of the opens around a position

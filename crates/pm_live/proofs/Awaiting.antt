@@ -6,8 +6,8 @@ use Rattle.std.specs.Fmt.{digits}
 use Rattle.pm_head.specs.declared.code.Code.TheVariants.{MissingLine}
 use Rattle.pm_live.specs.Texts.{opening_fault_text}
 use Rattle.pm_live.specs.Live.{LiveAuthority}
-use Rattle.pm_live.specs.Phases.{AwaitsSchema, AwaitsDocument, Replies, last_text}
-use Rattle.pm_live.specs.Awaiting.{stands, Came}
+use Rattle.pm_live.specs.Phases.{AwaitsSchema, last_text}
+use Rattle.pm_live.specs.Awaiting.{stands}
 
 -- ---- what is said at the end of input
 

@@ -5,7 +5,7 @@ use Rattle.pm_serve.specs.declared.serving.Served.TheVariants as served
 use Rattle.pm_serve.specs.Serves.{ServeFaults}
 use Rattle.pm_live.specs.declared.status.Status.{Status}
 use Rattle.pm_live.specs.declared.status.Status.TheVariants.{Done, Refused, Usage, ReadFault, WriteFault, NoMemory, Spent}
-use Rattle.pm_live.specs.Calls.{IsSilent, status_of, FaultsAt}
+use Rattle.pm_live.specs.Calls.{status_of, FaultsAt}
 
 -- whether a status says that something was read
 abbrev Speaks : Status → Type 0

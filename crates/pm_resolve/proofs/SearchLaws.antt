@@ -3,15 +3,15 @@ use Rattle.std.specs.Prelude.{◌≡◌, ℕ, zero, suc, ◌+◌, ◌-◌, ◌�
 use Rattle.std.specs.declared.sync.Arc.{Arc}
 use Rattle.std.proofs.Common.{refl, ap, sym, ◌∙◌, arith}
 use Rattle.std.proofs.lemmas.List.{take_all, take_more}
-use Rattle.pm_tokens.specs.Tokens.{Token, Doc}
+use Rattle.pm_tokens.specs.Tokens.{Doc}
 use Rattle.pm_tokens.specs.Scan.{depth_at}
 use Rattle.pm_tokens.specs.Kids.{children}
 use Rattle.pm_sized.specs.Bound.{find_bound}
 use Rattle.pm_node.specs.declared.node.Node.{Node}
 use Rattle.pm_node.specs.Trees.{list_tokens, IsNormal, EachWhole}
-use Rattle.pm_node.proofs.KindLaws.{child_tokens, children-list, length-child_tokens}
+use Rattle.pm_node.proofs.KindLaws.{children-list, length-child_tokens}
 use Rattle.pm_resolve.specs.declared.level.Level.{Level}
-use Rattle.pm_resolve.specs.Places.{node_around, search_bound}
+use Rattle.pm_resolve.specs.Places.{search_bound}
 use Rattle.pm_resolve.specs.Levels.{content_of, levels_bound, Path}
 use Rattle.pm_resolve.proofs.LevelLaws.{path-length, path-node}
 

@@ -5,7 +5,7 @@ use Rattle.std.specs.Cmp.Lexicographic.{pointwise}
 use Rattle.std.specs.List.{list_all, list_any, zip}
 use Rattle.pm_head.specs.declared.clients.ClientEntry.{ClientEntry}
 use Rattle.pm_script.specs.Entrants.{entrant_on, enters_on, all_enter}
-use Rattle.pm_script.specs.Entered.{after_line, after_entrant}
+use Rattle.pm_script.specs.Entered.{after_line}
 
 -- each client has entered, or enters on one of these lines
 abbrev pub all_by : List ClientEntry → List Bool → List (List ℕ) → Bool

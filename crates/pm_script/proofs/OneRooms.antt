@@ -24,8 +24,7 @@ use Rattle.pm_script.specs.declared.session.TheConstants.{MAX_INPUT}
 use Rattle.pm_script.specs.Fields.{text_in}
 use Rattle.pm_script.specs.Lines.{op_in}
 use Rattle.pm_script.specs.Sessions.{at_line}
-use Rattle.pm_script.specs.Rooms.{opened, moved, HeadBehind, AfterHead, AreOpened, room_in, room_op, with_op, room_with, rooms_with, room_line, rooms_behind, last_head, all_behind, AfterNames, BehindNames, RoomsOf, RoomsAre}
-use Rattle.pm_script.specs.OneMeaning.{SameSession}
+use Rattle.pm_script.specs.Rooms.{opened, moved, HeadBehind, AfterHead, AreOpened, room_in, room_op, with_op, room_with, rooms_with, room_line, rooms_behind, last_head, all_behind, BehindNames, RoomsOf, RoomsAre}
 use Rattle.pm_script.specs.OneRooms.{SameRoom, SameRooms}
 use Rattle.pm_script.proofs.SameLines.{op-in-alike}
 use Rattle.pm_script.proofs.RoomLists.{position-map}

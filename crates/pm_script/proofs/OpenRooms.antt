@@ -3,9 +3,9 @@ use Rattle.std.proofs.Common.{◌≡◌, ◌<◌, ◌+◌, ℕ, List, [], ◌∷
 use Rattle.std.specs.Prelude.{slice_get, slice_set, slice_index_or, Some, Result}
 use Rattle.std.proofs.Math.Seq.{drop-cons}
 use Rattle.serde_json.specs.Data.{Data}
-use Rattle.pm_list.specs.Readings.{◌>>=◌, or_fault}
+use Rattle.pm_list.specs.Readings.{◌>>=◌}
 use Rattle.pm_head.specs.declared.code.Code.{Code}
-use Rattle.pm_head.specs.declared.code.Code.TheVariants.{MissingLine, NoSuchRoom}
+use Rattle.pm_head.specs.declared.code.Code.TheVariants.{MissingLine}
 use Rattle.pm_head.specs.declared.fault.LineError.{LineError}
 use Rattle.pm_head.specs.declared.fault.LineError.TheVariants as line
 use Rattle.pm_head.specs.Answers.{Gives}
@@ -13,7 +13,6 @@ use Rattle.pm_head.specs.Lines.{lines_of}
 use Rattle.pm_head.specs.Refusals.{refused}
 use Rattle.pm_head.proofs.Missing.{no_lines}
 use Rattle.pm_script.specs.declared.open_room.OpenRoom.{OpenRoom}
-use Rattle.pm_script.specs.declared.rooms.RoomSession.{RoomSession}
 use Rattle.pm_script.specs.OpenRooms.{room_of, rooms_of}
 use Rattle.pm_script.specs.Rooms.{room_with, at_place, RoomsOf}
 use Rattle.pm_script.proofs.RoomLists.{map-get, map-set}

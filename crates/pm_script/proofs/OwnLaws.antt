@@ -25,14 +25,14 @@ use Rattle.pm_script.specs.declared.session.TheConstants.{MAX_INPUT}
 use Rattle.pm_script.specs.Held.{Holds}
 use Rattle.pm_script.specs.Lines.{op_in}
 use Rattle.pm_script.specs.Sessions.{at_line}
-use Rattle.pm_script.specs.Rooms.{AreOpened, room_op, with_op, room_line, rooms_behind, last_head, all_behind, AfterNames, BehindNames, RoomsOf, RoomsAre}
+use Rattle.pm_script.specs.Rooms.{AreOpened, room_op, with_op, room_line, rooms_behind, last_head, all_behind, BehindNames, RoomsOf, RoomsAre}
 use Rattle.pm_script.specs.OwnLines.{is_of_room, own_lines, own_ops, IsOfOwnLines, AreOfOwnLines, AllHold}
 use Rattle.pm_script.proofs.Came.{then-ok, line-ok}
 use Rattle.pm_script.proofs.HeadLaws.{head-good}
 use Rattle.pm_script.proofs.Suited.{own-suit}
 use Rattle.pm_script.proofs.RoomLists.{set-there, set-elsewhere, map-get, map-got, all-at}
 use Rattle.pm_script.proofs.RoomNames.{NamesDiffer, line-differs}
-use Rattle.pm_script.proofs.RoomHeads.{IsOpened, AllOpened, all-opened, head-three}
+use Rattle.pm_script.proofs.RoomHeads.{AllOpened, all-opened, head-three}
 use Rattle.pm_script.proofs.RoomOps.{IsRead, is-read, names_in, same-names, is-own}
 
 -- A room and what becomes of it by these lines, the first of which is line n: the op lines come to it that its own lines are.

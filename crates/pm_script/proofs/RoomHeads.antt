@@ -11,14 +11,10 @@ use Rattle.pm_head.specs.declared.fault.Refusal.{Refusal}
 use Rattle.pm_head.specs.declared.fault.SessionError.{SessionError}
 use Rattle.pm_head.specs.declared.fault.SessionError.TheVariants as session
 use Rattle.pm_head.specs.Answers.{Refuses, Reads}
-use Rattle.pm_head.specs.Refusals.{refused}
-use Rattle.pm_head.specs.declared.clients.ClientEntry.{ClientEntry}
 use Rattle.pm_head.specs.declared.reading.Head.{Head}
-use Rattle.pm_head.specs.Heads.{with_clients, AfterDoc, AfterSchema, HeadIs}
-use Rattle.pm_head.specs.Clients.{clients_line}
+use Rattle.pm_head.specs.Heads.{AfterDoc, AfterSchema, HeadIs}
 use Rattle.pm_script.specs.declared.rooms.RoomSession.{RoomSession}
 use Rattle.pm_script.specs.Rooms.{opened, moved, HeadBehind, AfterHead, AreOpened}
-use Rattle.pm_script.proofs.Came.{then-ok}
 
 abbrev failed : Refusal → Result Head Refusal
 failed refusal = Err refusal

@@ -6,8 +6,6 @@ use Rattle.std.proofs.lemmas.List.{append_assoc, append-nil}
 use Rattle.std.proofs.lemmas.Bool.{eqb-true, eqb-false}
 use Rattle.serde_json.specs.Data.{Data}
 use Rattle.pm_list.specs.Readings.{◌>>=◌, or_fault}
-use Rattle.pm_head.specs.declared.form.Form.TheVariants.{Plain}
-use Rattle.pm_head.specs.declared.code.Code.{Code}
 use Rattle.pm_head.specs.declared.code.Code.TheVariants.{TooManyLines, LineTooLong, NotJson, NoSuchRoom, WrongShape}
 use Rattle.pm_head.specs.declared.fault.Refusal.{Refusal}
 use Rattle.pm_head.specs.declared.fault.SessionError.{SessionError}
@@ -18,14 +16,13 @@ use Rattle.pm_ops.specs.declared.op.Op.{Op}
 use Rattle.pm_session.specs.declared.line.Line.{Line}
 use Rattle.pm_script.specs.declared.rooms.RoomSession.{RoomSession}
 use Rattle.pm_script.specs.Answers.{Gives}
-use Rattle.pm_script.specs.Entrants.{text_at, has_text}
+use Rattle.pm_script.specs.Entrants.{text_at}
 use Rattle.pm_script.specs.Fields.{text_in}
-use Rattle.pm_script.specs.Lines.{op_in}
 use Rattle.pm_script.specs.Sessions.{at_line}
 use Rattle.pm_script.specs.Rooms.{room_in, room_op, with_op, room_with, rooms_with, room_line, rooms_behind}
-use Rattle.pm_script.specs.OwnLines.{is_of_room, own_lines, own_ops}
-use Rattle.pm_script.proofs.Came.{then-ok, fault-ok, unless-ok, line-ok}
-use Rattle.pm_script.proofs.RoomLists.{set-there, set-elsewhere, position-at, map-get, map-same}
+use Rattle.pm_script.specs.OwnLines.{is_of_room}
+use Rattle.pm_script.proofs.Came.{then-ok, fault-ok, unless-ok}
+use Rattle.pm_script.proofs.RoomLists.{position-at, map-get, map-same}
 use Rattle.pm_script.proofs.RoomNames.{NamesDiffer, same-text, text-same}
 
 -- ---- line after line

@@ -15,7 +15,7 @@ use Rattle.pm_script.specs.Entrants.{has_text}
 use Rattle.pm_script.specs.Held.{Holds}
 use Rattle.pm_script.specs.Lines.{op_in}
 use Rattle.pm_script.specs.Sessions.{at_line}
-use Rattle.pm_script.specs.Rooms.{last_head, RoomsAre}
+use Rattle.pm_script.specs.Rooms.{last_head}
 
 -- the line's `room` is this name
 abbrev pub is_of_room : List ℕ → List ℕ → Bool

@@ -12,7 +12,6 @@ use Rattle.pm_authority.specs.declared.named.Named.{Named}
 use Rattle.pm_history.specs.declared.branch.Event.{Event}
 use Rattle.pm_history.specs.declared.branches.Branches.{Branches}
 use Rattle.pm_history.specs.declared.turn.Turn.TheVariants.{UndoEvent as undo_numbered}
-use Rattle.pm_history.specs.declared.undoing.Undone.{Undone}
 use Rattle.pm_history.specs.Turns.{last_numbered}
 use Rattle.pm_history.specs.Undos.{undo_event}
 use Rattle.pm_client.specs.Clients.{turned, turned_if}

@@ -17,7 +17,7 @@ use Rattle.pm_history.specs.Items.{one_step}
 use Rattle.pm_selective.specs.declared.telling.Reach.{Reach}
 use Rattle.pm_selective.specs.Apart.{moved_reaches, reaches}
 use Rattle.pm_selective.specs.Told.{item_maps}
-use Rattle.pm_selective.specs.Tests.{is_beyond, beyond_all, apart_from, is_splice_map, all_splices, apart_behind, are_named, from_name, FitChain, FitItems, HasRoomAll, EndWithin, FitReaches}
+use Rattle.pm_selective.specs.Tests.{beyond_all, apart_from, is_splice_map, apart_behind, are_named, from_name, FitChain, FitItems, HasRoomAll, EndWithin, FitReaches}
 
 one-more : (k : ℕ) → suc k ≡ k + 1
 one-more k = omega arith

@@ -14,7 +14,7 @@ use Rattle.pm_selective.specs.Histories.{IsApartIn}
 use Rattle.pm_selective.specs.Standing.{HasTimeline}
 use Rattle.pm_selective.specs.Tests.{FitItems}
 use Rattle.pm_selective.specs.Told.{TellsApart}
-use Rattle.pm_selective.proofs.Leavings.{StandsIn, stands-in, items-fit, items-differ, items-tell, tells-items}
+use Rattle.pm_selective.proofs.Leavings.{stands-in, items-fit, items-differ, items-tell, tells-items}
 
 abbrev documents : Schema → Documents
 documents = λ schema. documents_of schema.spec

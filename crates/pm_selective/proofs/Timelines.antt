@@ -10,7 +10,7 @@ use Rattle.pm_tokens.specs.Tokens.{Doc}
 use Rattle.pm_tokens.specs.Schemas.{Schema}
 use Rattle.pm_tokens.specs.Faults.{Valid}
 use Rattle.pm_meaning.specs.Steps.{Step}
-use Rattle.pm_meaning.specs.Meanings.{meaning_by, meaning}
+use Rattle.pm_meaning.specs.Meanings.{meaning_by}
 use Rattle.pm_meaning.proofs.ChangeLaws.{laws_by}
 use Rattle.pm_history.specs.declared.item.Item.{Item}
 use Rattle.pm_history.specs.Items.{one_step}

@@ -6,16 +6,12 @@ use Rattle.pm_schema.specs.declared.schema.Schema.{Schema}
 use Rattle.pm_meaning.specs.Steps.{Step}
 use Rattle.pm_meaning.specs.declared.reason.Reason.{Reason}
 use Rattle.pm_apply.specs.Changes.{meaning}
-use Rattle.pm_map.specs.declared.side.Side.TheVariants.{After}
-use Rattle.pm_client.specs.Cursors.{cursor}
 use Rattle.pm_session.specs.declared.line.Line.{Line}
 use Rattle.pm_session.specs.declared.line.Act.{Act}
 use Rattle.pm_session.specs.declared.line.Act.TheVariants.{UndoEvent}
 use Rattle.pm_session.specs.declared.member.Member.{Member}
 use Rattle.pm_session.specs.declared.member.Member.TheVariants.{Editor, Raw}
-use Rattle.pm_session.specs.Events.{placed}
 use Rattle.pm_session.specs.Left.{AuthorityTells, LeftBy, LeftByLine}
-use Rattle.pm_session.specs.Standing.{CursorsStay, tokens_of}
 use Rattle.pm_session.specs.Suits.{SuitsRoom}
 use Rattle.pm_selective.specs.Playing.{Room, Client}
 

@@ -19,7 +19,6 @@ use Rattle.pm_session.specs.declared.outcome.Outcome.TheVariants.{Exchanged}
 use Rattle.pm_session.specs.Events.{told, exchanges}
 use Rattle.pm_session.specs.Refusals.{RefusesNoStep}
 use Rattle.pm_session.proofs.Keeping.{taken-last}
-use Rattle.pm_session.proofs.Moves.{given-moved}
 
 pub on-err : {T E P : Type 0} (r : Result T E) → P → OnErr r P
 on-err (Ok x) p = tt

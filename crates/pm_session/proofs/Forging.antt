@@ -12,7 +12,6 @@ use Rattle.pm_authority.specs.declared.message.Answer.{Answer}
 use Rattle.pm_authority.specs.declared.message.Answer.TheVariants.{WrongVersion}
 use Rattle.pm_authority.specs.declared.authority.Authority.{Authority}
 use Rattle.pm_authority.specs.Kept.{IsKept}
-use Rattle.pm_authority.specs.Requests.{NamedBy}
 use Rattle.pm_authority.specs.Runs.{run}
 use Rattle.pm_authority.proofs.RunFolds.{kept-append}
 use Rattle.pm_authority.specs.Presents.{tried, presented}

@@ -1,7 +1,5 @@
 use Rattle.std.proofs.Common.{rules, ◌≡◌, ◌++◌, List, [], ap, sym, ◌∙◌, subst, arith, length}
-use Rattle.pm_tokens.specs.Scan.{depth_at}
 use Rattle.pm_resolve.specs.declared.level.Level.{Level}
-use Rattle.pm_resolve.specs.Places.{search_bound}
 use Rattle.pm_resolve.specs.Levels.{levels_bound, Nested, Path}
 use Rattle.pm_resolve.proofs.SearchLaws.{bound-path}
 use Rattle.pm_resolve.proofs.walk.resolve_counted.Goals as goal

@@ -5,7 +5,6 @@ use Rattle.std.proofs.lemmas.List.Elements.{All-push}
 use Rattle.std.proofs.lemmas.Result.{err_from_is_err_and}
 use Rattle.pm_list.specs.Readings.{with_front}
 use Rattle.pm_head.specs.declared.fault.Refusal.{Refusal}
-use Rattle.pm_head.specs.Answers.{Refuses, Reads}
 use Rattle.pm_head.specs.Lines.{lines_of}
 use Rattle.pm_script.specs.declared.rooms.RoomSession.{RoomSession}
 use Rattle.pm_script.specs.declared.open_room.OpenRoom.{OpenRoom}
