@@ -12,6 +12,7 @@ use Rattle.pm_history.specs.declared.item.Item.{Item}
 use Rattle.pm_history.specs.declared.branch.Event.{Event}
 use Rattle.pm_history.specs.declared.branches.Branches.{Branches}
 use Rattle.pm_history.specs.Items.{one_step}
+use Rattle.pm_history.specs.Live.{client_of}
 use Rattle.pm_history.specs.Remembers.{names_of, live_names, Lacks, StandsFor, StandFor, Remembers}
 use Rattle.pm_history.specs.Standing.{IsHistoryOf}
 use Rattle.pm_history.specs.Starts.{is_named, start_of}
@@ -45,6 +46,13 @@ named_late xs ys o h = named-append xs ys o ∙ ap (λ t. is_named xs o || t) h 
     or-true true = refl
     or-true false = refl
 
+pub named_early : (xs ys : List Name) (o : Option Name) → is_named ys o ≡ false → is_named (xs ++ ys) o ≡ is_named xs o
+named_early xs ys o h = named-append xs ys o ∙ ap (λ t. is_named xs o || t) h ∙ or-false (is_named xs o)
+  where
+    or-false : (a : Bool) → (a || false) ≡ a
+    or-false true = refl
+    or-false false = refl
+
 -- a foreign step has no name
 pub named_none : (ns : List Name) → is_named ns None ≡ false
 named_none [] = refl
@@ -74,6 +82,28 @@ pub events-later : (es : List Event) (k : ℕ) (o : Option Name) → is_named (n
 events-later es zero o h = h
 events-later [] (suc k) o h = h
 events-later (e ∷ es) (suc k) o h = named_late e.names (names_of es) o (events-later es k o h)
+
+-- no name has a serial that the table does not have
+pub named_absent : (n : Name) (ns : List Name) → client_of n.serial ns ≡ None → is_named ns (Some n) ≡ false
+named_absent n [] h = refl
+named_absent n (k ∷ ns) h = from (k.serial == n.serial) refl h (named_absent n ns)
+  where
+    from : (t : Bool) → (k.serial == n.serial) ≡ t → if◌then◌else◌ {A = Option ℕ} t (Some k.client) (client_of n.serial ns) ≡ None
+        → (client_of n.serial ns ≡ None → is_named ns (Some n) ≡ false) → (((k.client == n.client) && (k.serial == n.serial)) || is_named ns (Some n)) ≡ false
+    from true e h go = absurd (cc)
+    from false e h go = ap (λ t. ((k.client == n.client) && t) || is_named ns (Some n)) e ∙ and-false (k.client == n.client) (is_named ns (Some n)) ∙ go h
+
+-- a name has the serial and the client that the table has
+pub named_present : (n : Name) (ns : List Name) → client_of n.serial ns ≡ Some n.client → is_named ns (Some n) ≡ true
+named_present n [] h = absurd (cc)
+named_present n (k ∷ ns) h = from (k.serial == n.serial) refl h (named_present n ns)
+  where
+    from : (t : Bool) → (k.serial == n.serial) ≡ t → if◌then◌else◌ {A = Option ℕ} t (Some k.client) (client_of n.serial ns) ≡ Some n.client
+        → (client_of n.serial ns ≡ Some n.client → is_named ns (Some n) ≡ true) → (((k.client == n.client) && (k.serial == n.serial)) || is_named ns (Some n)) ≡ true
+    from true e h go =
+        let c : k.client ≡ n.client = cc in
+        ap (λ t. (t && (k.serial == n.serial)) || is_named ns (Some n)) (eq-eqb k.client n.client c) ∙ ap (λ t. t || is_named ns (Some n)) e
+    from false e h go = ap (λ t. ((k.client == n.client) && t) || is_named ns (Some n)) e ∙ and-false (k.client == n.client) (is_named ns (Some n)) ∙ go h
 
 -- none of the names is this one
 not-each : (ns : List Name) (o : Option Name) → is_named ns o ≡ false → Each (λ n. one_step (Some n) o ≡ false) ns
