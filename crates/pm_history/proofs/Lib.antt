@@ -13,6 +13,7 @@ pub mod TiedLaws
 pub mod Leading
 pub mod Smalls
 pub mod Tables
+pub mod Restorers
 pub mod Starts
 pub mod Events
 pub mod Passes

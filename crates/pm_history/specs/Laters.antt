@@ -1,5 +1,5 @@
 -- The items behind a step, and how positions go over their maps.
-use Rattle.std.specs.Prelude.{◌≡◌, ℕ, zero, suc, List, [], ◌∷◌, ◌++◌, Option, Some, None}
+use Rattle.std.specs.Prelude.{◌≡◌, false, ℕ, zero, suc, List, [], ◌∷◌, ◌++◌, Option, Some, None}
 use Rattle.std.specs.List.{AllByRecursion as Each}
 use Rattle.pm_map.specs.declared.mapping.Mirrored.{Mirrored}
 use Rattle.pm_map.specs.Fits.{FitBetween}
@@ -7,6 +7,7 @@ use Rattle.pm_map.specs.Through.{ArePaired}
 use Rattle.pm_history.specs.declared.item.Item.{Item}
 use Rattle.pm_history.specs.declared.later.Later.{Later}
 use Rattle.pm_history.specs.declared.undoers.Undoers.{Undoers}
+use Rattle.pm_history.specs.Items.{brings_back}
 use Rattle.pm_history.specs.Pairs.{later_in, paired}
 use Rattle.pm_history.specs.Undoers.{IsTableOf}
 
@@ -21,10 +22,20 @@ module _ {C : Type 0} where
   entry_at (i ∷ is) zero = record { map = i.map; later = later_in i.name i.map is }
   entry_at (i ∷ is) (suc k) = entry_at is k
 
-  -- the table of these items; where there is none, none of them undoes a step
+  -- the table of these items; where there is none, none of them brings tokens back
   abbrev pub IsTold : Option Undoers → List (Item C) → Type 0
-  IsTold None is = Each (λ i. i.undoes ≡ None) is
+  IsTold None is = Each (λ i. brings_back i ≡ false) is
   IsTold (Some u) is = IsTableOf u is
+
+  -- the same where it tells of each item; where there is none, none of them undoes a step
+  abbrev pub TellsAll : Option Undoers → List (Item C) → Type 0
+  TellsAll None is = Each (λ i. i.undoes ≡ None) is
+  TellsAll (Some u) is = IsTableOf u is
+
+  -- the same where it tells of the item at this place; where there is none, that item has no mirror
+  abbrev pub TellsOf : Option Undoers → List (Item C) → ℕ → Type 0
+  TellsOf None is k = (entry_at is k).later ≡ None
+  TellsOf (Some u) is k = IsTableOf u is
 
   -- The items stand for the mapping of their maps, between sizes that it fits.
   pub record Leads (l : Later C) (ms : List Mirrored) (n k : ℕ) : Type 0 where

@@ -1,11 +1,15 @@
 //! A step of the timeline, as a history keeps it.
-ghost use Rattle.std.specs.Prelude.{◌≡◌, [], ◌∷◌, None, Some, IfOk, IfSome};
-ghost use Rattle.pm_history.specs.Items.{one_step, foreign_item};
+ghost use Rattle.std.specs.Prelude.{◌≡◌, ◌<◌, ◌^◌, [], ◌∷◌, None, Some, IfOk, IfSome};
+ghost use Rattle.pm_map.specs.declared.side.Side.{Side};
+ghost use Rattle.pm_map.specs.Moves.{moved, kept_at};
+ghost use Rattle.pm_map.specs.Through.{IsIn};
+ghost use Rattle.pm_history.specs.Items.{one_step, foreign_item, brings_back};
 ghost use Rattle.pm_history.specs.Forms.{seen};
 
+use crate::ranges::{passed_by, puts_in, shifted};
 use pm_change::Name;
 use pm_list::Listed;
-use pm_map::{Span, StepMap};
+use pm_map::{Moved, Side, Span, StepMap};
 use std::alloc::{AllocError, Global};
 use std::marker::Model;
 
@@ -118,6 +122,40 @@ impl<C> Item<C> {
         }
     }
 
+    /// Where the position `pos`, in tokens, goes over the map of the step, as `StepMap::map` says it.
+    pub(crate) fn moved(&self, pos: u64, side: Side) -> Moved
+        requires { (moved self.now.map pos side).pos < 2 ^ 64 }
+        ensures moved { result ≡ moved self.now.map pos side }
+        ensures back { IfSome result.recover (IsIn self.now.map) }
+    {
+        match self.passed(pos) {
+            Some(pos) => Moved {
+                pos,
+                deleted: false,
+                across: false,
+                after: false,
+                recover: None,
+            },
+            None => self.map().map(pos, side),
+        }
+    }
+
+    /// Where a position goes that stands before or behind all ranges of the step, as most do. None where this is not seen at once.
+    fn passed(&self, pos: u64) -> Option<u64>
+        requires { ((side : Side) × ((moved self.now.map pos side).pos < 2 ^ 64)) }
+        ensures { IfSome result (λ p. (side : Side) → moved self.now.map pos side ≡ kept_at p) }
+    {
+        match &self.form {
+            Form::Still => Some(pos),
+            Form::Ranged {
+                start,
+                old_size,
+                new_size,
+            } => shifted(span_of(*start, *old_size, *new_size), pos),
+            Form::Whole(whole) => passed_by(&whole.map, pos),
+        }
+    }
+
     /// The changes that undo the step, to be made one after another right behind it. A foreign step has none.
     pub fn inverse(&self) -> &[C]
         ensures { result.now ≡ self.now.inverse }
@@ -135,6 +173,16 @@ impl<C> Item<C> {
         match &self.form {
             Form::Whole(whole) => whole.undoes,
             _ => None,
+        }
+    }
+
+    /// Whether the step was made to undo another and puts tokens in.
+    pub(crate) fn brings_back(&self) -> bool
+        ensures { result ≡ brings_back self.now }
+    {
+        match &self.form {
+            Form::Whole(whole) => whole.undoes.is_some() && puts_in(&whole.map),
+            _ => false,
         }
     }
 
@@ -193,12 +241,18 @@ fn narrow<C>(span: Span) -> Option<Form<C>>
 fn ranged(start: u32, old_size: u32, new_size: u32) -> StepMap
     ensures { result ≡ record { start = start; old_size = old_size; new_size = new_size } ∷ [] }
 {
-    let span = Span {
+    StepMap::new(Some(span_of(start, old_size, new_size)), None, false)
+}
+
+/// A range with small numbers.
+fn span_of(start: u32, old_size: u32, new_size: u32) -> Span
+    ensures { result ≡ record { start = start; old_size = old_size; new_size = new_size } }
+{
+    Span {
         start: start as u64,
         old_size: old_size as u64,
         new_size: new_size as u64,
-    };
-    StepMap::new(Some(span), None, false)
+    }
 }
 
 /// Whether these are names of one step.

@@ -5,8 +5,8 @@ ghost use Rattle.pm_map.specs.Moves.{moved, is_before, kept_at};
 ghost use Rattle.pm_map.specs.Mirrors.{may_mirror};
 ghost use Rattle.pm_map.specs.Through.{HasRoom, IsIn, joined, stepped, skipped, through};
 ghost use Rattle.pm_history.specs.declared.item.Item.{Item};
-ghost use Rattle.pm_history.specs.Items.{one_step};
-ghost use Rattle.pm_history.specs.Laters.{items_of, entry_at, IsTold};
+ghost use Rattle.pm_history.specs.Items.{one_step, brings_back};
+ghost use Rattle.pm_history.specs.Laters.{items_of, entry_at, IsTold, TellsAll, TellsOf};
 ghost use Rattle.pm_history.specs.Pairs.{later_in, paired};
 ghost use Rattle.pm_history.specs.Undoers.{IsTableOf};
 
@@ -17,7 +17,7 @@ use pm_map::{Mirrored, Moved, Positions, Recover, Side};
 use std::alloc::{AllocError, Global};
 
 /// The items behind a step, lent: `items` of the timeline and, behind them, those that an undo has `made`. `undoers`: the table
-/// of those that undo steps; None where none does. It stands for the mapping of their maps, and copies none of them.
+/// of those that undo steps; None where it is not needed. It stands for the mapping of their maps, and copies none of them.
 #[derive(Drop)]
 pub struct Later<'a, C> {
     pub items: &'a [Item<C>],
@@ -33,7 +33,8 @@ pub struct After {
 }
 
 impl<'a, C> Later<'a, C> {
-    /// These items, in order. It takes memory only where one of them undoes a step.
+    /// These items, in order, to tell positions. Only a deleted position asks for a mirror, and that puts in what was taken out. So
+    /// it takes memory only where one of them undoes a step and puts tokens in.
     pub fn of(
         alloc: Global,
         items: &'a [Item<C>],
@@ -41,6 +42,22 @@ impl<'a, C> Later<'a, C> {
     ) -> Result<Later<'a, C>, AllocError>
         ensures items { IfOk result (λ l. items_of l ≡ items.now ++ made.now) }
         ensures told { IfOk result (λ l. IsTold l.undoers (items_of l)) }
+    {
+        Ok(Later {
+            items,
+            made,
+            undoers: restorers_of(alloc, items, made)?,
+        })
+    }
+
+    /// These items, in order, to tell all mirrors. It takes memory only where one of them undoes a step.
+    pub fn whole(
+        alloc: Global,
+        items: &'a [Item<C>],
+        made: &'a [Item<C>],
+    ) -> Result<Later<'a, C>, AllocError>
+        ensures items { IfOk result (λ l. items_of l ≡ items.now ++ made.now) }
+        ensures told { IfOk result (λ l. TellsAll l.undoers (items_of l)) }
     {
         Ok(Later {
             items,
@@ -71,7 +88,7 @@ impl<'a, C> Later<'a, C> {
     /// The number of items between item number `i` and its mirror.
     fn mirror_of(&self, i: usize) -> Option<usize>
         requires within { i < length (items_of self.now) }
-        requires told { IsTold self.now.undoers (items_of self.now) }
+        requires told { TellsOf self.now.undoers (items_of self.now) i }
         ensures { result ≡ (entry_at (items_of self.now) i).later }
     {
         let item = self.at(i);
@@ -141,7 +158,7 @@ impl<'a, C> Later<'a, C> {
         ensures skip { let e = entry_at (items_of self.now) i in let m = moved e.map so.pos side in result.skip ≡ skipped e.later m.recover }
         ensures end { i + 1 + result.skip ≤ length (items_of self.now) }
     {
-        let m = self.at(i).map().map(so.pos, side);
+        let m = self.at(i).moved(so.pos, side);
         match m.recover {
             Some(r) => self.recovered(i, so, m, r),
             None => After {
@@ -155,7 +172,7 @@ impl<'a, C> Later<'a, C> {
     /// the mirror's result, where it has one.
     fn recovered(&self, i: usize, so: Moved, m: Moved, r: Recover) -> After
         requires within { i < length (items_of self.now) }
-        requires told { IsTold self.now.undoers (items_of self.now) }
+        requires told { TellsOf self.now.undoers (items_of self.now) i }
         requires back { IsIn (entry_at (items_of self.now) i).map r }
         ensures state { let e = entry_at (items_of self.now) i in result.so ≡ stepped so m e.later (Some r) (paired (drop (i + 1) (items_of self.now))) }
         ensures skip { let e = entry_at (items_of self.now) i in result.skip ≡ skipped e.later (Some r) }
@@ -181,7 +198,7 @@ impl<'a, C> Later<'a, C> {
 
     /// The maps of the items, each with its mirror.
     pub fn entries(&self, alloc: Global) -> Result<Vec<Mirrored>, AllocError>
-        requires { IsTold self.now.undoers (items_of self.now) }
+        requires { TellsAll self.now.undoers (items_of self.now) }
         ensures { IfOk result (λ v. v.items ≡ paired (items_of self.now)) }
     {
         let count = self.len();
@@ -211,13 +228,42 @@ impl<'a, C> Positions for Later<'a, C> {
     ghost fits = { λ l ms n k h. (h.paired_are, h.fits) };
 }
 
+/// The table of these items, where one of them brings tokens back.
+fn restorers_of<C>(
+    alloc: Global,
+    items: &[Item<C>],
+    made: &[Item<C>],
+) -> Result<Option<Undoers>, AllocError>
+    ensures { IfOk result (λ o. IsTold o (items.now ++ made.now)) }
+{
+    if none_brings_back(made) && none_brings_back(items) {
+        return Ok(None);
+    }
+    Ok(Some(Undoers::of(alloc, items, made)?))
+}
+
+/// Whether none of these items brings tokens back. The last one is looked at first, since undos come last.
+fn none_brings_back<C>(items: &[Item<C>]) -> bool
+    ensures all { result ≡ true → Each (λ i. brings_back i ≡ false) items.now }
+    ensures some { result ≡ false → 0 < length items.now }
+{
+    let mut i = items.len();
+    while i > 0 {
+        i -= 1;
+        if items[i].brings_back() {
+            return false;
+        }
+    }
+    true
+}
+
 /// The table of these items, where one of them undoes a step.
 fn undoers_of<C>(
     alloc: Global,
     items: &[Item<C>],
     made: &[Item<C>],
 ) -> Result<Option<Undoers>, AllocError>
-    ensures { IfOk result (λ o. IsTold o (items.now ++ made.now)) }
+    ensures { IfOk result (λ o. TellsAll o (items.now ++ made.now)) }
 {
     if none_undoes(items) && none_undoes(made) {
         return Ok(None);

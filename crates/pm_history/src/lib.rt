@@ -13,6 +13,7 @@ mod later;
 mod latest;
 pub mod laws;
 mod live;
+mod ranges;
 mod tied;
 mod trimming;
 mod turn;

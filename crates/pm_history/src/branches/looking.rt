@@ -96,6 +96,6 @@ fn mapping_behind<C>(alloc: Global, items: &[Item<C>], k: usize) -> Result<Mappi
     requires { k < length items.now }
     ensures { IfOk result (λ ms. ms ≡ paired (drop (k + 1) items.now)) }
 {
-    let later = Later::of(alloc, &items[k + 1..], &items[items.len()..])?;
+    let later = Later::whole(alloc, &items[k + 1..], &items[items.len()..])?;
     Ok(Mapping::from_entries(later.entries(alloc)?))
 }

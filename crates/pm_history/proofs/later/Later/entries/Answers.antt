@@ -4,7 +4,11 @@ use Rattle.pm_map.specs.declared.mapping.Mirrored.{Mirrored}
 use Rattle.pm_history.specs.Laters.{items_of, entry_at}
 use Rattle.pm_history.specs.Pairs.{paired}
 use Rattle.pm_history.proofs.Leading.{entry-is, entry-there, paired-length}
+use Rattle.pm_history.proofs.Restorers.{tells-each}
 use Rattle.pm_history.proofs.later.Later.entries.Goals as goal
+
+pub mirror_of-requires-clause-told : goal.mirror_of-requires-clause-told
+mirror_of-requires-clause-told g c = tells-each c.args.self.now.undoers (items_of c.args.self.now) c.loop-i.i c.requires
 
 pub loop-i-preserved : goal.loop-i-preserved
 loop-i-preserved g c =

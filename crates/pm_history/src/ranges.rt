@@ -1,0 +1,53 @@
+//! What is seen at once of the ranges of a map.
+ghost use Rattle.std.specs.Prelude.{◌≡◌, ◌<◌, ◌+◌, ◌^◌, [], ◌∷◌, IfSome};
+ghost use Rattle.pm_map.specs.declared.side.Side.{Side};
+ghost use Rattle.pm_map.specs.Moves.{moved, kept_at};
+ghost use Rattle.pm_history.specs.Items.{puts_in, is_filled};
+
+use pm_map::{Span, StepMap};
+
+/// Where a position goes that stands before or behind the one range of this map, or over a map without ranges.
+pub fn passed_by(map: &StepMap, pos: u64) -> Option<u64>
+    requires { ((side : Side) × ((moved map.now pos side).pos < 2 ^ 64)) }
+    ensures { IfSome result (λ p. (side : Side) → moved map.now pos side ≡ kept_at p) }
+{
+    map.ordered();
+    match (map.span(0), map.span(1)) {
+        (None, _) => Some(pos),
+        (Some(range), None) => shifted(range, pos),
+        _ => None,
+    }
+}
+
+/// Where a position goes that stands before or behind this range.
+pub fn shifted(range: Span, pos: u64) -> Option<u64>
+    requires end { range.start + range.old_size < 2 ^ 64 }
+    requires room { ((side : Side) × ((moved (range ∷ []) pos side).pos < 2 ^ 64)) }
+    ensures { IfSome result (λ p. (side : Side) → moved (range ∷ []) pos side ≡ kept_at p) }
+{
+    if pos < range.start {
+        return Some(pos);
+    }
+    if range.start + range.old_size < pos {
+        return Some(pos - range.old_size + range.new_size);
+    }
+    None
+}
+
+/// Whether a range of this map puts tokens in.
+pub fn puts_in(map: &StepMap) -> bool
+    ensures { result ≡ puts_in map.now }
+{
+    map.few();
+    is_filled(map.span(0)) || is_filled(map.span(1))
+}
+
+/// Whether this is a range that puts tokens in.
+fn is_filled(span: Option<Span>) -> bool
+    ensures { result ≡ is_filled span }
+{
+    match span {
+        Some(range) => range.new_size != 0,
+        None => false,
+    }
+}
