@@ -34,7 +34,7 @@ impl<C: Change> Client<C> {
     /// event to undo. Then, and for want of memory, the client is as it was, the open event included.
     ///
     /// An undo goes over the maps of the later steps where the history keeps them, and copies none. For each change that it
-    /// carries, where one of these steps was made to undo another, it makes a table of those that were.
+    /// carries, where one of these steps undid another and put tokens in, it makes a table of those that undid one.
     ///
     /// Under the rules that are lent the client must stand to a log. Each call keeps this.
     pub fn undo(&mut self, alloc: Global, rules: &C::Rules) -> Result<u64, UndoError>
@@ -59,7 +59,7 @@ impl<C: Change> Client<C> {
     }
 
     /// Redoes the last event that was undone, as `undo` undoes one, with the events to undo and to redo exchanged. It costs the
-    /// same: the later maps are copied once, and then moved.
+    /// same.
     pub fn redo(&mut self, alloc: Global, rules: &C::Rules) -> Result<u64, UndoError>
         requires { Stands C.means rules.now self.old }
         ensures redone { IfOk result (λ n. redone_last C.means rules.now self.old ≡ Some (n, self.new)) }
@@ -83,7 +83,7 @@ impl<C: Change> Client<C> {
 
     /// Undoes the last event to undo that has this number, wherever it stands among the events to undo, as `undo` undoes the
     /// last one. The others stay. `NothingToUndo` comes exactly where no event to undo has the number. It costs what an undo
-    /// does: the maps of the steps from the event's first one on are copied once, and then moved.
+    /// does: it goes over the maps of the steps from the event's first one on.
     pub fn undo_event(
         &mut self,
         alloc: Global,
