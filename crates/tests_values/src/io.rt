@@ -65,21 +65,22 @@ fn passes<G: Gate + Sync>(gate: &G) {
     gate.before(1, 7);
 }
 
-/// How many bytes are read of a source with so many, whose call of this number fails.
+/// How many bytes are read of a source with so many, whose call of this number fails, and whether they are read of one that
+/// never fails.
 fn bytes_read(
     alloc: Global,
     size: usize,
     limit: usize,
     fail: u64,
-) -> Result<Result<usize, ReadError>, AllocError> {
-    let mut source = MemSource::new(vec![in alloc; b'x'; size]?, vec![in alloc; fail; 1]?);
-    Ok(read_all(alloc, &mut source, limit).map(|bytes| bytes.len()))
-}
-
-/// Whether so many bytes are read of a source that never fails.
-fn is_read(alloc: Global, size: usize, limit: usize) -> Result<bool, AllocError> {
-    let mut source = SureSource::new(vec![in alloc; b'x'; size]?);
-    Ok(read_all(alloc, &mut source, limit).is_ok())
+) -> Result<(Result<usize, ReadError>, bool), AllocError> {
+    let bytes = vec![in alloc; b'x'; size]?;
+    let mut source = MemSource::new(bytes.clone()?, vec![in alloc; fail; 1]?);
+    let mut sure = SureSource::new(bytes);
+    let found = match read_all(alloc, &mut source, limit) {
+        Ok(bytes) => Ok(bytes.len()),
+        Err(error) => Err(error),
+    };
+    Ok((found, read_all(alloc, &mut sure, limit).is_ok()))
 }
 
 /// How many bytes there are and how many are read at most, the call that fails, and what is found.
@@ -101,21 +102,25 @@ fn an_input_is_read_whole_or_is_too_long_or_fails(rt: HostRuntime) -> Result<(),
     let alloc = rt.alloc();
     for (size, limit, fail, want) in &READS {
         let found = bytes_read(alloc, *size, *limit, *fail)?;
-        assert!(rt; found == *want, "{size} {limit} {fail}");
-        let sure = is_read(alloc, *size, *limit)?;
-        assert!(rt; sure == (size <= limit), "{size} {limit}");
+        assert!(rt; found == (*want, size <= limit), "{size} {limit} {fail}");
     }
     Ok(())
 }
 
+/// What two reads of a source give whose second call fails, and the bytes behind.
+fn read_on(alloc: Global) -> Result<(Got, Got, Vec<u8>), ReadError> {
+    let bytes = Vec::from_slice(alloc, b"abc")?;
+    let mut source = MemSource::new(bytes, vec![in alloc; 2u64; 1]?);
+    let mut piece = [0u8; 2];
+    let first = source.read(&mut piece);
+    let second = source.read(&mut piece);
+    Ok((first, second, read_all(alloc, &mut source, 9)?))
+}
+
 #[test]
 fn a_source_goes_on_behind_a_fault(rt: HostRuntime) -> Result<(), Fail> {
-    let alloc = rt.alloc();
-    let mut source = MemSource::new(Vec::from_slice(alloc, b"abc")?, vec![in alloc; 2u64; 1]?);
-    let mut piece = [0u8; 2];
-    assert!(rt; source.read(&mut piece) == Got::Bytes(2));
-    assert!(rt; source.read(&mut piece) == Got::Failed);
-    let rest = read_all(alloc, &mut source, 9)?;
+    let (first, second, rest) = read_on(rt.alloc())?;
+    assert!(rt; first == Got::Bytes(2) && second == Got::Failed);
     assert!(rt; rest.as_slice() == b"c".as_slice());
     Ok(())
 }

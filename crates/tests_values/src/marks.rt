@@ -42,42 +42,51 @@ const UP: usize = 5;
 
 const DOWN: usize = 6;
 
+/// Which types each type excludes.
+const EXCLUDES: [[bool; 7]; 7] = [
+    [true, false, false, false, false, false, false],
+    [false, true, false, false, false, false, false],
+    [false, false, true, false, false, false, false],
+    [true, true, true, true, true, true, true],
+    [false, false, false, false, false, false, false],
+    [false, false, false, false, false, true, true],
+    [false, false, false, false, false, true, true],
+];
+
 fn rules(alloc: Global) -> Result<MarkRules, AllocError> {
-    let table = [
-        [true, false, false, false, false, false, false],
-        [false, true, false, false, false, false, false],
-        [false, false, true, false, false, false, false],
-        [true, true, true, true, true, true, true],
-        [false, false, false, false, false, false, false],
-        [false, false, false, false, false, true, true],
-        [false, false, false, false, false, true, true],
-    ];
     let mut rows = Vec::new(alloc);
-    for row in &table {
+    for row in &EXCLUDES {
         rows.push(row.to_vec(alloc)?)?;
     }
     Ok(MarkRules::new(rows))
 }
 
+fn mark(kind: usize, value: u32) -> Mark<Number> {
+    Mark {
+        kind,
+        attrs: Number { value },
+    }
+}
+
 fn marks(alloc: Global, list: &[(usize, u32)]) -> Result<Vec<Mark<Number>>, AllocError> {
     let mut marks = Vec::new(alloc);
-    for (kind, attrs) in list {
-        marks.push(Mark {
-            kind: *kind,
-            attrs: Number { value: *attrs },
-        })?;
+    for (kind, value) in list {
+        marks.push(mark(*kind, *value))?;
     }
     Ok(marks)
 }
 
 /// Whether the set has these marks, each by its type and its attribute.
 fn is(set: &MarkSet<Number>, list: &[(usize, u32)]) -> bool {
-    set.marks().len() == list.len()
-        && set
-            .marks()
-            .iter()
-            .zip(list.iter())
-            .all(|(m, n)| m.kind == n.0 && m.attrs.value == n.1)
+    if set.marks().len() != list.len() {
+        return false;
+    }
+    for (found, (kind, value)) in set.marks().iter().zip(list.iter()) {
+        if found.kind != *kind || found.attrs.value != *value {
+            return false;
+        }
+    }
+    true
 }
 
 /// Marks of a set: their types and attributes.
@@ -112,17 +121,25 @@ fn set(alloc: Global, rules: &MarkRules, list: Row) -> Result<MarkSet<Number>, S
     MarkSet::from_list(alloc, rules, marks(alloc, list)?)
 }
 
+/// Whether the marks of the set are these when the mark was added.
+fn is_added(
+    alloc: Global,
+    rules: &MarkRules,
+    before: Row,
+    mark: &Mark<Number>,
+    after: Row,
+) -> Result<bool, SetError> {
+    let added = set(alloc, rules, before)?.add(alloc, rules, mark)?;
+    Ok(is(&added, after))
+}
+
 #[test]
 fn a_mark_is_added_by_the_rules(rt: HostRuntime) -> Result<(), Fail> {
     let alloc = rt.alloc();
     let rules = rules(alloc)?.copy(alloc)?;
     for (before, (kind, value), after) in &ADDED {
-        let mark = Mark {
-            kind: *kind,
-            attrs: Number { value: *value },
-        };
-        let found = set(alloc, &rules, *before)?.add(alloc, &rules, &mark)?;
-        assert!(rt; is(&found, *after), "{kind}");
+        let mark = mark(*kind, *value);
+        assert!(rt; is_added(alloc, &rules, *before, &mark, *after)?, "{kind}");
     }
     Ok(())
 }
@@ -145,39 +162,65 @@ const OTHERS: [Row; 7] = [
     &[(UP, 0), (DOWN, 0)],
 ];
 
+/// Whether the list is a set, which has its marks and is the same as its copy. Another error is told.
+fn is_set(alloc: Global, rules: &MarkRules, list: Row) -> Result<bool, SetError> {
+    match set(alloc, rules, list) {
+        Ok(found) => Ok(is(&found, list) && found.same(&found.copy(alloc)?)),
+        Err(SetError::NotASet) => Ok(false),
+        Err(error) => Err(error),
+    }
+}
+
 #[test]
 fn a_list_is_a_set_or_not(rt: HostRuntime) -> Result<(), Fail> {
     let alloc = rt.alloc();
     let rules = rules(alloc)?;
     for list in &SETS {
-        let found = set(alloc, &rules, *list)?;
-        assert!(rt; is(&found, *list) && found.same(&found.copy(alloc)?));
+        assert!(rt; is_set(alloc, &rules, *list)?);
     }
     for list in &OTHERS {
-        let fault = set(alloc, &rules, *list).err();
-        assert!(rt; fault == Some(SetError::NotASet));
+        assert!(rt; !is_set(alloc, &rules, *list)?);
     }
     Ok(())
+}
+
+/// Whether the set of the link alone has it, and neither it nor the empty set is taken for what it is not.
+fn is_link(
+    set: &MarkSet<Number>,
+    empty: &MarkSet<Number>,
+    link: &Mark<Number>,
+    other: &Mark<Number>,
+) -> bool {
+    set.has(link) && !set.has(other) && !empty.has(link) && !link.same(other) && !set.same(empty)
+}
+
+/// Whether the set has these marks when the mark is taken out.
+fn leaves(
+    alloc: Global,
+    set: &MarkSet<Number>,
+    mark: &Mark<Number>,
+    left: Row,
+) -> Result<bool, AllocError> {
+    let rest = set.remove(alloc, &mark.copy(alloc)?)?;
+    Ok(is(&rest, left))
 }
 
 #[test]
 fn a_mark_is_found_and_taken_out_by_type_and_attributes(rt: HostRuntime) -> Result<(), Fail> {
     let alloc = rt.alloc();
-    let rules = rules(alloc)?;
-    let empty: MarkSet<Number> = MarkSet::empty(alloc);
-    let link = Mark {
-        kind: LINK,
-        attrs: Number { value: 1 },
-    };
-    let other = Mark {
-        kind: LINK,
-        attrs: Number { value: 2 },
-    };
-    let set = empty.add(alloc, &rules, &link)?;
-    assert!(rt; set.has(&link) && !set.has(&other) && !empty.has(&link));
-    assert!(rt; is(&set.remove(alloc, &other)?, &[(LINK, 1)]));
-    assert!(rt; is(&set.remove(alloc, &link.copy(alloc)?)?, &[]));
-    assert!(rt; !link.same(&other) && !set.same(&empty));
+    let link = mark(LINK, 1);
+    let other = mark(LINK, 2);
+    let empty = MarkSet::empty(alloc);
+    let set = empty.add(alloc, &rules(alloc)?, &link)?;
+    assert!(rt; is_link(&set, &empty, &link, &other));
+    assert!(rt; leaves(alloc, &set, &other, &[(LINK, 1)])?);
+    assert!(rt; leaves(alloc, &set, &link, &[])?);
+    Ok(())
+}
+
+#[test]
+fn code_excludes_others_one_way(rt: HostRuntime) -> Result<(), Fail> {
+    let rules = rules(rt.alloc())?;
     assert!(rt; rules.excludes(CODE, EM) && !rules.excludes(EM, CODE) && !rules.excludes(9, EM));
     Ok(())
 }
