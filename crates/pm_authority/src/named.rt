@@ -31,7 +31,7 @@ pub fn copy_steps<C: Change>(
 ) -> Result<Listed<Named<C>>, AllocError>
     ensures { IfOk result (λ l. l ≡ steps.now) }
 {
-    let mut copies = Listed::new(alloc);
+    let mut copies = Listed::from_vec(Vec::with_capacity(alloc, steps.len())?);
     for step in steps {
         copies.push(step.copy(alloc)?)?;
     }
