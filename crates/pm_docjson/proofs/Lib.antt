@@ -1,4 +1,3 @@
-pub mod FoundLaws
 pub mod TypeLaws
 pub mod TreeLaws
 pub mod Pairs

@@ -1,6 +1,5 @@
 pub mod Answers
 pub mod Fields
-pub mod Found
 pub mod Values
 pub mod Reading
 pub mod Trees

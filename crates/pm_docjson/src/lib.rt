@@ -5,7 +5,6 @@ mod fault;
 mod fields;
 pub mod laws;
 mod leaves;
-mod members;
 mod reading_attrs;
 mod reading_marks;
 mod reading_nodes;

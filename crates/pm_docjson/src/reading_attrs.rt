@@ -1,5 +1,5 @@
 //! JSON values as attributes.
-ghost use Rattle.std.specs.Prelude.{◌≡◌, ◌++◌, ◌∷◌, [], codes, option_map, OnOk};
+ghost use Rattle.std.specs.Prelude.{◌≡◌, ◌++◌, ◌∷◌, [], codes, OnOk};
 ghost use Rattle.serde_json.specs.View.{view, members_view};
 ghost use Rattle.pm_list.specs.Readings.{or_fault};
 ghost use Rattle.pm_value.specs.Views.{plain};
@@ -31,23 +31,7 @@ pub fn read_attrs(
     requires { IsType schema.now.spec kind }
     ensures { Gives (λ a. a) result (attrs_read (attrs_of schema.now.spec kind) (field (codes "attrs") (view json.now))) }
 {
-    attrs_of(alloc, schema, kind, json, field(json, "attrs"))
-}
-
-/// The same, where this is the value of the field.
-#[tactic(auto, unfolding(crate::specs::Reading::attrs_read))]
-pub(crate) fn attrs_of(
-    alloc: Global,
-    schema: &Schema,
-    kind: AnyType,
-    json: &Json,
-    value: Option<&Json>,
-) -> Result<Attrs, DocReadError>
-    requires known { IsType schema.now.spec kind }
-    requires value { option_map (λ v. view v.now) value ≡ field (codes "attrs") (view json.now) }
-    ensures { Gives (λ a. a) result (attrs_read (attrs_of schema.now.spec kind) (field (codes "attrs") (view json.now))) }
-{
-    let given = given_at(alloc, json, value)?;
+    let given = given_at(alloc, json)?;
     values_for(alloc, schema, kind, given)
 }
 
@@ -72,16 +56,10 @@ fn values_for(
 
 /// The values that the field `attrs` gives, each under its name.
 #[tactic(auto, unfolding(crate::specs::Reading::given_at))]
-fn given_at(
-    alloc: Global,
-    json: &Json,
-    value: Option<&Json>,
-) -> Result<Vec<(String, Value)>, DocReadError>
-    requires { option_map (λ v. view v.now) value ≡ field (codes "attrs") (view json.now) }
+fn given_at(alloc: Global, json: &Json) -> Result<Vec<(String, Value)>, DocReadError>
     ensures { Gives (λ v. pairs_of v.items) result (given_at (field (codes "attrs") (view json.now))) }
 {
-    let _ = json;
-    match value {
+    match field(json, "attrs") {
         None => Ok(Vec::new(alloc)),
         Some(value) => match value.as_object() {
             Some(members) => given_in(alloc, members),

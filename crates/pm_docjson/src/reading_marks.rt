@@ -1,12 +1,12 @@
 //! JSON values as marks.
-ghost use Rattle.std.specs.Prelude.{◌≡◌, codes, option_map};
+ghost use Rattle.std.specs.Prelude.{codes};
 ghost use Rattle.serde_json.specs.View.{view, items_view};
 ghost use Rattle.pm_docjson.specs.Answers.{Gives};
 ghost use Rattle.pm_docjson.specs.Fields.{field};
 ghost use Rattle.pm_docjson.specs.Reading.{mark_of, mark_list, marks_of, as_set};
 
 use crate::fault::DocReadError;
-use crate::fields::text_at;
+use crate::fields::{field, text_at};
 use crate::reading_attrs::read_attrs;
 use pm_attrs::Attrs;
 use pm_marks::{Mark, MarkSet, SetError};
@@ -42,19 +42,12 @@ fn mark_list(
     Ok(marks)
 }
 
-/// The marks that this value of the field `marks` gives, which are to be a set.
+/// The marks that the field `marks` gives, which are to be a set.
 #[tactic(auto, unfolding(crate::specs::Reading::marks_of))]
-pub(crate) fn marks_of(
-    alloc: Global,
-    schema: &Schema,
-    json: &Json,
-    value: Option<&Json>,
-) -> Result<MarkSet<Attrs>, DocReadError>
-    requires { option_map (λ v. view v.now) value ≡ field (codes "marks") (view json.now) }
+pub fn marks_of(alloc: Global, schema: &Schema, json: &Json) -> Result<MarkSet<Attrs>, DocReadError>
     ensures { Gives (λ s. s) result (marks_of schema.now.spec (field (codes "marks") (view json.now))) }
 {
-    let _ = json;
-    match value {
+    match field(json, "marks") {
         None => Ok(MarkSet::empty(alloc)),
         Some(value) => match value.as_array() {
             Some(items) => {

@@ -5,13 +5,12 @@ ghost use Rattle.pm_node.specs.Trees.{nodes_tokens};
 ghost use Rattle.pm_docjson.specs.Answers.{Gives};
 ghost use Rattle.pm_docjson.specs.declared.leaves.LeafContent.TheVariants.{Kept};
 ghost use Rattle.pm_docjson.specs.Fields.{field};
-ghost use Rattle.pm_docjson.specs.Found.{AreMembersOf};
 ghost use Rattle.pm_docjson.specs.Reading.{text_from, branch_from, body_of, bounded, no_nodes, none_at, content_for, node_of, node_list, nodes_of, content_at};
 
 use crate::fault::DocReadError;
+use crate::fields::{field, text_at};
 use crate::leaves::LeafContent;
-use crate::members::{NodeMembers, attrs_in, content_in, marks_in, members_of, text_in, type_in};
-use crate::reading_attrs::attrs_of;
+use crate::reading_attrs::read_attrs;
 use crate::reading_marks::marks_of;
 use crate::types::{is_leaf, text_type};
 use pm_auto::TypeId;
@@ -71,40 +70,27 @@ fn node_of(
 ) -> Result<Node, DocReadError>
     ensures { Gives (λ n. n) result (node_of schema.now.spec leaves (view json.now)) }
 {
-    let members = members_of(json);
-    let name = type_in(json, &members)?;
+    let name = text_at(json, "type")?;
     let kind = schema.node_named(name).ok_or(DocReadError::UnknownType)?;
     if kind == text_type(schema) {
-        text_from(alloc, schema, json, &members)
+        text_from(alloc, schema, json)
     } else {
-        branch_from(alloc, schema, leaves, kind, json, &members)
+        branch_from(alloc, schema, leaves, kind, json)
     }
 }
 
 /// A text, whose content is not read.
 #[tactic(auto, unfolding(crate::specs::Reading::text_from))]
-fn text_from(
-    alloc: Global,
-    schema: &Schema,
-    json: &Json,
-    members: &NodeMembers<'_>,
-) -> Result<Node, DocReadError>
-    requires { AreMembersOf (view json.now) members.now }
+fn text_from(alloc: Global, schema: &Schema, json: &Json) -> Result<Node, DocReadError>
     ensures { Gives (λ n. n) result (text_from schema.now.spec (view json.now)) }
 {
-    let text = text_in(json, members)?;
+    let text = text_at(json, "text")?;
     if text.is_empty() {
         return Err(DocReadError::EmptyText);
     }
     let kind = text_type(schema);
-    let attrs = attrs_of(
-        alloc,
-        schema,
-        AnyType::Node(kind),
-        json,
-        attrs_in(json, members),
-    )?;
-    let marks = marks_of(alloc, schema, json, marks_in(json, members))?;
+    let attrs = read_attrs(alloc, schema, AnyType::Node(kind), json)?;
+    let marks = marks_of(alloc, schema, json)?;
     let units = units_of(alloc, text)?;
     let body = Body::Text(Units::new(units));
     Ok(Node {
@@ -124,23 +110,15 @@ fn branch_from(
     leaves: LeafContent,
     kind: TypeId,
     json: &Json,
-    members: &NodeMembers<'_>,
 ) -> Result<Node, DocReadError>
-    requires known { kind < length schema.now.spec.nodes }
-    requires members { AreMembersOf (view json.now) members.now }
+    requires { kind < length schema.now.spec.nodes }
     ensures { Gives (λ n. n) result (branch_from schema.now.spec kind (view json.now)
         (content_for schema.now.spec leaves kind (field (codes "content") (view json.now))
         (content_at schema.now.spec leaves (field (codes "content") (view json.now))))) }
 {
-    let attrs = attrs_of(
-        alloc,
-        schema,
-        AnyType::Node(kind),
-        json,
-        attrs_in(json, members),
-    )?;
-    let marks = marks_of(alloc, schema, json, marks_in(json, members))?;
-    let content = content_for(alloc, schema, leaves, kind, json, members)?;
+    let attrs = read_attrs(alloc, schema, AnyType::Node(kind), json)?;
+    let marks = marks_of(alloc, schema, json)?;
+    let content = content_for(alloc, schema, leaves, kind, json)?;
     let body = body_of(schema, kind, content);
     Ok(Node {
         kind,
@@ -158,26 +136,23 @@ fn content_for(
     leaves: LeafContent,
     kind: TypeId,
     json: &Json,
-    members: &NodeMembers<'_>,
 ) -> Result<Fragment, DocReadError>
-    requires known { kind < length schema.now.spec.nodes }
-    requires members { AreMembersOf (view json.now) members.now }
+    requires { kind < length schema.now.spec.nodes }
     ensures { Gives (λ f. f) result (content_for schema.now.spec leaves kind (field (codes "content") (view json.now))
         (content_at schema.now.spec leaves (field (codes "content") (view json.now)))) }
 {
     if leaves.refuses() && is_leaf(schema, kind) {
-        none_at(alloc, json, members)
+        none_at(alloc, json)
     } else {
-        content_of(alloc, schema, leaves, json, members)
+        content_of(alloc, schema, leaves, json)
     }
 }
 
 /// No nodes, where the field `content` gives none.
-fn none_at(alloc: Global, json: &Json, members: &NodeMembers<'_>) -> Result<Fragment, DocReadError>
-    requires { AreMembersOf (view json.now) members.now }
+fn none_at(alloc: Global, json: &Json) -> Result<Fragment, DocReadError>
     ensures { Gives (λ f. f) result (none_at (field (codes "content") (view json.now))) }
 {
-    let Some(value) = content_in(json, members) else {
+    let Some(value) = field(json, "content") else {
         return Ok(Fragment::new(alloc));
     };
     match value.as_array() {
@@ -221,12 +196,10 @@ fn content_of(
     schema: &Schema,
     leaves: LeafContent,
     json: &Json,
-    members: &NodeMembers<'_>,
 ) -> Result<Fragment, DocReadError>
-    requires { AreMembersOf (view json.now) members.now }
     ensures { Gives (λ f. f) result (content_at schema.now.spec leaves (field (codes "content") (view json.now))) }
 {
-    match content_in(json, members) {
+    match field(json, "content") {
         None => Ok(Fragment::new(alloc)),
         Some(value) => match value.as_array() {
             Some(items) => {
