@@ -7,35 +7,30 @@ use Rattle.std.proofs.Common.{zero, suc, refl, ap, sym, ◌∙◌, subst, arith,
 use Rattle.std.proofs.lemmas.List.{nil_from_length, take_all, take_more}
 use Rattle.pm_sized.specs.declared.chunk.Chunk.{Chunk}
 use Rattle.pm_sized.specs.declared.many.Many.{Many}
-use Rattle.pm_sized.specs.Pairs.{chunk_pairs, all_pairs, many_pairs, total_of, IsChunk, AreFull, AreChunks, IsMany}
+use Rattle.pm_sized.specs.Pairs.{chunk_pairs, all_pairs, many_pairs, arc_values, total_of, IsChunk, AreFull, AreChunks, IsMany}
 use Rattle.pm_sized.proofs.PairLaws.{chunk-at, chunk-split, count-chunks, total_of-append}
-
--- what is shared
-abbrev pub shared : {T : Type 0} → List (Arc (Chunk T) Global) → List (Chunk T)
-shared [] = []
-shared (c ∷ cs) = arc_value c ∷ shared cs
 
 -- chunks that share what the first i of others do
 pub record Copied {T : Type 0} (made : Many T) (all : List (Arc (Chunk T) Global)) (i : ℕ) : Type 0 where
   pub laid : IsMany made
-  pub same : shared made.chunks.items ≡ shared (take i all)
+  pub same : arc_values made.chunks.items ≡ arc_values (take i all)
 
 module _ {T : Type 0} where
-  pairs-shared : (cs ds : List (Arc (Chunk T) Global)) → shared cs ≡ shared ds → all_pairs cs ≡ all_pairs ds
+  pub pairs-shared : (cs ds : List (Arc (Chunk T) Global)) → arc_values cs ≡ arc_values ds → all_pairs cs ≡ all_pairs ds
   pairs-shared [] [] e = refl
   pairs-shared [] (d ∷ ds) e = absurd (omega (arith, ap length e))
   pairs-shared (c ∷ cs) [] e = absurd (omega (arith, ap length e))
   pairs-shared (c ∷ cs) (d ∷ ds) e =
       let k : arc_value c ≡ arc_value d = cc in
-      let r : shared cs ≡ shared ds = cc in
+      let r : arc_values cs ≡ arc_values ds = cc in
       ap (λ z. chunk_pairs z ++ all_pairs cs) k ∙ ap (λ z. chunk_pairs (arc_value d) ++ z) (pairs-shared cs ds r)
 
-  full-shared : (cs ds : List (Arc (Chunk T) Global)) → shared cs ≡ shared ds → AreFull ds → AreFull cs
+  pub full-shared : (cs ds : List (Arc (Chunk T) Global)) → arc_values cs ≡ arc_values ds → AreFull ds → AreFull cs
   full-shared [] ds e h = tt
   full-shared (c ∷ cs) [] e h = absurd (omega (arith, ap length e))
   full-shared (c ∷ cs) (d ∷ ds) e h =
       let k : arc_value c ≡ arc_value d = cc in
-      let r : shared cs ≡ shared ds = cc in
+      let r : arc_values cs ≡ arc_values ds = cc in
       (omega (arith, h.0, ap (λ z. length z.items.items) k), full-shared cs ds r h.1)
 
   full-take : (cs : List (Arc (Chunk T) Global)) (i : ℕ) → AreChunks cs → i < length cs → AreFull (take i cs)
@@ -43,7 +38,7 @@ module _ {T : Type 0} where
   full-take [] (suc i) h l = tt
   full-take (c ∷ cs) (suc i) h l = (h.1 (omega (arith, l)), full-take cs i h.2 (omega (arith, l)))
 
-  shared-push : (cs : List (Arc (Chunk T) Global)) (c : Arc (Chunk T) Global) → shared (cs ++ c ∷ []) ≡ shared cs ++ arc_value c ∷ []
+  shared-push : (cs : List (Arc (Chunk T) Global)) (c : Arc (Chunk T) Global) → arc_values (cs ++ c ∷ []) ≡ arc_values cs ++ arc_value c ∷ []
   shared-push [] c = refl
   shared-push (d ∷ cs) c = ap (λ z. arc_value d ∷ z) (shared-push cs c)
 
@@ -56,12 +51,15 @@ module _ {T : Type 0} where
   pub pairs-copied : (made : Many T) (all : List (Arc (Chunk T) Global)) (i : ℕ) → Copied made all i → length all ≤ i → many_pairs made ≡ all_pairs all
   pairs-copied made all i k l = pairs-shared made.chunks.items (take i all) k.same ∙ ap all_pairs (take_all i all l)
 
+  pub shared-copied : (made : Many T) (all : List (Arc (Chunk T) Global)) (i : ℕ) → Copied made all i → length all ≤ i → arc_values made.chunks.items ≡ arc_values all
+  shared-copied made all i k l = k.same ∙ ap arc_values (take_all i all l)
+
   -- one chunk more
   pub copied-more : (made next : Many T) (all : List (Arc (Chunk T) Global)) (i : ℕ) (c d : Arc (Chunk T) Global) → Copied made all i → IsMany next → next.chunks.items ≡ made.chunks.items ++ c ∷ [] → arc_value c ≡ arc_value d → i < length all → d ≡ get_or all i d → Copied next all (i + 1)
   copied-more made next all i c d k laid e a l is = record {
     laid = laid;
-    same = ap shared e ∙ (shared-push made.chunks.items c ∙ (ap (λ z. z ++ arc_value c ∷ []) k.same ∙ (ap (λ z. shared (take i all) ++ z ∷ []) a
-        ∙ (sym (shared-push (take i all) d) ∙ ap shared (ap (λ z. take i all ++ z ∷ []) is ∙ sym (take_more all i d l))))));
+    same = ap arc_values e ∙ (shared-push made.chunks.items c ∙ (ap (λ z. z ++ arc_value c ∷ []) k.same ∙ (ap (λ z. arc_values (take i all) ++ z ∷ []) a
+        ∙ (sym (shared-push (take i all) d) ∙ ap arc_values (ap (λ z. take i all ++ z ∷ []) is ∙ sym (take_more all i d l))))));
   }
 
   -- there are no more of them than of the others

@@ -3,11 +3,11 @@ use Rattle.std.specs.Prelude.{◌≡◌, ℕ, ◌+◌, ◌-◌, ◌≤◌, ◌<�
 use Rattle.std.specs.declared.sync.Arc.{Arc}
 use Rattle.std.specs.declared.alloc.Global.{Global}
 use Rattle.std.specs.Arc.{arc_value}
-use Rattle.std.proofs.Common.{zero, suc, refl, ap, sym, ◌∙◌, subst, arith, length-append}
-use Rattle.std.proofs.lemmas.List.{take_all, take_more}
+use Rattle.std.proofs.Common.{zero, suc, ap, sym, ◌∙◌, subst, arith, length-append}
+use Rattle.std.proofs.lemmas.List.{take_more}
 use Rattle.pm_sized.specs.declared.few.Few.{Few}
 use Rattle.pm_sized.specs.declared.chunks.Chunks.{Chunks}
-use Rattle.pm_sized.specs.declared.chunks.Chunks.TheVariants.{Few as AsFew, Many as AsMany}
+use Rattle.pm_sized.specs.declared.chunks.Chunks.TheVariants.{Few as AsFew, Many as AsMany, Groups as AsGroups}
 use Rattle.pm_sized.specs.Pairs.{pairs_of, total_of, EachCounts, IsFew, IsLaid, Stands}
 use Rattle.pm_sized.specs.Parts.{part, all_but_last, values_in}
 use Rattle.pm_sized.specs.Bound.{find_bound}
@@ -81,6 +81,7 @@ values-more-of ps i p item m vs l e a k s =
 pub laid-bound : {T : Type 0} (c : Chunks T) → IsLaid c → total_of (pairs_of c) < 2 ^ 32
 laid-bound (AsFew f) h = omega (arith, h.total, h.bound)
 laid-bound (AsMany m) h = omega (arith, h.total, h.bound)
+laid-bound (AsGroups b) h = h.bound
 
 -- a search of few takes no more steps than are counted for a chunk
 pub few-bound : {T : Type 0} (ps : List (T × ℕ)) (before after : ℕ) → length ps ≤ 6 → after ≤ before + length ps → after ≤ before + find_bound (length ps)

@@ -1,6 +1,6 @@
 -- The search by halves, and the number of its steps.
 use Rattle.std.specs.Prelude.{◌≡◌, ℕ, ◌+◌, ◌*◌, ◌-◌, ◌/◌, ◌≤◌, ◌<◌, ◌^◌, List, length, get_or}
-use Rattle.std.proofs.Common.{zero, suc, refl, sym, subst, arith}
+use Rattle.std.proofs.Common.{zero, suc, sym, subst, arith}
 use Rattle.std.proofs.Math.Nat.{pow-suc}
 use Rattle.pm_sized.specs.Bound.{halvings, digits}
 

@@ -8,3 +8,7 @@ pub mod CopyLaws
 pub mod MergeLaws
 pub mod AppendLaws
 pub mod GrowLaws
+pub mod GroupLaws
+pub mod SharingLaws
+pub mod PuttingLaws
+pub mod TakingLaws

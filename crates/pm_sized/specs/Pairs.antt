@@ -6,8 +6,9 @@ use Rattle.std.specs.Arc.{arc_value}
 use Rattle.pm_sized.specs.declared.chunk.Chunk.{Chunk}
 use Rattle.pm_sized.specs.declared.few.Few.{Few}
 use Rattle.pm_sized.specs.declared.many.Many.{Many}
+use Rattle.pm_sized.specs.declared.groups.Groups.{Groups}
 use Rattle.pm_sized.specs.declared.chunks.Chunks.{Chunks}
-use Rattle.pm_sized.specs.declared.chunks.Chunks.TheVariants.{Few as AsFew, Many as AsMany}
+use Rattle.pm_sized.specs.declared.chunks.Chunks.TheVariants.{Few as AsFew, Many as AsMany, Groups as AsGroups}
 
 -- the measures of items that begin at these starts, where the last one ends at `end`
 abbrev pub measures : List ℕ → ℕ → List ℕ
@@ -30,11 +31,6 @@ all_pairs (c ∷ cs) = chunk_pairs (arc_value c) ++ all_pairs cs
 
 abbrev pub many_pairs : {T : Type 0} → Many T → List (T × ℕ)
 many_pairs c = all_pairs c.chunks.items
-
--- Items in order, each with its measure, however they lie.
-abbrev pub pairs_of : {T : Type 0} → Chunks T → List (T × ℕ)
-pairs_of (AsFew f) = f.items.items
-pairs_of (AsMany m) = many_pairs m
 
 -- the sum of the measures
 abbrev pub total_of : {T : Type 0} → List (T × ℕ) → ℕ
@@ -99,10 +95,60 @@ pub record IsFew {T : Type 0} (f : Few T) : Type 0 where
   pub total : f.total ≡ total_of f.items.items
   pub bound : f.total < 2 ^ 32
 
+-- what is shared
+abbrev pub arc_values : {A : Type 0} → List (Arc A Global) → List A
+arc_values [] = []
+arc_values (x ∷ xs) = arc_value x ∷ arc_values xs
+
+-- the pairs of lists of chunks, one after another
+abbrev pub each_pairs : {T : Type 0} → List (Many T) → List (T × ℕ)
+each_pairs [] = []
+each_pairs (m ∷ ms) = many_pairs m ++ each_pairs ms
+
+abbrev pub parts_of : {T : Type 0} → Groups T → List (Many T)
+parts_of g = arc_values g.parts.items
+
+-- the pairs of the parts, and then those of the rest
+abbrev pub group_pairs : {T : Type 0} → Groups T → List (T × ℕ)
+group_pairs g = each_pairs (parts_of g) ++ many_pairs g.rest
+
+-- part number `at`, or the rest
+abbrev pub part_of : {T : Type 0} → Groups T → ℕ → Many T
+part_of g at = get_or (parts_of g) at g.rest
+
+-- a part has 64 chunks, each of 32 items or more
+pub record IsPart {T : Type 0} (m : Many T) : Type 0 where
+  pub laid : IsMany m
+  pub full : AreFull m.chunks.items
+  pub count : length m.chunks.items ≡ 64
+
+abbrev pub AreParts : {T : Type 0} → List (Many T) → Type 0
+AreParts [] = Unit {0}
+AreParts (m ∷ ms) = IsPart m × AreParts ms
+
+-- The parts lie as they should, and behind them the rest, in at most 64 chunks: beside each part and beside the rest stand the
+-- sum of the measures and the number of the items before it.
+pub record IsGrouped {T : Type 0} (g : Groups T) : Type 0 where
+  pub parts : AreParts (parts_of g)
+  pub starts_count : length g.starts.items ≡ length (parts_of g) + 1
+  pub firsts_count : length g.firsts.items ≡ length (parts_of g) + 1
+  pub starts : (k : ℕ) → k ≤ length (parts_of g) → get_or g.starts.items k 0 ≡ total_of (each_pairs (take k (parts_of g)))
+  pub firsts : (k : ℕ) → k ≤ length (parts_of g) → get_or g.firsts.items k 0 ≡ length (each_pairs (take k (parts_of g)))
+  pub rest : IsMany g.rest
+  pub most : length g.rest.chunks.items ≤ 64
+  pub bound : total_of (group_pairs g) < 2 ^ 32
+
+-- Items in order, each with its measure, however they lie.
+abbrev pub pairs_of : {T : Type 0} → Chunks T → List (T × ℕ)
+pairs_of (AsFew f) = f.items.items
+pairs_of (AsMany m) = many_pairs m
+pairs_of (AsGroups b) = group_pairs b.value
+
 -- The items lie as they should.
 abbrev pub IsLaid : {T : Type 0} → Chunks T → Type 0
 IsLaid (AsFew f) = IsFew f
 IsLaid (AsMany m) = IsMany m
+IsLaid (AsGroups b) = IsGrouped b.value
 
 -- So many items end at or before the position, and their measures sum up to `start`.
 pub record Stands {T : Type 0} (ps : List (T × ℕ)) (pos index start : ℕ) : Type 0 where

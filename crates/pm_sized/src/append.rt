@@ -1,10 +1,12 @@
 //! Runs of shared items, behind the others and as chunks of their own.
 ghost use Rattle.std.specs.Prelude.{◌≡◌, ◌+◌, ◌<◌, ◌≤◌, ◌^◌, ◌++◌, length, IfOk, OnOk, OnErr};
-ghost use Rattle.pm_sized.specs.Pairs.{total_of, IsLaid, IsFew, IsMany};
-ghost use Rattle.pm_sized.specs.Parts.{part, values_in, many_values, values_of, Appended, HasFirst};
+ghost use Rattle.pm_sized.specs.Pairs.{total_of, IsLaid, IsFew, IsMany, IsGrouped};
+ghost use Rattle.pm_sized.specs.Parts.{part, values_in, many_values, group_values, values_of, Appended, HasFirst};
 
 use crate::chunks::Chunks;
 use crate::few::Few;
+use crate::groups::Groups;
+use crate::halves::place;
 use crate::many::Many;
 use std::alloc::{AllocError, Global};
 use std::sync::Arc;
@@ -68,7 +70,7 @@ impl<T: Drop> Chunks<Arc<T, Global>> {
         requires room { total_of (values_of self.old) + total_of (part i to (values_of source.now)) < 2 ^ 32 }
         ensures laid { IsLaid self.new }
         ensures ok { IfOk result (λ n. Appended (values_of self.old) (values_of source.now) i to n (values_of self.new)) }
-        ensures err { OnErr result (values_of self.new ≡ values_of self.old) }
+        ensures err { OnErr result (HasFirst (values_of self.old) (values_of source.now) i to (values_of self.new)) }
     {
         match source {
             Chunks::Few(few) => {
@@ -76,6 +78,7 @@ impl<T: Drop> Chunks<Arc<T, Global>> {
                 Ok(1)
             }
             Chunks::Many(many) => self.append_run(alloc, many, i, to),
+            Chunks::Groups(groups) => self.append_part(alloc, groups, i, to),
         }
     }
 
@@ -115,11 +118,40 @@ impl<T: Drop> Chunks<Arc<T, Global>> {
         requires room { total_of (values_of self.old) + total_of (part i to (many_values source.now)) < 2 ^ 32 }
         ensures laid { IsLaid self.new }
         ensures ok { IfOk result (λ n. Appended (values_of self.old) (many_values source.now) i to n (values_of self.new)) }
-        ensures err { OnErr result (values_of self.new ≡ values_of self.old) }
+        ensures err { OnErr result (HasFirst (values_of self.old) (many_values source.now) i to (values_of self.new)) }
     {
         let chunk = source.run_at(alloc, i, to)?;
         let count = chunk.items.len();
         self.put(alloc, chunk)?;
         Ok(count)
+    }
+    /// Puts behind the last item those from item `i` on that lie in its part and before `to`, all at once where they are a whole
+    /// part that can be shared, else those of a chunk. It answers how many.
+    fn append_part(
+        &mut self,
+        alloc: Global,
+        source: &Groups<Arc<T, Global>>,
+        i: usize,
+        to: usize,
+    ) -> Result<usize, AllocError>
+        requires laid { IsLaid self.old }
+        requires source { IsGrouped source.now }
+        requires some { i < to }
+        requires within { to ≤ length (group_values source.now) }
+        requires room { total_of (values_of self.old) + total_of (part i to (group_values source.now)) < 2 ^ 32 }
+        ensures laid { IsLaid self.new }
+        ensures ok { IfOk result (λ n. Appended (values_of self.old) (group_values source.now) i to n (values_of self.new)) }
+        ensures err { OnErr result (HasFirst (values_of self.old) (group_values source.now) i to (values_of self.new)) }
+    {
+        let at = place(&source.firsts, i);
+        let from = i - source.firsts[at];
+        let part = source.part(at);
+        let end = part.len.min(from + (to - i));
+        if at < source.parts.len() && from == 0 && end == part.len {
+            if self.share(alloc, &source.parts[at])? {
+                return Ok(end);
+            }
+        }
+        self.append_run(alloc, part, from, end)
     }
 }

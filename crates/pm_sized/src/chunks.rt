@@ -3,17 +3,20 @@ ghost use Rattle.std.specs.Prelude.{◌≡◌, ◌<◌, ◌^◌, [], length, get
 ghost use Rattle.pm_sized.specs.Pairs.{pairs_of, total_of, EachCounts, IsLaid};
 
 use crate::few::{FEW, Few};
+use crate::groups::Groups;
 use crate::many::Many;
 use std::alloc::{AllocError, Global};
 
 /// Items in order, each with its measure. Up to six may lie in one list, so that few items take one allocation; any number
-/// lie in chunks, which are shared.
+/// lie in chunks, which are shared, and very many in parts of 64 chunks, which are shared too.
 #[derive(Drop)]
 pub enum Chunks<T> {
     /// At most six items, in no chunk.
     Few(Few<T>),
     /// Items in chunks.
     Many(Many<T>),
+    /// Items in parts of chunks, where they take more than 64 chunks.
+    Groups(Box<Groups<T>, Global>),
 }
 
 impl<T> Chunks<T> {
@@ -49,6 +52,7 @@ impl<T> Chunks<T> {
         match self {
             Chunks::Few(few) => few.items.len(),
             Chunks::Many(many) => many.len,
+            Chunks::Groups(groups) => groups.len(),
         }
     }
 
@@ -60,6 +64,7 @@ impl<T> Chunks<T> {
         match self {
             Chunks::Few(few) => few.total,
             Chunks::Many(many) => many.total,
+            Chunks::Groups(groups) => groups.total(),
         }
     }
 
@@ -72,6 +77,7 @@ impl<T> Chunks<T> {
         match self {
             Chunks::Few(few) => &few.items[i].0,
             Chunks::Many(many) => many.item(i),
+            Chunks::Groups(groups) => groups.item(i),
         }
     }
 }

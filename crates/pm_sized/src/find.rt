@@ -1,10 +1,11 @@
 //! Where a position stands.
-ghost use Rattle.std.specs.Prelude.{◌≡◌, ◌<◌, ◌≤◌, ◌+◌, length};
-ghost use Rattle.pm_sized.specs.Pairs.{pairs_of, many_pairs, total_of, IsLaid, IsFew, IsMany, Stands};
+ghost use Rattle.std.specs.Prelude.{◌≡◌, ℕ, ◌<◌, ◌≤◌, ◌+◌, ◌^◌, length};
+ghost use Rattle.pm_sized.specs.Pairs.{pairs_of, many_pairs, group_pairs, total_of, IsLaid, IsFew, IsMany, IsGrouped, Stands};
 ghost use Rattle.pm_sized.specs.Bound.{find_bound};
 
 use crate::chunks::Chunks;
 use crate::few::Few;
+use crate::groups::Groups;
 use crate::halves::search;
 use crate::many::Many;
 use crate::steps::Steps;
@@ -32,6 +33,7 @@ impl<T> Chunks<T> {
         match self {
             Chunks::Few(few) => few.find(pos, steps),
             Chunks::Many(many) => many.find(pos, steps),
+            Chunks::Groups(groups) => groups.find(pos, steps),
         }
     }
 
@@ -87,6 +89,7 @@ impl<T> Many<T> {
         requires within { pos ≤ total_of (many_pairs self.now) }
         ensures found { Stands (many_pairs self.now) pos result.index result.start }
         ensures steps { steps.new ≤ steps.old + find_bound (length (many_pairs self.now)) }
+        ensures halves { (k : ℕ) → length self.now.chunks.items ≤ 2 ^ k → steps.new ≤ steps.old + (k + 6) }
     {
         if pos == self.total {
             return Found {
@@ -101,6 +104,31 @@ impl<T> Many<T> {
         Found {
             index: self.firsts[at] + i,
             start: start + chunk.starts[i],
+        }
+    }
+}
+
+impl<T> Groups<T> {
+    /// Where a position stands, by halves: first its part or the rest, then the item in that.
+    fn find<L: Ledger>(&self, pos: usize, steps: &mut Steps<L>) -> Found
+        requires laid { IsGrouped self.now }
+        requires within { pos ≤ total_of (group_pairs self.now) }
+        ensures found { Stands (group_pairs self.now) pos result.index result.start }
+        ensures steps { steps.new ≤ steps.old + find_bound (length (group_pairs self.now)) }
+    {
+        let total = self.total();
+        if pos == total {
+            return Found {
+                index: self.len(),
+                start: total,
+            };
+        }
+        let at = search(&self.starts, pos, steps);
+        let start = self.starts[at];
+        let found = self.part(at).find(pos - start, steps);
+        Found {
+            index: self.firsts[at] + found.index,
+            start: start + found.start,
         }
     }
 }

@@ -2,7 +2,7 @@
 ghost use Rattle.std.specs.Prelude.{◌≡◌, ◌+◌, ◌-◌, ◌<◌, ◌≤◌, ◌^◌, [], ◌∷◌, ◌++◌, length, take, true, false, IfOk, OnOk, OnErr};
 ghost use Rattle.std.specs.Arc.{arc_value};
 ghost use Rattle.pm_sized.specs.Pairs.{many_pairs, all_pairs, chunk_pairs, total_of, IsMany, IsChunk, AreFull};
-ghost use Rattle.pm_sized.specs.Parts.{all_but_last, chunk_values, many_values, HasShortLast, HasGrown};
+ghost use Rattle.pm_sized.specs.Parts.{all_but_last, chunk_values, many_values, HasShortLast, HasGrown, StaysShort, Lengthened};
 
 use crate::chunk::Chunk;
 use crate::many::{CHUNK, Many};
@@ -23,6 +23,8 @@ impl<T: Drop> Many<T> {
         ensures laid { IsMany self.new }
         ensures ok { IfOk result (λ back. HasGrown (many_pairs self.old) item measure back (many_pairs self.new)) }
         ensures err { OnErr result (many_pairs self.new ≡ many_pairs self.old) }
+        ensures chunks { length self.new.chunks.items ≡ length self.old.chunks.items }
+        ensures short { IfOk result (λ back. StaysShort back self.old.chunks.items self.new.chunks.items) }
     {
         let count = self.chunks.len();
         if count == 0 || self.chunks[count - 1].items.len() >= CHUNK {
@@ -52,6 +54,7 @@ impl<T: Drop> Many<Arc<T, Global>> {
         ensures laid { IsMany self.new }
         ensures ok { OnOk result (many_values self.new ≡ many_values self.old ++ (arc_value item, measure) ∷ []) }
         ensures err { OnErr result (many_values self.new ≡ many_values self.old) }
+        ensures chunks { Lengthened self.old.chunks.items self.new.chunks.items 1 }
     {
         if let Some(item) = self.grow(item, measure)? {
             let mut one = Chunk::new(alloc);
@@ -75,6 +78,7 @@ impl<T: Drop> Many<Arc<T, Global>> {
         ensures laid { IsMany self.new }
         ensures ok { OnOk result (many_values self.new ≡ all_but_last (many_values self.old) ++ (arc_value item, measure) ∷ []) }
         ensures err { OnErr result (many_values self.new ≡ many_values self.old) }
+        ensures chunks { length self.new.chunks.items ≡ length self.old.chunks.items }
     {
         let last = &self.chunks[self.chunks.len() - 1];
         let mut made = Chunk::new(alloc);
@@ -98,6 +102,7 @@ impl<T: Drop> Many<Arc<T, Global>> {
         ensures laid { IsMany self.new }
         ensures ok { OnOk result (many_values self.new ≡ many_values self.old ++ chunk_values (arc_value chunk)) }
         ensures err { OnErr result (many_values self.new ≡ many_values self.old) }
+        ensures chunks { Lengthened self.old.chunks.items self.new.chunks.items (length (arc_value chunk).items.items) }
     {
         if self.ends_short() {
             return self.merge(alloc, chunk);
@@ -107,7 +112,7 @@ impl<T: Drop> Many<Arc<T, Global>> {
     }
 
     /// Whether there is a last chunk, of fewer than 32 items.
-    fn ends_short(&self) -> bool
+    pub(crate) fn ends_short(&self) -> bool
         requires laid { IsMany self.now }
         ensures yes { result ≡ true → HasShortLast self.now.chunks.items }
         ensures no { result ≡ false → AreFull self.now.chunks.items }
@@ -130,6 +135,7 @@ impl<T: Drop> Many<Arc<T, Global>> {
         ensures laid { IsMany self.new }
         ensures ok { OnOk result (many_values self.new ≡ many_values self.old ++ chunk_values (arc_value chunk)) }
         ensures err { OnErr result (many_values self.new ≡ many_values self.old) }
+        ensures chunks { Lengthened self.old.chunks.items self.new.chunks.items (length (arc_value chunk).items.items) }
     {
         let last = &self.chunks[self.chunks.len() - 1];
         let count = chunk.items.len();

@@ -6,14 +6,14 @@ pub mod chunk;
 pub mod chunks;
 pub mod few;
 pub mod find;
+pub mod grouping;
+pub mod groups;
 pub mod grow;
 pub mod halves;
 pub mod many;
 pub mod runs;
 pub mod shared;
 pub mod steps;
-#[cfg(test)]
-mod tests;
 
 pub use chunks::Chunks;
 pub use find::Found;

@@ -1,7 +1,7 @@
 //! Many items, in chunks.
 ghost use Rattle.std.specs.Prelude.{◌≡◌, ◌+◌, ◌<◌, ◌≤◌, ◌^◌, [], ◌∷◌, ◌++◌, length, get_or, IfOk, OnOk, OnErr};
 ghost use Rattle.std.specs.Arc.{arc_value};
-ghost use Rattle.pm_sized.specs.Pairs.{chunk_pairs, all_pairs, many_pairs, total_of, EachCounts, IsChunk, AreFull, IsMany, IsBuilt, built_pairs};
+ghost use Rattle.pm_sized.specs.Pairs.{chunk_pairs, all_pairs, many_pairs, total_of, EachCounts, IsChunk, AreFull, IsMany, IsBuilt, built_pairs, arc_values};
 ghost use Rattle.pm_sized.specs.Parts.{all_but_last};
 
 use crate::chunk::Chunk;
@@ -31,6 +31,7 @@ impl<T> Many<T> {
         ensures pairs { many_pairs result ≡ [] }
         ensures laid { IsMany result }
         ensures full { AreFull result.chunks.items }
+        ensures none { result.chunks.items ≡ [] }
     {
         Many {
             chunks: Vec::new(alloc),
@@ -119,6 +120,7 @@ impl<T> Many<T> {
         requires laid { IsMany self.now }
         ensures pairs { IfOk result (λ c. many_pairs c ≡ many_pairs self.now) }
         ensures laid { IfOk result (λ c. IsMany c) }
+        ensures chunks { IfOk result (λ c. arc_values c.chunks.items ≡ arc_values self.now.chunks.items) }
     {
         let mut made = Many::new(alloc);
         for chunk in &self.chunks {

@@ -1,12 +1,13 @@
 //! Shared items, copied and put behind others.
-ghost use Rattle.std.specs.Prelude.{◌≡◌, ◌+◌, ◌<◌, ◌≤◌, ◌^◌, [], ◌∷◌, ◌++◌, length, IfOk, OnOk, OnErr};
+ghost use Rattle.std.specs.Prelude.{◌≡◌, ℕ, ◌+◌, ◌<◌, ◌≤◌, ◌^◌, [], ◌∷◌, ◌++◌, if◌then◌else◌, length, IfOk, OnOk, OnErr};
 ghost use Rattle.std.specs.Arc.{arc_value};
-ghost use Rattle.pm_sized.specs.Pairs.{total_of, IsLaid, IsChunk};
-ghost use Rattle.pm_sized.specs.Parts.{all_but_last, chunk_values, values_of, IsBelow, Widened};
+ghost use Rattle.pm_sized.specs.Pairs.{total_of, IsLaid, IsChunk, IsPart};
+ghost use Rattle.pm_sized.specs.Parts.{all_but_last, chunk_values, many_values, values_of, IsBelow, Widened, Deepened, HasFirst};
 
 use crate::chunk::Chunk;
 use crate::chunks::Chunks;
 use crate::few::FEW;
+use crate::groups::{Groups, PART};
 use crate::many::Many;
 use std::alloc::{AllocError, Global};
 use std::sync::Arc;
@@ -21,6 +22,7 @@ impl<T: Drop> Chunks<Arc<T, Global>> {
         match self {
             Chunks::Few(few) => Ok(Chunks::Few(few.copy(alloc)?)),
             Chunks::Many(many) => Ok(Chunks::Many(many.copy(alloc)?)),
+            Chunks::Groups(groups) => Ok(Chunks::Groups(Box::new(alloc, groups.copy(alloc)?)?)),
         }
     }
 
@@ -39,9 +41,11 @@ impl<T: Drop> Chunks<Arc<T, Global>> {
         ensures err { OnErr result (values_of self.new ≡ values_of self.old) }
     {
         self.widen(alloc, FEW)?;
+        self.deepen(alloc)?;
         match self {
             Chunks::Few(few) => few.push(item, measure),
             Chunks::Many(many) => many.push(alloc, item, measure),
+            Chunks::Groups(groups) => groups.push(alloc, item, measure),
         }
     }
 
@@ -66,10 +70,12 @@ impl<T: Drop> Chunks<Arc<T, Global>> {
                 Ok(())
             }
             Chunks::Many(many) => many.set_last(alloc, item, measure),
+            Chunks::Groups(groups) => groups.set_last(alloc, item, measure),
         }
     }
 
-    /// Puts the items of a chunk behind the others, which then lie in chunks. For want of memory the items stay as they were.
+    /// Puts the items of a chunk behind the others, which then lie in chunks. For want of memory the first of them may be there,
+    /// and the others are not.
     pub(crate) fn put(
         &mut self,
         alloc: Global,
@@ -80,12 +86,14 @@ impl<T: Drop> Chunks<Arc<T, Global>> {
         requires room { total_of (values_of self.old) + total_of (chunk_values (arc_value chunk)) < 2 ^ 32 }
         ensures laid { IsLaid self.new }
         ensures ok { OnOk result (values_of self.new ≡ values_of self.old ++ chunk_values (arc_value chunk)) }
-        ensures err { OnErr result (values_of self.new ≡ values_of self.old) }
+        ensures err { OnErr result (HasFirst (values_of self.old) (chunk_values (arc_value chunk)) 0 (length (chunk_values (arc_value chunk))) (values_of self.new)) }
     {
         self.widen(alloc, 0)?;
+        self.deepen(alloc)?;
         match self {
             Chunks::Few(_) => unreachable!(),
             Chunks::Many(many) => many.put(alloc, chunk),
+            Chunks::Groups(groups) => groups.put(alloc, chunk),
         }
     }
 
@@ -115,7 +123,75 @@ impl<T: Drop> Chunks<Arc<T, Global>> {
                     Ok(Some(few.widened(alloc)?))
                 }
             }
-            Chunks::Many(_) => Ok(None),
+            Chunks::Many(_) | Chunks::Groups(_) => Ok(None),
+        }
+    }
+
+    /// Puts a part behind the others and shares it, where all of these lie in parts, or are as many, or none: `true`. Else the
+    /// items stay as they were. So they do for want of memory.
+    pub(crate) fn share(
+        &mut self,
+        alloc: Global,
+        part: &Arc<Many<Arc<T, Global>>, Global>,
+    ) -> Result<bool, AllocError>
+        requires laid { IsLaid self.old }
+        requires part { IsPart (arc_value part.now) }
+        requires room { total_of (values_of self.old) + total_of (many_values (arc_value part.now)) < 2 ^ 32 }
+        ensures laid { IsLaid self.new }
+        ensures ok { IfOk result (λ shared. values_of self.new ≡ (if shared then values_of self.old ++ many_values (arc_value part.now) else values_of self.old)) }
+        ensures err { OnErr result (values_of self.new ≡ values_of self.old) }
+    {
+        self.begin(alloc)?;
+        self.deepen(alloc)?;
+        match self {
+            Chunks::Few(_) | Chunks::Many(_) => Ok(false),
+            Chunks::Groups(groups) => groups.share(alloc, part),
+        }
+    }
+
+    /// Makes groups of no items. For want of memory, and where there are items, they stay as they were.
+    fn begin(&mut self, alloc: Global) -> Result<(), AllocError>
+        requires laid { IsLaid self.old }
+        ensures laid { IsLaid self.new }
+        ensures values { values_of self.new ≡ values_of self.old }
+    {
+        if self.len() == 0 {
+            let none = Groups::of(alloc, Many::new(alloc))?;
+            *self = Chunks::Groups(Box::new(alloc, none)?);
+        }
+        Ok(())
+    }
+
+    /// Makes groups of items that take as many chunks as a part has. For want of memory they stay as they were.
+    fn deepen(&mut self, alloc: Global) -> Result<(), AllocError>
+        requires laid { IsLaid self.old }
+        ensures laid { IsLaid self.new }
+        ensures values { values_of self.new ≡ values_of self.old }
+        ensures below { (least : ℕ) → IsBelow least self.old → IsBelow least self.new }
+    {
+        if let Some(groups) = self.deeper(alloc)? {
+            *self = Chunks::Groups(groups);
+        }
+        Ok(())
+    }
+
+    /// The same items in groups, where they take as many chunks as a part has.
+    fn deeper(
+        &self,
+        alloc: Global,
+    ) -> Result<Option<Box<Groups<Arc<T, Global>>, Global>>, AllocError>
+        requires laid { IsLaid self.now }
+        ensures { IfOk result (λ o. Deepened self.now o) }
+    {
+        match self {
+            Chunks::Few(_) | Chunks::Groups(_) => Ok(None),
+            Chunks::Many(many) => {
+                if many.chunks.len() != PART {
+                    return Ok(None);
+                }
+                let groups = Groups::of(alloc, many.copy(alloc)?)?;
+                Ok(Some(Box::new(alloc, groups)?))
+            }
         }
     }
 }

@@ -1,8 +1,10 @@
-//! Tests of places, of built contents and of steps.
+//! Tests of chunks, of places, of built contents and of steps.
 #![tactic(auto)]
 
 #[cfg(test)]
 mod build;
+#[cfg(test)]
+mod chunks;
 #[cfg(test)]
 mod resolve;
 #[cfg(test)]

@@ -1,7 +1,8 @@
-use Rattle.std.proofs.Common.{◌∙◌, arith}
-use Rattle.pm_sized.specs.Parts.{values_of, HasFirst}
+use Rattle.std.proofs.Common.{arith}
+use Rattle.pm_sized.specs.Parts.{values_of}
 use Rattle.pm_sized.proofs.AppendLaws.{total-left, values-more}
 use Rattle.pm_sized.proofs.GrowLaws.{on_err_of}
+use Rattle.pm_sized.proofs.PuttingLaws.{first-further}
 use Rattle.pm_sized.proofs.append.Chunks+Arc+T+Global.append.Goals as goal
 
 pub append_next-requires-clause-room : goal.append_next-requires-clause-room
@@ -23,10 +24,4 @@ loop-i-preserved g c =
 pub returns-in_err-i-clause-err : goal.returns-in_err-i-clause-err
 returns-in_err-i-clause-err g c =
     let l = c.loop-i in
-    let first : HasFirst (values_of c.args.self.now) (values_of c.args.source.now) c.args.from c.args.to (values_of c.append_next.new.self) = record {
-      until = l.i;
-      from_on = l.invariant.before;
-      within = l.invariant.within;
-      values = c.in_err-i.ensures.err ∙ l.invariant.values;
-    } in
-    on_err_of c.from_residual.result first
+    on_err_of c.from_residual.result (first-further (values_of c.args.self.now) (values_of l.self) (values_of c.args.source.now) (values_of c.append_next.new.self) c.args.from l.i c.args.to l.invariant.values l.invariant.before c.in_err-i.ensures.err)

@@ -1,10 +1,10 @@
 use Rattle.std.proofs.Common.{ap, sym, ◌∙◌, subst, arith, length}
-use Rattle.pm_sized.specs.Pairs.{all_pairs, total_of, AreChunks}
-use Rattle.pm_sized.proofs.CopyLaws.{shared, none-in, full-copied, pairs-copied, copied-more, room-copied, few-copied, chunk-copied}
+use Rattle.pm_sized.specs.Pairs.{all_pairs, total_of, arc_values, AreChunks}
+use Rattle.pm_sized.proofs.CopyLaws.{none-in, full-copied, pairs-copied, shared-copied, copied-more, room-copied, few-copied, chunk-copied}
 use Rattle.pm_sized.proofs.many.Many.copy.Goals as goal
 
 pub loop-chunk-init : goal.loop-chunk-init
-loop-chunk-init g c = record { laid = c.new-made.ensures.laid; same = ap shared (none-in c.new-made.result c.new-made.ensures.laid c.new-made.ensures.pairs) }
+loop-chunk-init g c = record { laid = c.new-made.ensures.laid; same = ap arc_values (none-in c.new-made.result c.new-made.ensures.laid c.new-made.ensures.pairs) }
 
 pub push_chunk-requires-clause-full : goal.push_chunk-requires-clause-full
 push_chunk-requires-clause-full g c =
@@ -37,3 +37,7 @@ loop-chunk-preserved g c =
 pub returns-clause-pairs : goal.returns-clause-pairs
 returns-clause-pairs g c =
     pairs-copied c.loop-chunk.made c.deref-chunk-items.result.now c.loop-chunk.chunk-index c.loop-chunk.invariant c.loop-chunk-test.false ∙ ap all_pairs c.deref-chunk-items.ensures.value
+
+pub returns-clause-chunks : goal.returns-clause-chunks
+returns-clause-chunks g c =
+    shared-copied c.loop-chunk.made c.deref-chunk-items.result.now c.loop-chunk.chunk-index c.loop-chunk.invariant c.loop-chunk-test.false ∙ ap arc_values c.deref-chunk-items.ensures.value

@@ -75,3 +75,16 @@ returns-clause-steps g c =
     both-bound s.chunks.items (length c.deref.result.now) (length c.deref-3.result.now) c.args.steps.now c.search-at.new.steps c.search-i.new.steps c.requires.laid.chunks
     (omega (arith, ap length ss, c.requires.laid.starts_count)) (omega (arith, ap length inner, a.starts_count, a.chunk.most))
     c.search-at.ensures.steps c.search-i.ensures.steps
+
+pub returns-clause-halves : goal.returns-clause-halves
+returns-clause-halves g c = λ k few.
+    let s = c.args.self.now in
+    let at = c.search-at.result in
+    let ch = c.index-chunk.result.now in
+    let ss = c.deref.ensures.value in
+    let lt : at < length s.chunks.items = omega (arith, c.search-at.ensures.within, ap length ss, c.requires.laid.starts_count) in
+    let a = around s at ch c.requires.laid lt c.index-chunk.ensures in
+    let inner : c.deref-3.result.now ≡ (arc_value ch).starts.items = c.deref-3.ensures.value ∙ ap (λ z. z.starts.items) c.deref-2.ensures in
+    let one = c.search-at.ensures.steps k (omega (arith, few, ap length ss, c.requires.laid.starts_count)) in
+    let two = c.search-i.ensures.steps 6 (omega (arith, ap length inner, a.starts_count, a.chunk.most)) in
+    omega (arith, one, two)

@@ -3,7 +3,7 @@ use Rattle.std.specs.Arc.{arc_value}
 use Rattle.pm_sized.specs.Pairs.{total_of}
 use Rattle.pm_sized.specs.Parts.{values_of, values_in}
 use Rattle.pm_sized.proofs.PairLaws.{total_of-append}
-use Rattle.pm_sized.proofs.tests.numbers.Goals as goal
+use Rattle.tests_places.proofs.chunks.numbers.Goals as goal
 
 pub loop-i-init : goal.loop-i-init
 loop-i-init c = record {

@@ -1,7 +1,7 @@
 use Rattle.std.proofs.Common.{◌≡◌, length}
 use Rattle.pm_sized.specs.Pairs.{total_of, IsLaid}
 use Rattle.pm_sized.specs.Parts.{values_of}
-use Rattle.pm_sized.proofs.tests.numbers.Given as goal
+use Rattle.tests_places.proofs.chunks.numbers.Given as goal
 
 abbrev pub invariant-loop-i : goal.invariant-loop-i
 invariant-loop-i l = record {

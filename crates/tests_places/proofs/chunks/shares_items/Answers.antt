@@ -3,7 +3,7 @@ use Rattle.pm_sized.specs.Pairs.{total_of}
 use Rattle.pm_sized.specs.Parts.{part, values_in, values_of}
 use Rattle.pm_sized.proofs.PairLaws.{total_of-append}
 use Rattle.pm_sized.proofs.PartLaws.{length-part, total-part, part-front}
-use Rattle.pm_sized.proofs.tests.shares_items.Goals as goal
+use Rattle.tests_places.proofs.chunks.shares_items.Goals as goal
 
 pub append-requires-clause-within : goal.append-requires-clause-within
 append-requires-clause-within g c =
