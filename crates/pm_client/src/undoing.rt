@@ -125,7 +125,7 @@ impl<C: Change> Client<C> {
         self.take_turn(alloc, turn, number, made)
     }
 
-    /// What undoing the steps of these names makes. It looks at the history from the first of these steps on, and at no step
+    /// What undoing the steps of these names makes. It goes over the history from the first of these steps on, and over no step
     /// before it.
     fn made_of(
         &self,

@@ -37,7 +37,8 @@ impl<C> Branches<C> {
     }
 
     /// The items from the first one on that is a step of these names, where the items' names differ, as those of a client's
-    /// history do. Each name is looked for from the last item on: where all are found, no item before the first is looked at.
+    /// history do. Each name is looked for where its serial leads, and else from the last item on: where all are found, few items
+    /// before the first are looked at.
     pub fn since(&self, names: &[Name]) -> &[Item<C>]
         ensures { NamesDiffer self.now.items → result.now ≡ drop (start_of names.now self.now.items) self.now.items }
     {

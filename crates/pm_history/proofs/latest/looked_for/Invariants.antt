@@ -1,6 +1,6 @@
 use Rattle.std.proofs.Common.{◌≤◌, drop, length}
 use Rattle.pm_history.specs.Remembers.{Lacks}
-use Rattle.pm_history.proofs.latest.latest.Given as goal
+use Rattle.pm_history.proofs.latest.looked_for.Given as goal
 
 abbrev pub invariant-loop-i : goal.invariant-loop-i
 invariant-loop-i g l = record {
