@@ -13,7 +13,7 @@ use Rattle.pm_history.specs.Pairs.{paired}
 use Rattle.pm_history.specs.Undos.{find}
 use Rattle.pm_history.specs.Tries.{first_of, item_from}
 use Rattle.pm_history.specs.Histories.{last_event, event_of, extended, last_number, without_last, holds, is_dropped, still_named, without_dropped, last_items, rebased, later_of}
-use Rattle.pm_history.specs.Drops.{is_lost, any_dropped, replaced, left_by}
+use Rattle.pm_history.specs.Drops.{is_lost, any_dropped, replaced}
 
 -- the last event
 pub extended-at : (es : List Event) (k : ℕ) (e : Event) (ns names : List Name) → k + 1 ≡ length es → e ≡ get_or es k e → names ≡ e.names ++ ns

@@ -299,11 +299,6 @@ later-untold n rs (i ∷ is) h =
     nobody None = refl
     nobody (Some a) = refl
 
-pub untold-drop : {C : Type 0} (k : ℕ) (is : List (Item C)) → Each (λ i. i.undoes ≡ None) is → Each (λ i. i.undoes ≡ None) (drop k is)
-untold-drop zero is h = h
-untold-drop (suc k) [] h = tt
-untold-drop (suc k) (i ∷ is) h = untold-drop k is h.1
-
 -- A table with an item more in front.
 pub table-put : {C : Type 0} (i : Item C) (is : List (Item C)) (old new : Undoers) (n : Name) → IsTableOf old is → i.undoes ≡ Some n
     → new.nearest.items ≡ set old.nearest.items (n.serial % length old.nearest.items) (Some (length is))
