@@ -1,5 +1,5 @@
 -- The maps of items, and the items at their places.
-use Rattle.std.proofs.Common.{◌≡◌, ℕ, zero, suc, ◌+◌, ◌<◌, ◌≤◌, ◌&&◌, Bool, true, false, if◌then◌else◌, List, [], ◌∷◌, length, drop, get_or, Option, Some, None, refl, ap, sym, ◌∙◌, arith, subst, length-drop}
+use Rattle.std.proofs.Common.{◌≡◌, ℕ, zero, suc, ◌+◌, ◌<◌, ◌≤◌, ◌&&◌, ◌||◌, Bool, true, false, if◌then◌else◌, List, [], ◌∷◌, length, drop, get_or, Option, Some, None, refl, ap, sym, ◌∙◌, arith, subst, length-drop}
 use Rattle.std.proofs.Math.Seq.{drop-cons}
 use Rattle.std.proofs.lemmas.List.{get_or-drop}
 use Rattle.pm_change.specs.declared.name.Name.{Name}
@@ -9,6 +9,7 @@ use Rattle.pm_map.specs.Mirrors.{may_mirror}
 use Rattle.pm_map.proofs.Growths.{fit-shape}
 use Rattle.pm_map.specs.declared.step_map.Moved.{Moved}
 use Rattle.pm_map.specs.declared.step_map.Recover.{Recover}
+use Rattle.pm_map.specs.Moves.{kept_at}
 use Rattle.pm_map.specs.Through.{ArePaired, IsPairedAt, IsIn, joined, new_at, partner, skipped, stepped}
 use Rattle.pm_map.proofs.Recovers.{partner-fits}
 use Rattle.pm_history.specs.declared.item.Item.{Item}
@@ -116,3 +117,23 @@ pub no-skip : (later : Option ℕ) (found : Option Recover) → found ≡ None �
 no-skip None found e = refl
 no-skip (Some gap) None e = refl
 no-skip (Some gap) (Some r) e = absurd (cc)
+
+-- after a step nothing is left to recover
+pub step-clean : (so m : Moved) (later : Option ℕ) (found : Option Recover) (es : List Mirrored) → (stepped so m later found es).recover ≡ None
+step-clean so m None found es = refl
+step-clean so m (Some gap) None es = refl
+step-clean so m (Some gap) (Some r) es = refl
+
+-- over a map that leaves a position whole only its place changes
+pub whole-step : (so m : Moved) (p : ℕ) (later : Option ℕ) (es : List Mirrored) → so.recover ≡ None → m ≡ kept_at p → record so { pos = p } ≡ stepped so m later m.recover es
+whole-step so m p later es clean e = same ∙ no-jump so (kept_at p) later None es refl ∙ ap (λ (x : Moved). stepped so x later x.recover es) (sym e)
+  where
+    or-none : (a : Bool) → a ≡ (a || false)
+    or-none true = refl
+    or-none false = refl
+
+    same : record so { pos = p } ≡ joined so (kept_at p)
+    same = cc (clean, or-none so.deleted, or-none so.across, or-none so.after)
+
+pub whole-skip : (m : Moved) (p : ℕ) (later : Option ℕ) → m ≡ kept_at p → 0 ≡ skipped later m.recover
+whole-skip m p later e = no-skip later m.recover (ap (λ (x : Moved). x.recover) e)

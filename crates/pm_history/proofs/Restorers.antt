@@ -1,5 +1,5 @@
 -- Which items can bring a deleted position back.
-use Rattle.std.proofs.Common.{◌≡◌, ℕ, zero, suc, ◌+◌, ◌-◌, ◌<◌, ◌≤◌, ◌==◌, ◌&&◌, ◌||◌, not, nat_lt, Bool, true, false, if◌then◌else◌, List, [], ◌∷◌, length, Option, Some, None, refl, ap, sym, ◌∙◌, arith}
+use Rattle.std.proofs.Common.{◌≡◌, ℕ, zero, suc, ◌+◌, ◌-◌, ◌≤◌, ◌==◌, ◌&&◌, ◌||◌, not, nat_lt, Bool, true, false, if◌then◌else◌, List, [], ◌∷◌, length, Option, Some, None, refl, ap, sym, ◌∙◌, arith}
 use Rattle.std.proofs.lemmas.Bool.{and_parts, and_left, and_right, eqb-true, true≢false}
 use Rattle.std.proofs.lemmas.Bool.Decides.{nat_tests}
 use Rattle.std.specs.List.{AllByRecursion as Each}
@@ -9,11 +9,12 @@ use Rattle.pm_map.specs.declared.step_map.Span.{Span}
 use Rattle.pm_map.specs.declared.step_map.Moved.{Moved}
 use Rattle.pm_map.specs.declared.step_map.Recover.{Recover}
 use Rattle.pm_map.specs.Mirrors.{has_shape, may_mirror}
-use Rattle.pm_map.specs.Moves.{moved_from, decided, or_moved}
+use Rattle.pm_map.specs.Moves.{moved_from, or_moved}
 use Rattle.pm_map.specs.Through.{range_at}
 use Rattle.pm_history.specs.declared.item.Item.{Item}
 use Rattle.pm_history.specs.declared.undoers.Undoers.{Undoers}
-use Rattle.pm_history.specs.Items.{one_step, puts_in, is_filled, brings_back}
+use Rattle.pm_history.specs.Fillings.{puts_in, is_filled}
+use Rattle.pm_history.specs.Items.{one_step, brings_back}
 use Rattle.pm_history.specs.Laters.{entry_at, IsTold, TellsAll, TellsOf}
 use Rattle.pm_history.specs.Pairs.{later_in, one_more}
 use Rattle.pm_history.proofs.Tables.{later-untold}

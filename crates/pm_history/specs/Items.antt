@@ -1,9 +1,10 @@
 -- Items of a timeline and their names.
-use Rattle.std.specs.Prelude.{◌==◌, ◌&&◌, ◌||◌, not, Bool, false, List, [], ◌∷◌, Option, Some, None}
+use Rattle.std.specs.Prelude.{◌==◌, ◌&&◌, Bool, false, List, [], Option, Some, None}
 use Rattle.std.specs.Option.{is_some}
 use Rattle.pm_change.specs.declared.name.Name.{Name}
 use Rattle.pm_map.specs.declared.step_map.Span.{Span}
 use Rattle.pm_history.specs.declared.item.Item.{Item}
+use Rattle.pm_history.specs.Fillings.{puts_in}
 
 abbrev pub same_name : Name → Name → Bool
 same_name a b = (a.client == b.client) && (a.serial == b.serial)
@@ -17,16 +18,6 @@ one_step (Some a) (Some b) = same_name a b
 -- the item of a foreign step
 abbrev pub foreign_item : {C : Type 0} → List Span → Item C
 foreign_item ranges = record { name = None; map = ranges; inverse = []; undoes = None }
-
--- whether one of these ranges puts tokens in
-abbrev pub puts_in : List Span → Bool
-puts_in [] = false
-puts_in (s ∷ ss) = not (s.new_size == 0) || puts_in ss
-
--- whether this is a range that puts tokens in
-abbrev pub is_filled : Option Span → Bool
-is_filled None = false
-is_filled (Some s) = not (s.new_size == 0)
 
 -- whether the step was made to undo another and puts tokens in, as each does that brings deleted ones back
 abbrev pub brings_back : {C : Type 0} → Item C → Bool

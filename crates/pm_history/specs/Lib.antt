@@ -1,4 +1,5 @@
 pub mod Kept
+pub mod Fillings
 pub mod Forms
 pub mod Items
 pub mod Pairs

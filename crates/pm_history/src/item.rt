@@ -1,15 +1,15 @@
 //! A step of the timeline, as a history keeps it.
-ghost use Rattle.std.specs.Prelude.{◌≡◌, ◌<◌, ◌^◌, [], ◌∷◌, None, Some, IfOk, IfSome};
+ghost use Rattle.std.specs.Prelude.{◌≡◌, ◌<◌, ◌^◌, [], None, Some, IfOk, IfSome};
 ghost use Rattle.pm_map.specs.declared.side.Side.{Side};
 ghost use Rattle.pm_map.specs.Moves.{moved, kept_at};
 ghost use Rattle.pm_map.specs.Through.{IsIn};
 ghost use Rattle.pm_history.specs.Items.{one_step, foreign_item, brings_back};
-ghost use Rattle.pm_history.specs.Forms.{seen};
 
-use crate::ranges::{passed_by, puts_in, shifted};
+use crate::form::{Form, NOT_HELD, Whole, held, ranged, restores, small, span_of};
+use crate::ranges::{passed_by, shifted};
 use pm_change::Name;
 use pm_list::Listed;
-use pm_map::{Moved, Side, Span, StepMap};
+use pm_map::{Moved, Side, StepMap};
 use std::alloc::{AllocError, Global};
 use std::marker::Model;
 
@@ -26,31 +26,11 @@ impl<C> Model for Item<C> {
 
     ghost Value = { Kept C };
 
-    ghost use Rattle.pm_history.specs.Forms.{seen};
+    ghost use Rattle.pm_history.specs.Forms.{seen, Holds};
 
     ghost view = { λ i. seen i.form };
-}
 
-/// How an item is held. `Still`: another's step without a range. `Ranged`: another's step with one range, whose numbers are
-/// small. `Whole`: any other.
-#[derive(Drop)]
-pub enum Form<C> {
-    Still,
-    Ranged {
-        start: u32,
-        old_size: u32,
-        new_size: u32,
-    },
-    Whole(Box<Whole<C>>),
-}
-
-/// All that is kept of a step.
-#[derive(Drop)]
-pub struct Whole<C> {
-    pub name: Option<Name>,
-    pub map: StepMap,
-    pub inverse: Listed<C>,
-    pub undoes: Option<Name>,
+    ghost invariant = { λ i. Holds i.form };
 }
 
 impl<C> Item<C> {
@@ -70,7 +50,7 @@ impl<C> Item<C> {
             undoes: None,
         };
         Ok(Item {
-            form: Form::Whole(Box::new(alloc, whole)?),
+            form: held(alloc, whole)?,
         })
     }
 
@@ -93,7 +73,7 @@ impl<C> Item<C> {
             undoes,
         };
         Ok(Item {
-            form: Form::Whole(Box::new(alloc, whole)?),
+            form: held(alloc, whole)?,
         })
     }
 
@@ -102,7 +82,7 @@ impl<C> Item<C> {
         ensures { result ≡ self.now.name }
     {
         match &self.form {
-            Form::Whole(whole) => whole.name,
+            Form::Whole { whole, .. } => whole.name,
             _ => None,
         }
     }
@@ -118,7 +98,7 @@ impl<C> Item<C> {
                 old_size,
                 new_size,
             } => ranged(*start, *old_size, *new_size),
-            Form::Whole(whole) => whole.map.copy(),
+            Form::Whole { whole, .. } => whole.map.copy(),
         }
     }
 
@@ -128,20 +108,11 @@ impl<C> Item<C> {
         ensures moved { result ≡ moved self.now.map pos side }
         ensures back { IfSome result.recover (IsIn self.now.map) }
     {
-        match self.passed(pos) {
-            Some(pos) => Moved {
-                pos,
-                deleted: false,
-                across: false,
-                after: false,
-                recover: None,
-            },
-            None => self.map().map(pos, side),
-        }
+        self.map().map(pos, side)
     }
 
     /// Where a position goes that stands before or behind all ranges of the step, as most do. None where this is not seen at once.
-    fn passed(&self, pos: u64) -> Option<u64>
+    pub(crate) fn passed(&self, pos: u64) -> Option<u64>
         requires { ((side : Side) × ((moved self.now.map pos side).pos < 2 ^ 64)) }
         ensures { IfSome result (λ p. (side : Side) → moved self.now.map pos side ≡ kept_at p) }
     {
@@ -152,7 +123,21 @@ impl<C> Item<C> {
                 old_size,
                 new_size,
             } => shifted(span_of(*start, *old_size, *new_size), pos),
-            Form::Whole(whole) => passed_by(&whole.map, pos),
+            Form::Whole {
+                old_size,
+                new_size,
+                start,
+                whole,
+                ..
+            } => {
+                if pos < *start as u64 {
+                    Some(pos)
+                } else if *old_size != NOT_HELD {
+                    shifted(span_of(*start, *old_size as u32, *new_size as u32), pos)
+                } else {
+                    passed_by(&whole.map, pos)
+                }
+            }
         }
     }
 
@@ -161,7 +146,7 @@ impl<C> Item<C> {
         ensures { result.now ≡ self.now.inverse }
     {
         match &self.form {
-            Form::Whole(whole) => whole.inverse.as_slice(),
+            Form::Whole { whole, .. } => whole.inverse.as_slice(),
             _ => &[],
         }
     }
@@ -171,7 +156,7 @@ impl<C> Item<C> {
         ensures { result ≡ self.now.undoes }
     {
         match &self.form {
-            Form::Whole(whole) => whole.undoes,
+            Form::Whole { whole, .. } => whole.undoes,
             _ => None,
         }
     }
@@ -181,7 +166,7 @@ impl<C> Item<C> {
         ensures { result ≡ brings_back self.now }
     {
         match &self.form {
-            Form::Whole(whole) => whole.undoes.is_some() && puts_in(&whole.map),
+            Form::Whole { brings_back, .. } => *brings_back,
             _ => false,
         }
     }
@@ -192,7 +177,7 @@ impl<C> Item<C> {
         C: Drop,
         ensures { self.new ≡ record self.old { inverse = [] } }
     {
-        if let Form::Whole(whole) = &mut self.form {
+        if let Form::Whole { whole, .. } = &mut self.form {
             whole.inverse = Listed::new(alloc);
         }
     }
@@ -202,56 +187,15 @@ impl<C> Item<C> {
         requires { self.old.name ≡ None → undoes ≡ None }
         ensures { self.new ≡ record self.old { undoes = undoes } }
     {
-        if let Form::Whole(whole) = &mut self.form {
+        if let Form::Whole {
+            brings_back,
+            whole,
+            ..
+        } = &mut self.form
+        {
+            *brings_back = restores(undoes, &whole.map);
             whole.undoes = undoes;
         }
-    }
-}
-
-/// The form of another's step with this map, where it takes no memory.
-fn small<C>(map: &StepMap) -> Option<Form<C>>
-    ensures { IfSome result (λ f. seen f ≡ foreign_item map.now) }
-{
-    match (map.span(0), map.span(1)) {
-        (None, _) => Some(Form::Still),
-        (Some(span), None) => narrow(span),
-        _ => None,
-    }
-}
-
-/// The form of another's step with this range alone, where its numbers are small.
-fn narrow<C>(span: Span) -> Option<Form<C>>
-    ensures { IfSome result (λ f. seen f ≡ foreign_item (span ∷ [])) }
-{
-    match (
-        u32::try_from(span.start),
-        u32::try_from(span.old_size),
-        u32::try_from(span.new_size),
-    ) {
-        (Ok(start), Ok(old_size), Ok(new_size)) => Some(Form::Ranged {
-            start,
-            old_size,
-            new_size,
-        }),
-        _ => None,
-    }
-}
-
-/// The map of one range.
-fn ranged(start: u32, old_size: u32, new_size: u32) -> StepMap
-    ensures { result ≡ record { start = start; old_size = old_size; new_size = new_size } ∷ [] }
-{
-    StepMap::new(Some(span_of(start, old_size, new_size)), None, false)
-}
-
-/// A range with small numbers.
-fn span_of(start: u32, old_size: u32, new_size: u32) -> Span
-    ensures { result ≡ record { start = start; old_size = old_size; new_size = new_size } }
-{
-    Span {
-        start: start as u64,
-        old_size: old_size as u64,
-        new_size: new_size as u64,
     }
 }
 

@@ -1,17 +1,16 @@
 //! The items behind a step, over whose maps positions go.
-ghost use Rattle.std.specs.Prelude.{◌≡◌, ◌<◌, ◌≤◌, ◌+◌, ◌++◌, ◌^◌, ◌&&◌, drop, length, nat_lt, slice_index_or, Some, None, true, false, IfOk};
-ghost use Rattle.std.specs.List.{AllByRecursion as Each};
+ghost use Rattle.std.specs.Prelude.{◌≡◌, ◌<◌, ◌≤◌, ◌+◌, ◌++◌, ◌^◌, ◌&&◌, drop, length, nat_lt, slice_index_or, Some, IfOk};
 ghost use Rattle.pm_map.specs.Moves.{moved, is_before, kept_at};
 ghost use Rattle.pm_map.specs.Mirrors.{may_mirror};
 ghost use Rattle.pm_map.specs.Through.{HasRoom, IsIn, joined, stepped, skipped, through};
 ghost use Rattle.pm_history.specs.declared.item.Item.{Item};
-ghost use Rattle.pm_history.specs.Items.{one_step, brings_back};
+ghost use Rattle.pm_history.specs.Items.{one_step};
 ghost use Rattle.pm_history.specs.Laters.{items_of, entry_at, IsTold, TellsAll, TellsOf};
 ghost use Rattle.pm_history.specs.Pairs.{later_in, paired};
 ghost use Rattle.pm_history.specs.Undoers.{IsTableOf};
 
 use crate::item::{Item, one_step};
-use crate::undoers::Undoers;
+use crate::undoers::{Undoers, restorers_of, undoers_of};
 use pm_change::Name;
 use pm_map::{Mirrored, Moved, Positions, Recover, Side};
 use std::alloc::{AllocError, Global};
@@ -126,7 +125,8 @@ impl<'a, C> Later<'a, C> {
         i < place && one_step(item.name(), other.undoes()) && other.map().mirrors(&item.map())
     }
 
-    /// Where the position `pos` goes over all maps by its side, as `Mapping::map` says it.
+    /// Where the position `pos` goes over all maps by its side, as `Mapping::map` says it. Most maps it stands in front of or
+    /// behind: then it stays whole, and only its place changes.
     fn map(&self, pos: u64, side: Side) -> Moved
         requires room { HasRoom (paired (items_of self.now)) 0 (is_before side) (kept_at pos) }
         requires told { IsTold self.now.undoers (items_of self.now) }
@@ -142,9 +142,14 @@ impl<'a, C> Later<'a, C> {
         };
         let mut i = 0;
         while i < count {
-            let next = self.over(i, so, side);
-            so = next.so;
-            i += 1 + next.skip;
+            if let Some(pos) = self.at(i).passed(so.pos) {
+                so.pos = pos;
+                i += 1;
+            } else {
+                let next = self.over(i, so, side);
+                so = next.so;
+                i += 1 + next.skip;
+            }
         }
         so
     }
@@ -226,62 +231,6 @@ impl<'a, C> Positions for Later<'a, C> {
     }
 
     ghost fits = { λ l ms n k h. (h.paired_are, h.fits) };
-}
-
-/// The table of these items, where one of them brings tokens back.
-fn restorers_of<C>(
-    alloc: Global,
-    items: &[Item<C>],
-    made: &[Item<C>],
-) -> Result<Option<Undoers>, AllocError>
-    ensures { IfOk result (λ o. IsTold o (items.now ++ made.now)) }
-{
-    if none_brings_back(made) && none_brings_back(items) {
-        return Ok(None);
-    }
-    Ok(Some(Undoers::of(alloc, items, made)?))
-}
-
-/// Whether none of these items brings tokens back. The last one is looked at first, since undos come last.
-fn none_brings_back<C>(items: &[Item<C>]) -> bool
-    ensures all { result ≡ true → Each (λ i. brings_back i ≡ false) items.now }
-    ensures some { result ≡ false → 0 < length items.now }
-{
-    let mut i = items.len();
-    while i > 0 {
-        i -= 1;
-        if items[i].brings_back() {
-            return false;
-        }
-    }
-    true
-}
-
-/// The table of these items, where one of them undoes a step.
-fn undoers_of<C>(
-    alloc: Global,
-    items: &[Item<C>],
-    made: &[Item<C>],
-) -> Result<Option<Undoers>, AllocError>
-    ensures { IfOk result (λ o. TellsAll o (items.now ++ made.now)) }
-{
-    if none_undoes(items) && none_undoes(made) {
-        return Ok(None);
-    }
-    Ok(Some(Undoers::of(alloc, items, made)?))
-}
-
-/// Whether none of these items undoes a step.
-fn none_undoes<C>(items: &[Item<C>]) -> bool
-    ensures all { result ≡ true → Each (λ i. i.undoes ≡ None) items.now }
-    ensures some { result ≡ false → 0 < length items.now }
-{
-    for item in items {
-        if item.undoes().is_some() {
-            return false;
-        }
-    }
-    true
 }
 
 /// The position after a map without a jump.

@@ -8,6 +8,7 @@
 mod branch;
 mod branches;
 mod dropped;
+mod form;
 mod item;
 mod later;
 mod latest;

@@ -2,7 +2,8 @@
 ghost use Rattle.std.specs.Prelude.{◌≡◌, ◌<◌, ◌+◌, ◌^◌, [], ◌∷◌, IfSome};
 ghost use Rattle.pm_map.specs.declared.side.Side.{Side};
 ghost use Rattle.pm_map.specs.Moves.{moved, kept_at};
-ghost use Rattle.pm_history.specs.Items.{puts_in, is_filled};
+ghost use Rattle.pm_history.specs.Fillings.{puts_in, is_filled};
+ghost use Rattle.pm_history.specs.Forms.{StartsFrom};
 
 use pm_map::{Span, StepMap};
 
@@ -32,6 +33,16 @@ pub fn shifted(range: Span, pos: u64) -> Option<u64>
         return Some(pos - range.old_size + range.new_size);
     }
     None
+}
+
+/// A place in front of which a position stays where it is, over the ranges of this map: where the first one starts.
+pub fn still_before(map: &StepMap) -> u32
+    ensures { StartsFrom result map.now }
+{
+    match map.span(0) {
+        Some(range) => range.start.min(u32::MAX as u64) as u32,
+        None => u32::MAX,
+    }
 }
 
 /// Whether a range of this map puts tokens in.

@@ -1,6 +1,9 @@
 //! The items that were made to undo steps.
-ghost use Rattle.std.specs.Prelude.{◌≡◌, ◌<◌, ◌%◌, ◌∷◌, ◌++◌, [], List, length, None, slice_index_or, slice_set, Some, IfOk, OnOk};
+ghost use Rattle.std.specs.Prelude.{◌≡◌, ◌<◌, ◌%◌, ◌∷◌, ◌++◌, [], List, length, None, slice_index_or, slice_set, Some, true, false, IfOk, OnOk};
 ghost use Rattle.pm_history.specs.declared.item.Item.{Item};
+ghost use Rattle.std.specs.List.{AllByRecursion as Each};
+ghost use Rattle.pm_history.specs.Items.{brings_back};
+ghost use Rattle.pm_history.specs.Laters.{IsTold, TellsAll};
 ghost use Rattle.pm_history.specs.Undoers.{IsTableOf};
 
 use crate::item::Item;
@@ -88,4 +91,61 @@ fn remainder(serial: u64, count: usize) -> usize
     ensures { result ≡ serial % count }
 {
     (serial % count as u64) as usize
+}
+
+/// The table of these items, where one of them brings tokens back.
+pub fn restorers_of<C>(
+    alloc: Global,
+    items: &[Item<C>],
+    made: &[Item<C>],
+) -> Result<Option<Undoers>, AllocError>
+    ensures { IfOk result (λ o. IsTold o (items.now ++ made.now)) }
+{
+    if none_brings_back(made) && none_brings_back(items) {
+        return Ok(None);
+    }
+    Ok(Some(Undoers::of(alloc, items, made)?))
+}
+
+/// Whether none of these items brings tokens back, which is told without a look at what they keep. The last one is looked at
+/// first, since undos come last.
+fn none_brings_back<C>(items: &[Item<C>]) -> bool
+    ensures all { result ≡ true → Each (λ i. brings_back i ≡ false) items.now }
+    ensures some { result ≡ false → 0 < length items.now }
+{
+    let mut i = items.len();
+    while i > 0 {
+        i -= 1;
+        if items[i].brings_back() {
+            return false;
+        }
+    }
+    true
+}
+
+/// The table of these items, where one of them undoes a step.
+pub fn undoers_of<C>(
+    alloc: Global,
+    items: &[Item<C>],
+    made: &[Item<C>],
+) -> Result<Option<Undoers>, AllocError>
+    ensures { IfOk result (λ o. TellsAll o (items.now ++ made.now)) }
+{
+    if none_undoes(items) && none_undoes(made) {
+        return Ok(None);
+    }
+    Ok(Some(Undoers::of(alloc, items, made)?))
+}
+
+/// Whether none of these items undoes a step.
+fn none_undoes<C>(items: &[Item<C>]) -> bool
+    ensures all { result ≡ true → Each (λ i. i.undoes ≡ None) items.now }
+    ensures some { result ≡ false → 0 < length items.now }
+{
+    for item in items {
+        if item.undoes().is_some() {
+            return false;
+        }
+    }
+    true
 }

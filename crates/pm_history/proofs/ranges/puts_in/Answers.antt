@@ -1,6 +1,6 @@
 use Rattle.std.proofs.Common.{◌≡◌, ◌||◌, ◌∙◌, ap, sym, true, false}
 use Rattle.pm_map.specs.Through.{range_at}
-use Rattle.pm_history.specs.Items.{is_filled}
+use Rattle.pm_history.specs.Fillings.{is_filled}
 use Rattle.pm_history.proofs.Restorers.{puts-two}
 use Rattle.pm_history.proofs.ranges.puts_in.Goals as goal
 

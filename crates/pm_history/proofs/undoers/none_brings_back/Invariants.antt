@@ -2,7 +2,7 @@ use Rattle.std.proofs.Common.{◌≡◌, ◌≤◌, drop, length, false}
 use Rattle.std.specs.List.{AllByRecursion as Each}
 use Rattle.pm_history.specs.declared.item.Item.{Item}
 use Rattle.pm_history.specs.Items.{brings_back}
-use Rattle.pm_history.proofs.later.none_brings_back.Given as goal
+use Rattle.pm_history.proofs.undoers.none_brings_back.Given as goal
 
 abbrev pub invariant-loop-i : goal.invariant-loop-i
 invariant-loop-i g l = record {
