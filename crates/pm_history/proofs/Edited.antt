@@ -10,7 +10,7 @@ use Rattle.pm_history.specs.declared.branch.Event.{Event}
 use Rattle.pm_history.specs.declared.branches.Branches.{Branches}
 use Rattle.pm_history.specs.declared.branches.MadeBy.TheVariants.{Edit}
 use Rattle.pm_history.specs.Items.{same_name, one_step, foreign_item}
-use Rattle.pm_history.specs.Histories.{event_of, extended, put_event, noted, noted_own, opens, holds}
+use Rattle.pm_history.specs.Histories.{event_of, extended, put_event, noted_own, opens, holds}
 use Rattle.pm_history.specs.Timelines.{Step, changes_of, item_at, items_from}
 use Rattle.pm_history.specs.Tidy.{NotNamed, NamesDiffer, NoneUndoes, NoRangeUndoes, Once, Differ, IsTidy}
 use Rattle.pm_history.specs.Remembers.{names_of, live_names, Lacks, StandsFor, StandFor, Remembers}

@@ -108,9 +108,17 @@ module _ {C : Type 0} where
   tells-each (Some u) is k h = h
   tells-each None is k h = at is k h
     where
-      at : (is : List (Item C)) (k : ℕ) → Each (λ (i : Item C). i.undoes ≡ None) is → (entry_at is k).later ≡ None
+      nothing : (o : Option Name) → is_some o ≡ false → o ≡ None
+      nothing None h = refl
+      nothing (Some a) h = absurd (true≢false h)
+
+      none-undoes : (is : List (Item C)) → Each (λ (i : Item C). is_some i.undoes ≡ false) is → Each (λ (i : Item C). i.undoes ≡ None) is
+      none-undoes [] h = tt
+      none-undoes (i ∷ is) h = (nothing i.undoes h.0, none-undoes is h.1)
+
+      at : (is : List (Item C)) (k : ℕ) → Each (λ (i : Item C). is_some i.undoes ≡ false) is → (entry_at is k).later ≡ None
       at [] k h = refl
-      at (i ∷ is) zero h = later-untold i.name i.map is h.1
+      at (i ∷ is) zero h = later-untold i.name i.map is (none-undoes is h.1)
       at (i ∷ is) (suc k) h = at is k h.1
 
 -- a map has at most two ranges, and each is looked at

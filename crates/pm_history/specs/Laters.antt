@@ -1,6 +1,7 @@
 -- The items behind a step, and how positions go over their maps.
-use Rattle.std.specs.Prelude.{◌≡◌, false, ℕ, zero, suc, List, [], ◌∷◌, ◌++◌, Option, Some, None}
+use Rattle.std.specs.Prelude.{◌≡◌, Bool, true, false, ℕ, zero, suc, List, [], ◌∷◌, ◌++◌, Option, Some, None}
 use Rattle.std.specs.List.{AllByRecursion as Each}
+use Rattle.std.specs.Option.{is_some}
 use Rattle.pm_map.specs.declared.mapping.Mirrored.{Mirrored}
 use Rattle.pm_map.specs.Fits.{FitBetween}
 use Rattle.pm_map.specs.Through.{ArePaired}
@@ -22,15 +23,24 @@ module _ {C : Type 0} where
   entry_at (i ∷ is) zero = record { map = i.map; later = later_in i.name i.map is }
   entry_at (i ∷ is) (suc k) = entry_at is k
 
-  -- the table of these items; where there is none, none of them brings tokens back
-  abbrev pub IsTold : Option Undoers → List (Item C) → Type 0
-  IsTold None is = Each (λ i. brings_back i ≡ false) is
-  IsTold (Some u) is = IsTableOf u is
+  -- whether a table is made for this item: to tell of all items for each that undoes a step, and to tell positions for each that
+  -- brings tokens back
+  abbrev pub is_told : Bool → Item C → Bool
+  is_told true i = is_some i.undoes
+  is_told false i = brings_back i
 
-  -- the same where it tells of each item; where there is none, none of them undoes a step
+  -- the table of these items; there is none where it is made for none of them
+  abbrev pub Tells : Bool → Option Undoers → List (Item C) → Type 0
+  Tells all None is = Each (λ i. is_told all i ≡ false) is
+  Tells all (Some u) is = IsTableOf u is
+
+  -- it tells positions
+  abbrev pub IsTold : Option Undoers → List (Item C) → Type 0
+  IsTold o is = Tells false o is
+
+  -- it tells of all items
   abbrev pub TellsAll : Option Undoers → List (Item C) → Type 0
-  TellsAll None is = Each (λ i. i.undoes ≡ None) is
-  TellsAll (Some u) is = IsTableOf u is
+  TellsAll o is = Tells true o is
 
   -- the same where it tells of the item at this place; where there is none, that item has no mirror
   abbrev pub TellsOf : Option Undoers → List (Item C) → ℕ → Type 0

@@ -63,7 +63,7 @@ where
     })
 }
 
-/// The sizes of the one range of this map, which starts here, where they are small.
+/// The sizes of the one range of this map, where it starts here and they are small.
 fn short(map: &StepMap, start: u32) -> (u8, u8)
     ensures { IsShort start result.0 result.1 map.now }
 {
@@ -73,7 +73,7 @@ fn short(map: &StepMap, start: u32) -> (u8, u8)
     }
 }
 
-/// The sizes of this range, which starts here, where they are small.
+/// The sizes of this range, where it starts here and they are small.
 fn short_range(range: Span, start: u32) -> (u8, u8)
     ensures { IsShort start result.0 result.1 (range ∷ []) }
 {

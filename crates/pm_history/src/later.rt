@@ -10,7 +10,7 @@ ghost use Rattle.pm_history.specs.Pairs.{later_in, paired};
 ghost use Rattle.pm_history.specs.Undoers.{IsTableOf};
 
 use crate::item::{Item, one_step};
-use crate::undoers::{Undoers, restorers_of, undoers_of};
+use crate::undoers::{Undoers, table_of};
 use pm_change::Name;
 use pm_map::{Mirrored, Moved, Positions, Recover, Side};
 use std::alloc::{AllocError, Global};
@@ -45,7 +45,7 @@ impl<'a, C> Later<'a, C> {
         Ok(Later {
             items,
             made,
-            undoers: restorers_of(alloc, items, made)?,
+            undoers: table_of(alloc, items, made, false)?,
         })
     }
 
@@ -61,7 +61,7 @@ impl<'a, C> Later<'a, C> {
         Ok(Later {
             items,
             made,
-            undoers: undoers_of(alloc, items, made)?,
+            undoers: table_of(alloc, items, made, true)?,
         })
     }
 

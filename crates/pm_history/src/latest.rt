@@ -49,7 +49,7 @@ fn looked_for<C>(name: Name, items: &[Item<C>]) -> usize
     items.len()
 }
 
-/// How many items are looked at before a guess is given up.
+/// How many items are looked at where the serials lead, before each one is.
 const MOST_GUESSES: usize = 64;
 
 /// Where the item of this name may stand. A client's steps stand in the order of their serials, of which few are missing, so an
@@ -71,7 +71,7 @@ fn guess<C>(name: Name, items: &[Item<C>]) -> usize
     place
 }
 
-/// The place to look at behind this one, where `found` was. Another's step tells nothing: then it is the one before.
+/// The place to look at next, where this one has `found`. Another's step tells nothing: then it is the one before.
 fn next_guess(name: Name, found: Option<Name>, place: usize, last: usize) -> usize
     requires { place ≤ last }
     ensures { result ≤ last }

@@ -2,8 +2,7 @@
 ghost use Rattle.std.specs.Prelude.{◌≡◌, ◌<◌, ◌%◌, ◌∷◌, ◌++◌, [], List, length, None, slice_index_or, slice_set, Some, true, false, IfOk, OnOk};
 ghost use Rattle.pm_history.specs.declared.item.Item.{Item};
 ghost use Rattle.std.specs.List.{AllByRecursion as Each};
-ghost use Rattle.pm_history.specs.Items.{brings_back};
-ghost use Rattle.pm_history.specs.Laters.{IsTold, TellsAll};
+ghost use Rattle.pm_history.specs.Laters.{is_told, Tells};
 ghost use Rattle.pm_history.specs.Undoers.{IsTableOf};
 
 use crate::item::Item;
@@ -93,59 +92,44 @@ fn remainder(serial: u64, count: usize) -> usize
     (serial % count as u64) as usize
 }
 
-/// The table of these items, where one of them brings tokens back.
-pub fn restorers_of<C>(
+/// The table of these items, where it is made for one of them: to tell of `all` items where one undoes a step, and to tell
+/// positions where one brings tokens back.
+pub fn table_of<C>(
     alloc: Global,
     items: &[Item<C>],
     made: &[Item<C>],
+    all: bool,
 ) -> Result<Option<Undoers>, AllocError>
-    ensures { IfOk result (λ o. IsTold o (items.now ++ made.now)) }
+    ensures { IfOk result (λ o. Tells all o (items.now ++ made.now)) }
 {
-    if none_brings_back(made) && none_brings_back(items) {
+    if none_told(made, all) && none_told(items, all) {
         return Ok(None);
     }
     Ok(Some(Undoers::of(alloc, items, made)?))
 }
 
-/// Whether none of these items brings tokens back, which is told without a look at what they keep. The last one is looked at
-/// first, since undos come last.
-fn none_brings_back<C>(items: &[Item<C>]) -> bool
-    ensures all { result ≡ true → Each (λ i. brings_back i ≡ false) items.now }
+/// Whether a table is made for none of these items. The last one is looked at first, since undos come last.
+fn none_told<C>(items: &[Item<C>], all: bool) -> bool
+    ensures none { result ≡ true → Each (λ i. is_told all i ≡ false) items.now }
     ensures some { result ≡ false → 0 < length items.now }
 {
     let mut i = items.len();
     while i > 0 {
         i -= 1;
-        if items[i].brings_back() {
+        if is_told(&items[i], all) {
             return false;
         }
     }
     true
 }
 
-/// The table of these items, where one of them undoes a step.
-pub fn undoers_of<C>(
-    alloc: Global,
-    items: &[Item<C>],
-    made: &[Item<C>],
-) -> Result<Option<Undoers>, AllocError>
-    ensures { IfOk result (λ o. TellsAll o (items.now ++ made.now)) }
+/// Whether a table is made for this item. What brings tokens back is told without a look at what the item keeps.
+fn is_told<C>(item: &Item<C>, all: bool) -> bool
+    ensures { result ≡ is_told all item.now }
 {
-    if none_undoes(items) && none_undoes(made) {
-        return Ok(None);
+    if all {
+        item.undoes().is_some()
+    } else {
+        item.brings_back()
     }
-    Ok(Some(Undoers::of(alloc, items, made)?))
-}
-
-/// Whether none of these items undoes a step.
-fn none_undoes<C>(items: &[Item<C>]) -> bool
-    ensures all { result ≡ true → Each (λ i. i.undoes ≡ None) items.now }
-    ensures some { result ≡ false → 0 < length items.now }
-{
-    for item in items {
-        if item.undoes().is_some() {
-            return false;
-        }
-    }
-    true
 }
