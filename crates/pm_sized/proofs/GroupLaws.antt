@@ -116,7 +116,7 @@ module _ {T : Type 0} (g : Groups T) (at : ℕ) (h : IsGrouped g) where
       }
 
   pub inside : at ≤ length (parts_of g) → Inside g at (part_of g at)
-  inside l = elim (cases_lt at (length (parts_of g))) [ | inl b ↦ inside-part b | inr b ↦ inside-rest l b ]
+  inside l = elim (cases_lt at (length (parts_of g))) [ inl b ↦ inside-part b | inr b ↦ inside-rest l b ]
 
 -- all items count, so there are no more of them than measures
 pub group-few : {T : Type 0} (g : Groups T) → IsGrouped g → length (group_pairs g) ≤ total_of (group_pairs g)

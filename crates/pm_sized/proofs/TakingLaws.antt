@@ -149,8 +149,8 @@ module _ {T : Type 0} (g : Groups (Arc T Global)) (at i to from end : ℕ) (m : 
       let all : group_values g ≡ VA ++ (VB ++ VC) = ap (λ z. values_in z) a.split ∙ (values-append A (B ++ a.behind) ∙ ap (λ z. VA ++ z) (values-append B a.behind)) in
       let high : i + (e - from) ≡ length VA + e = omega (arith, at-is, o) in
       sym (
-        ap (λ z. part i (i + (e - from)) z) all ∙ (ap (λ z. part z (i + (e - from)) (VA ++ (VB ++ VC))) at-is ∙ (ap (λ z. part (length VA + from) z (VA ++ (VB ++ VC))) high
-        ∙ (part-middle VA VB VC from e o (omega (arith, l, ap (λ z. length (many_values z)) t.is)) ∙ ap (λ z. part from e (many_values z)) (sym t.is))))
+      ap (λ z. part i (i + (e - from)) z) all ∙ (ap (λ z. part z (i + (e - from)) (VA ++ (VB ++ VC))) at-is ∙ (ap (λ z. part (length VA + from) z (VA ++ (VB ++ VC))) high
+      ∙ (part-middle VA VB VC from e o (omega (arith, l, ap (λ z. length (many_values z)) t.is)) ∙ ap (λ z. part from e (many_values z)) (sym t.is))))
       )
 
   pub room-seen : (now : ℕ) → now + total_of (part i to (group_values g)) < 2 ^ 32 → now + total_of (part from end (many_values m)) < 2 ^ 32
