@@ -10,6 +10,26 @@ use Rattle.pm_sized.specs.declared.many.Many.{Many}
 use Rattle.pm_sized.specs.Pairs.{chunk_pairs, all_pairs, many_pairs, arc_values, total_of, IsChunk, AreFull, AreChunks, IsMany}
 use Rattle.pm_sized.proofs.PairLaws.{chunk-at, chunk-split, count-chunks, total_of-append}
 
+-- what is shared: as many as there are, the first of them, one more, and number i
+module _ {A : Type 0} where
+  pub length-shared : (xs : List (Arc A Global)) → length (arc_values xs) ≡ length xs
+  length-shared [] = refl
+  length-shared (x ∷ xs) = omega (arith, length-shared xs)
+
+  pub shared-take : (n : ℕ) (xs : List (Arc A Global)) → arc_values (take n xs) ≡ take n (arc_values xs)
+  shared-take zero xs = refl
+  shared-take (suc n) [] = refl
+  shared-take (suc n) (x ∷ xs) = ap (λ z. arc_value x ∷ z) (shared-take n xs)
+
+  pub shared-push : (xs : List (Arc A Global)) (x : Arc A Global) → arc_values (xs ++ x ∷ []) ≡ arc_values xs ++ arc_value x ∷ []
+  shared-push [] x = refl
+  shared-push (y ∷ xs) x = ap (λ z. arc_value y ∷ z) (shared-push xs x)
+
+  pub shared-at : (xs : List (Arc A Global)) (i : ℕ) (x : Arc A Global) (d : A) → i < length xs → x ≡ get_or xs i x → arc_value x ≡ get_or (arc_values xs) i d
+  shared-at [] i x d l e = absurd (omega (arith, l))
+  shared-at (y ∷ xs) zero x d l e = ap arc_value e
+  shared-at (y ∷ xs) (suc i) x d l e = shared-at xs i x d (omega (arith, l)) e
+
 -- chunks that share what the first i of others do
 pub record Copied {T : Type 0} (made : Many T) (all : List (Arc (Chunk T) Global)) (i : ℕ) : Type 0 where
   pub laid : IsMany made
@@ -37,10 +57,6 @@ module _ {T : Type 0} where
   full-take cs zero h l = tt
   full-take [] (suc i) h l = tt
   full-take (c ∷ cs) (suc i) h l = (h.1 (omega (arith, l)), full-take cs i h.2 (omega (arith, l)))
-
-  shared-push : (cs : List (Arc (Chunk T) Global)) (c : Arc (Chunk T) Global) → arc_values (cs ++ c ∷ []) ≡ arc_values cs ++ arc_value c ∷ []
-  shared-push [] c = refl
-  shared-push (d ∷ cs) c = ap (λ z. arc_value d ∷ z) (shared-push cs c)
 
   pub none-in : (made : Many T) → IsMany made → many_pairs made ≡ [] → made.chunks.items ≡ []
   none-in made h e = nil_from_length made.chunks.items (omega (arith, count-chunks made.chunks.items h.chunks, ap length e))

@@ -16,23 +16,10 @@ use Rattle.pm_sized.specs.Pairs.{chunk_pairs, many_pairs, all_pairs, arc_values,
 use Rattle.pm_sized.proofs.PairLaws.{total_of-append, counts-few}
 use Rattle.pm_sized.proofs.PartLaws.{counts-append, chunks-count}
 use Rattle.pm_sized.proofs.FindLaws.{stands-among, chunk-count}
+use Rattle.pm_sized.proofs.CopyLaws.{shared-push}
 use Rattle.pm_sized.proofs.HalfLaws.{digits-above}
 use Rattle.pm_sized.specs.Bound.{digits, find_bound}
 use Rattle.std.proofs.Math.Nat.{pow-suc}
-
-module _ {A : Type 0} where
-  pub length-arcs : (xs : List (Arc A Global)) → length (arc_values xs) ≡ length xs
-  length-arcs [] = refl
-  length-arcs (x ∷ xs) = omega (arith, length-arcs xs)
-
-  pub arcs-push : (xs : List (Arc A Global)) (x : Arc A Global) → arc_values (xs ++ x ∷ []) ≡ arc_values xs ++ arc_value x ∷ []
-  arcs-push [] x = refl
-  arcs-push (y ∷ xs) x = ap (λ z. arc_value y ∷ z) (arcs-push xs x)
-
-  pub arc-at : (xs : List (Arc A Global)) (i : ℕ) (x : Arc A Global) (d : A) → i < length xs → x ≡ get_or xs i x → arc_value x ≡ get_or (arc_values xs) i d
-  arc-at [] i x d l e = absurd (omega (arith, l))
-  arc-at (y ∷ xs) zero x d l e = ap arc_value e
-  arc-at (y ∷ xs) (suc i) x d l e = arc-at xs i x d (omega (arith, l)) e
 
 module _ {T : Type 0} where
   pub each-append : (ms ns : List (Many T)) → each_pairs (ms ++ ns) ≡ each_pairs ms ++ each_pairs ns
@@ -42,10 +29,10 @@ module _ {T : Type 0} where
   pub each-push : (ms : List (Many T)) (m : Many T) → each_pairs (ms ++ m ∷ []) ≡ each_pairs ms ++ many_pairs m
   each-push ms m = each-append ms (m ∷ []) ∙ ap (λ z. each_pairs ms ++ z) (append-nil (many_pairs m))
 
-  pub part-at : (ms : List (Many T)) (i : ℕ) (d : Many T) → AreParts ms → i < length ms → IsPart (get_or ms i d)
-  part-at [] i d h l = absurd (omega (arith, l))
-  part-at (m ∷ ms) zero d h l = h.0
-  part-at (m ∷ ms) (suc i) d h l = part-at ms i d h.1 (omega (arith, l))
+  pub part-among : (ms : List (Many T)) (i : ℕ) (d : Many T) → AreParts ms → i < length ms → IsPart (get_or ms i d)
+  part-among [] i d h l = absurd (omega (arith, l))
+  part-among (m ∷ ms) zero d h l = h.0
+  part-among (m ∷ ms) (suc i) d h l = part-among ms i d h.1 (omega (arith, l))
 
   pub parts-push : (ms : List (Many T)) (m : Many T) → AreParts ms → IsPart m → AreParts (ms ++ m ∷ [])
   parts-push [] m h k = (k, tt)
@@ -87,7 +74,7 @@ module _ {T : Type 0} (g : Groups T) (at : ℕ) (h : IsGrouped g) where
       let R = many_pairs g.rest in
       let more = each-more ms at g.rest l in
       record {
-        laid = (part-at ms at g.rest h.parts l).laid;
+        laid = (part-among ms at g.rest h.parts l).laid;
         behind = C ++ R;
         split = ap (λ z. z ++ R) (each-split ms at g.rest l) ∙ (append_assoc A (B ++ C) R ∙ ap (λ z. A ++ z) (append_assoc B C R));
         start = h.starts at (omega (arith, l));
@@ -179,7 +166,7 @@ pub grouped-push : {T : Type 0} (ps qs : Vec (Arc (Many T) Global) Global) (ss t
 grouped-push {T} ps qs ss ts fs gs r e p start first eq es ef h k laid none start-is first-is bound =
     let ms = arc_values ps.items in
     let m = arc_value p in
-    let now : arc_values qs.items ≡ ms ++ m ∷ [] = ap arc_values eq ∙ arcs-push ps.items p in
+    let now : arc_values qs.items ≡ ms ++ m ∷ [] = ap arc_values eq ∙ shared-push ps.items p in
     let all : each_pairs (ms ++ m ∷ []) ≡ each_pairs ms ++ many_pairs m = each-push ms m in
     let P : List (Many T) → Type 0 = AreParts in
     let S : List ℕ → List (Many T) → Type 0 = λ z w. (i : ℕ) → i ≤ length w → get_or z i 0 ≡ total_of (each_pairs (take i w)) in
@@ -250,7 +237,7 @@ group-steps g at m count before middle after h lt e count-is first bound halves 
           let room = enough-steps (length ms) d (omega (arith, b)) many in
           let one : middle ≤ before + (d - 6) = first (d - 6) (omega (arith, count-is, h.starts_count, room.1)) in
           let few : length m.chunks.items ≤ 2 ^ 6 = elim (cases_lt at (length ms)) [
-            | inl b ↦ omega (arith, ap (λ z. length z.chunks.items) e, (part-at ms at g.rest h.parts b).count)
+            | inl b ↦ omega (arith, ap (λ z. length z.chunks.items) e, (part-among ms at g.rest h.parts b).count)
             | inr b ↦ omega (arith, ap (λ z. length z.chunks.items) (e ∙ get_or_past ms at g.rest b), h.most)
           ] in
           omega (arith, one, halves 6 few, room.0)

@@ -2,23 +2,18 @@
 use Rattle.std.specs.Prelude.{◌≡◌, ℕ, ◌+◌, ◌-◌, ◌≤◌, ◌<◌, ◌^◌, Bool, true, false, if◌then◌else◌, Result, Ok, Err, OnOk, OnErr, List, [], ◌∷◌, ◌++◌, length, take, drop}
 use Rattle.std.specs.declared.sync.Arc.{Arc}
 use Rattle.std.specs.declared.alloc.Global.{Global}
-use Rattle.std.proofs.Common.{refl, ap, sym, ◌∙◌, arith, append_assoc, inl, inr}
+use Rattle.std.proofs.Common.{ap, sym, ◌∙◌, arith, append_assoc, inl, inr}
 use Rattle.std.proofs.lemmas.Bool.{cases_lt}
 use Rattle.std.proofs.lemmas.List.{append-nil, take-take}
 use Rattle.pm_sized.specs.declared.chunk.Chunk.{Chunk}
 use Rattle.pm_sized.specs.declared.many.Many.{Many}
 use Rattle.pm_sized.specs.declared.groups.Groups.{Groups}
-use Rattle.pm_sized.specs.Pairs.{chunk_pairs, many_pairs, each_pairs, parts_of, group_pairs, arc_values, total_of, IsChunk, IsMany, IsGrouped}
+use Rattle.pm_sized.specs.Pairs.{chunk_pairs, many_pairs, each_pairs, parts_of, group_pairs, total_of, IsChunk, IsMany, IsGrouped}
 use Rattle.pm_sized.specs.Parts.{part, all_but_last, values_in, chunk_values, many_values, group_values, HasShortLast, Lengthened, IsRun, HasFirst}
 use Rattle.pm_sized.proofs.PairLaws.{total_of-append}
 use Rattle.pm_sized.proofs.FindLaws.{chunk-size, chunk-count}
 use Rattle.pm_sized.proofs.PartLaws.{part-at, part-none, part-front, part-all, values-append, length-values, total-values, total-part}
 use Rattle.pm_sized.proofs.GrowLaws.{but-last-append}
-
--- as many are shared as there are
-pub length-shared : {A : Type 0} (xs : List (Arc A Global)) → length (arc_values xs) ≡ length xs
-length-shared [] = refl
-length-shared (x ∷ xs) = omega (arith, length-shared xs)
 
 -- what holds where a part was shared, and where it was not
 pub when-shared : {A : Type 0} (b : Bool) (x y z : A) → z ≡ (if b then x else y) → b ≡ true → z ≡ x

@@ -4,7 +4,7 @@ use Rattle.std.specs.declared.sync.Arc.{Arc}
 use Rattle.std.specs.declared.alloc.Global.{Global}
 use Rattle.std.specs.declared.vec.Vec.{Vec}
 use Rattle.std.specs.Arc.{arc_value}
-use Rattle.std.proofs.Common.{zero, suc, refl, ap, sym, ◌∙◌, subst, arith, append_assoc, length-append, length-take}
+use Rattle.std.proofs.Common.{zero, suc, refl, ap, sym, ◌∙◌, subst, arith, length-append, length-take}
 use Rattle.std.proofs.lemmas.List.{append-nil, nil_from_length, get_or-take, take_all, take-take, take_more}
 use Rattle.pm_sized.specs.declared.chunk.Chunk.{Chunk}
 use Rattle.pm_sized.specs.declared.many.Many.{Many}
@@ -13,21 +13,8 @@ use Rattle.pm_sized.specs.Pairs.{all_pairs, many_pairs, arc_values, each_pairs, 
 use Rattle.pm_sized.specs.Parts.{values_in, many_values, group_values, Lengthened}
 use Rattle.pm_sized.proofs.PairLaws.{total_of-append, count-chunks}
 use Rattle.pm_sized.proofs.PartLaws.{values-append, total-values}
-use Rattle.pm_sized.proofs.CopyLaws.{full-shared}
-
--- what is shared
-pub length-shared : {A : Type 0} (xs : List (Arc A Global)) → length (arc_values xs) ≡ length xs
-length-shared [] = refl
-length-shared (x ∷ xs) = omega (arith, length-shared xs)
-
-pub shared-take : {A : Type 0} (n : ℕ) (xs : List (Arc A Global)) → arc_values (take n xs) ≡ take n (arc_values xs)
-shared-take zero xs = refl
-shared-take (suc n) [] = refl
-shared-take (suc n) (x ∷ xs) = ap (λ z. arc_value x ∷ z) (shared-take n xs)
-
-pub shared-push : {A : Type 0} (xs : List (Arc A Global)) (x : Arc A Global) → arc_values (xs ++ x ∷ []) ≡ arc_values xs ++ arc_value x ∷ []
-shared-push [] x = refl
-shared-push (y ∷ xs) x = ap (λ z. arc_value y ∷ z) (shared-push xs x)
+use Rattle.pm_sized.proofs.CopyLaws.{length-shared, shared-take, shared-push, shared-at, full-shared}
+use Rattle.pm_sized.proofs.GroupLaws.{each-push, part-among}
 
 module _ {T : Type 0} where
   -- the last of full chunks is not short
@@ -41,14 +28,6 @@ module _ {T : Type 0} where
     by_one = omega (arith, ap length e, length-append cs (c ∷ []));
     kept = λ h _. absurd (omega (arith, full-last cs (length cs - 1) (omega (arith, h.0)) f h.1));
   }
-
-  -- the pairs of parts
-  pub each-append : (ms ns : List (Many T)) → each_pairs (ms ++ ns) ≡ each_pairs ms ++ each_pairs ns
-  each-append [] ns = refl
-  each-append (m ∷ ms) ns = ap (λ z. many_pairs m ++ z) (each-append ms ns) ∙ sym (append_assoc (many_pairs m) (each_pairs ms) (each_pairs ns))
-
-  pub each-push : (ms : List (Many T)) (m : Many T) → each_pairs (ms ++ m ∷ []) ≡ each_pairs ms ++ many_pairs m
-  each-push ms m = each-append ms (m ∷ []) ∙ ap (λ z. each_pairs ms ++ z) (append-nil (many_pairs m))
 
   -- the first of them, and one more
   pub each-more : (xs : List (Arc (Many T) Global)) (i : ℕ) (x : Arc (Many T) Global) → i < length xs → x ≡ get_or xs i x → each_pairs (arc_values (take (i + 1) xs)) ≡ each_pairs (arc_values (take i xs)) ++ many_pairs (arc_value x)
@@ -65,9 +44,9 @@ module _ {T : Type 0} where
       omega (arith, each-within xs n, total_of-append A (each_pairs (arc_values (take n xs))), total_of-append A (each_pairs (arc_values xs)))
 
   pub part-at : (xs : List (Arc (Many T) Global)) (i : ℕ) (x : Arc (Many T) Global) → AreParts (arc_values xs) → i < length xs → x ≡ get_or xs i x → IsPart (arc_value x)
-  part-at [] i x h l e = absurd (omega (arith, l))
-  part-at (y ∷ xs) zero x h l e = let P : Arc (Many T) Global → Type 0 = λ z. IsPart (arc_value z) in subst P (sym e) h.0
-  part-at (y ∷ xs) (suc i) x h l e = part-at xs i x h.1 (omega (arith, l)) e
+  part-at xs i x h l e =
+      let P : Many T → Type 0 = IsPart in
+      subst P (sym (shared-at xs i x (arc_value x) l e)) (part-among (arc_values xs) i (arc_value x) h (omega (arith, l, length-shared xs)))
 
   pub part-along : (m n : Many T) → n ≡ m → IsPart m → IsPart n
   part-along m n e h = let P : Many T → Type 0 = IsPart in subst P (sym e) h

@@ -1,82 +1,16 @@
 -- A part of groups, or the rest behind them, and what of it is put behind other values.
-use Rattle.std.specs.Prelude.{◌≡◌, ℕ, ◌+◌, ◌-◌, ◌≤◌, ◌<◌, ◌^◌, List, [], ◌∷◌, ◌++◌, length, take, drop, get_or, min}
+use Rattle.std.specs.Prelude.{◌≡◌, ℕ, ◌+◌, ◌-◌, ◌≤◌, ◌<◌, ◌^◌, List, ◌++◌, length, take, get_or, min}
 use Rattle.std.specs.declared.sync.Arc.{Arc}
 use Rattle.std.specs.declared.alloc.Global.{Global}
-use Rattle.std.specs.Arc.{arc_value}
-use Rattle.std.proofs.Common.{zero, suc, refl, ap, sym, ◌∙◌, subst, arith, append_assoc, length-append, inl, inr}
-use Rattle.std.proofs.lemmas.Bool.{cases_lt}
+use Rattle.std.proofs.Common.{refl, ap, sym, ◌∙◌, subst, arith}
 use Rattle.std.proofs.lemmas.Grind.{get_or_default_zero}
-use Rattle.std.proofs.lemmas.List.{append-nil, take_all, take_more, take-append-drop, drop_more, get_or_past}
 use Rattle.pm_sized.specs.declared.many.Many.{Many}
 use Rattle.pm_sized.specs.declared.groups.Groups.{Groups}
-use Rattle.pm_sized.specs.Pairs.{many_pairs, each_pairs, parts_of, part_of, group_pairs, arc_values, total_of, IsMany, IsPart, AreParts, IsGrouped}
+use Rattle.pm_sized.specs.Pairs.{many_pairs, each_pairs, parts_of, part_of, group_pairs, total_of, IsMany, IsGrouped}
 use Rattle.pm_sized.specs.Parts.{part, values_in, many_values, group_values, Appended, HasFirst}
 use Rattle.pm_sized.proofs.PartLaws.{part-all, part-middle, values-append, length-values}
 use Rattle.pm_sized.proofs.AppendLaws.{total-shorter}
-
--- what is shared as number i
-pub shared-at : {A : Type 0} (xs : List (Arc A Global)) (i : ℕ) (x : Arc A Global) (d : A) → i < length xs → x ≡ get_or xs i x → arc_value x ≡ get_or (arc_values xs) i d
-shared-at [] i x d l e = absurd (omega (arith, l))
-shared-at (y ∷ xs) zero x d l e = ap arc_value e
-shared-at (y ∷ xs) (suc i) x d l e = shared-at xs i x d (omega (arith, l)) e
-
-pub part-among : {T : Type 0} (ms : List (Many T)) (i : ℕ) (d : Many T) → AreParts ms → i < length ms → IsPart (get_or ms i d)
-part-among [] i d h l = absurd (omega (arith, l))
-part-among (m ∷ ms) zero d h l = h.0
-part-among (m ∷ ms) (suc i) d h l = part-among ms i d h.1 (omega (arith, l))
-
-each_pairs-append : {T : Type 0} (ms ns : List (Many T)) → each_pairs (ms ++ ns) ≡ each_pairs ms ++ each_pairs ns
-each_pairs-append [] ns = refl
-each_pairs-append (m ∷ ms) ns = ap (λ z. many_pairs m ++ z) (each_pairs-append ms ns) ∙ sym (append_assoc (many_pairs m) (each_pairs ms) (each_pairs ns))
-
--- The pairs before a part or the rest, its own, and those behind.
-pub record AroundPart {T : Type 0} (g : Groups T) (at : ℕ) : Type 0 where
-  pub laid : IsMany (part_of g at)
-  pub behind : List (T × ℕ)
-  pub split : group_pairs g ≡ each_pairs (take at (parts_of g)) ++ (many_pairs (part_of g at) ++ behind)
-  pub last : length (parts_of g) ≤ at → behind ≡ []
-
-around-part : {T : Type 0} (g : Groups T) (at : ℕ) → IsGrouped g → AroundPart g at
-around-part {T} g at h =
-    let ps = parts_of g in
-    let R = many_pairs g.rest in
-    let A = each_pairs (take at ps) in
-    let B = many_pairs (part_of g at) in
-    elim (cases_lt at (length ps)) [
-      | inl b ↦
-          let C = each_pairs (drop (at + 1) ps) in
-          let split : ps ≡ take at ps ++ (part_of g at ∷ drop (at + 1) ps) = sym (take-append-drop at ps) ∙ ap (λ z. take at ps ++ z) (drop_more ps at g.rest b) in
-          record {
-            laid = (part-among ps at g.rest h.parts b).laid;
-            behind = C ++ R;
-            split = ap (λ z. each_pairs z ++ R) split ∙ (ap (λ z. z ++ R) (each_pairs-append (take at ps) (part_of g at ∷ drop (at + 1) ps)) ∙ (append_assoc A (B ++ C) R ∙ ap (λ z. A ++ z) (append_assoc B C R)));
-            last = λ z. absurd (omega (arith, b, z));
-          }
-      | inr b ↦
-          let past : part_of g at ≡ g.rest = get_or_past ps at g.rest b in
-          let P : Many T → Type 0 = IsMany in
-          record {
-            laid = subst P (sym past) h.rest;
-            behind = [];
-            split = ap (λ z. each_pairs z ++ R) (sym (take_all at ps b)) ∙ ap (λ z. A ++ z) (ap (λ z. many_pairs z) (sym past) ∙ sym (append-nil B));
-            last = λ _. refl;
-          }
-    ]
-
--- the part has the item of a number that is before the next part
-within-part : {T : Type 0} (g : Groups T) (at i : ℕ) → IsGrouped g → i < length (group_pairs g) → (at + 1 < length g.firsts.items → i < get_or g.firsts.items (at + 1) 0) → i < length (each_pairs (take at (parts_of g))) + length (many_pairs (part_of g at))
-within-part g at i h l next =
-    let ps = parts_of g in
-    let A = each_pairs (take at ps) in
-    let B = many_pairs (part_of g at) in
-    elim (cases_lt at (length ps)) [
-      | inl b ↦
-          let more : each_pairs (take (at + 1) ps) ≡ A ++ (B ++ []) = ap (λ z. each_pairs z) (take_more ps at g.rest b) ∙ each_pairs-append (take at ps) (part_of g at ∷ []) in
-          omega (arith, next (omega (arith, b, h.firsts_count)), h.firsts (at + 1) (omega (arith, b)), ap length more, length-append A (B ++ []), length-append B [])
-      | inr b ↦
-          let a = around-part g at h in
-          omega (arith, l, ap length a.split, length-append A (B ++ a.behind), length-append B a.behind, ap length (a.last b))
-    ]
+use Rattle.pm_sized.proofs.GroupLaws.{Inside, inside}
 
 -- The values from..end of m, a part of g or the rest, are those of g from i on in it, and none from `to` on.
 pub record Taken {T : Type 0} (g : Groups (Arc T Global)) (at i to from end : ℕ) (m : Many (Arc T Global)) : Type 0 where
@@ -106,8 +40,8 @@ taken g at i to first end m fs f l low next first-is is h some within end-is =
 
 -- what of a part is put behind other values
 module _ {T : Type 0} (g : Groups (Arc T Global)) (at i to from end : ℕ) (m : Many (Arc T Global)) (t : Taken g at i to from end m) where
-  a : AroundPart g at
-  a = around-part g at t.laid
+  a : Inside g at (part_of g at)
+  a = inside g at t.laid t.at_most
 
   pub seen-laid : IsMany m
   seen-laid = let P : Many (Arc T Global) → Type 0 = IsMany in subst P (sym t.is) a.laid
@@ -122,7 +56,7 @@ module _ {T : Type 0} (g : Groups (Arc T Global)) (at i to from end : ℕ) (m : 
   below =
       omega (
         arith,
-        within-part g at i t.laid (omega (arith, t.some, t.within, length-values (group_pairs g))) t.next,
+        a.last i (omega (arith, t.some, t.within, length-values (group_pairs g))) t.next,
         at-is,
         length-values (each_pairs (take at (parts_of g))),
         length-values (many_pairs m),

@@ -7,9 +7,11 @@ use Rattle.pm_sized.specs.declared.many.Many.{Many}
 use Rattle.pm_sized.specs.Pairs.{parts_of, part_of, total_of, IsPart}
 use Rattle.pm_sized.specs.Parts.{many_values, group_values, values_of, Appended}
 use Rattle.pm_sized.proofs.GrowLaws.{on_err_of}
-use Rattle.pm_sized.proofs.PuttingLaws.{first-none, not-shared, when-shared, length-shared}
-use Rattle.pm_sized.proofs.TakingLaws.{shared-at, part-among, taken, seen-laid, some-seen, end-within, room-seen, appended-seen, first-seen, room-whole, appended-whole}
+use Rattle.pm_sized.proofs.PuttingLaws.{first-none, not-shared, when-shared}
+use Rattle.pm_sized.proofs.TakingLaws.{taken, seen-laid, some-seen, end-within, room-seen, appended-seen, first-seen, room-whole, appended-whole}
 use Rattle.pm_sized.proofs.append.Chunks+Arc+T+Global.append_part.Goals as goal
+use Rattle.pm_sized.proofs.GroupLaws.{part-among}
+use Rattle.pm_sized.proofs.CopyLaws.{length-shared, shared-at}
 use Rattle.pm_sized.proofs.append.Chunks+Arc+T+Global.append_part.Goals.{then-at-len+then-from-eq0+then-end-part+in_ok-share+else-branch, else-at-len}
 
 pub share-requires-clause-part : goal.share-requires-clause-part

@@ -1,7 +1,8 @@
 use Rattle.std.proofs.Common.{◌≡◌, ◌+◌, ◌-◌, ap, sym, ◌∙◌, length, take, subst, arith}
 use Rattle.std.specs.Arc.{arc_value}
 use Rattle.pm_sized.specs.Pairs.{many_pairs, arc_values, IsMany}
-use Rattle.pm_sized.proofs.SharingLaws.{length-shared, some-parts, last-part, reopened-pairs, reopened-some, reopened-laid}
+use Rattle.pm_sized.proofs.SharingLaws.{some-parts, last-part, reopened-pairs, reopened-some, reopened-laid}
+use Rattle.pm_sized.proofs.CopyLaws.{length-shared}
 use Rattle.pm_sized.proofs.grouping.Groups+Arc+T+Global.reopen.Goals as goal
 
 pub copy-requires : goal.copy-requires

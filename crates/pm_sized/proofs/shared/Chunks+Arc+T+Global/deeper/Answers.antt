@@ -1,5 +1,5 @@
 use Rattle.std.proofs.Common.{length, ap, arith}
-use Rattle.pm_sized.proofs.PuttingLaws.{length-shared}
+use Rattle.pm_sized.proofs.CopyLaws.{length-shared}
 use Rattle.pm_sized.proofs.shared.Chunks+Arc+T+Global.deeper.Goals as goal
 
 pub of-requires-clause-most : goal.of-requires-clause-most
