@@ -3,7 +3,7 @@ use Rattle.std.specs.Prelude.{◌≡◌, ℕ, ◌+◌, ◌-◌, ◌<◌, ◌≤�
 use Rattle.std.specs.declared.sync.Arc.{Arc}
 use Rattle.std.specs.Arc.{arc_value}
 use Rattle.std.proofs.Common.{refl, ap, sym, ◌∙◌, arith}
-use Rattle.std.proofs.lemmas.List.{at_drop_more}
+use Rattle.std.proofs.lemmas.List.{at_drop_more, take_more}
 use Rattle.pm_auto.specs.declared.sets.PlaceSet.{PlaceSet}
 use Rattle.pm_auto.specs.declared.auto.Edge.{Edge}
 use Rattle.pm_auto.specs.Walks.{target, edges_at, via, accepted}
@@ -32,3 +32,8 @@ kinds-part text xs i to x l h r = ap (kinds text) (part-at i (i + 1) to xs (omeg
 
 pub part-none : {A : Type 0} (i to : ℕ) (xs : List A) → to ≤ i → part i to xs ≡ []
 part-none i to xs h = ap (λ n. take n (drop i xs)) (let e : to - i ≡ 0 = omega (arith, h) in e)
+
+-- the types of the first children, and of one more
+pub kinds-last : {Z : Type 0} (text : ℕ) (xs : List (Arc Node Z)) (n u : ℕ) (x : Arc Node Z) → u ≡ n + 1 → n < length xs → x ≡ get_or xs n x → kinds text (take u xs) ≡ kinds text (take n xs) ++ kind_in text (arc_value x) ∷ []
+kinds-last text xs n u x e l is =
+    ap (λ z. kinds text (take z xs)) e ∙ (ap (kinds text) (take_more xs n x l ∙ ap (λ z. take n xs ++ z ∷ []) (sym is)) ∙ kinds-append text (take n xs) (x ∷ []))

@@ -8,6 +8,7 @@ pub mod PairWalk
 pub mod FaultWalk
 pub mod ValueLaws
 pub mod AutoWalk
+pub mod ReachedLaws
 pub mod DocLaws
 pub mod ValidAnswers
 pub mod PlaceLaws

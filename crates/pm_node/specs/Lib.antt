@@ -11,3 +11,4 @@ pub mod Changes
 pub mod Filled
 pub mod Sizes
 pub mod Touching
+pub mod Reached

@@ -14,6 +14,7 @@ mod laws;
 mod node;
 mod pairs;
 mod place;
+mod reached;
 mod rules;
 mod touched;
 mod types;

@@ -47,7 +47,9 @@ pub(crate) fn content_stays(
     if kind >= schema.node_count() {
         return Ok(false);
     }
-    if !types_fit(schema.auto(kind), schema.text_type(), &old, &new, touched) {
+    let automaton = schema.auto(kind);
+    let fit = types_fit(alloc, automaton, schema.text_type(), &old, &new, touched)?;
+    if !fit {
         return Ok(false);
     }
     let mut inner = Fragment::new(alloc);

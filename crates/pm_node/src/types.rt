@@ -1,14 +1,17 @@
 //! The types of children, walked by an automaton.
-ghost use Rattle.std.specs.Prelude.{◌≡◌, ◌≤◌, ◌<◌, ◌++◌, ℕ, List, true, length, take, drop, IsTrue, IfSome};
+ghost use Rattle.std.specs.Prelude.{◌≡◌, ◌≤◌, ◌<◌, ◌++◌, ℕ, List, true, length, take, drop, IsTrue, IfOk, IfSome};
 ghost use Rattle.pm_auto.specs.Walks.{accepted, via};
 ghost use Rattle.pm_tokens.specs.Scan.{part};
 ghost use Rattle.pm_node.specs.Kinds.{kind_in, kinds};
+ghost use Rattle.pm_node.specs.Reached.{IsFront};
 ghost use Rattle.pm_node.specs.Touching.{LeadsOn};
 
 use crate::children::Children;
 use crate::node::{Body, Node};
+use crate::reached::only_state;
 use crate::touched::Touched;
 use pm_auto::{Auto, State, TypeId};
+use std::alloc::{AllocError, Global};
 
 /// The type that the node counts as among its parent's children, where texts count as the type `text`.
 fn kind_of(node: &Node, text: TypeId) -> TypeId
@@ -82,27 +85,52 @@ pub(crate) fn ends_alike(
     automaton.valid_end(right)
 }
 
+/// How many children may stand in front of a change and be gone through.
+const FAR: usize = 64;
+
+/// The state behind the first `upto` children. Where they are many, it looks at the last one alone, if its type leads to one state
+/// whatever stands before it, as in most schemas; else at all of them.
+fn front_state(
+    alloc: Global,
+    automaton: &Auto,
+    text: TypeId,
+    children: &Children<'_>,
+    upto: usize,
+) -> Result<Option<State>, AllocError>
+    requires within { upto ≤ length children.now }
+    ensures leads { IfOk result (λ o. IfSome o (IsFront automaton.now.sets automaton.now.edges (kinds text (take upto children.now)))) }
+    ensures inside { IfOk result (λ o. IfSome o (λ s. s < length automaton.now.sets)) }
+{
+    if upto > FAR {
+        let last = kind_of(children.get(upto - 1), text);
+        if let Some(state) = only_state(alloc, automaton, last)? {
+            return Ok(Some(state));
+        }
+    }
+    Ok(walk(automaton, text, children, 0, upto, automaton.start()))
+}
+
 /// Whether the types of the new children lead to a valid end if those of the old ones do, where the lists differ in the touched
-/// children alone. It looks at those before and at the touched ones, and behind them at no more than it has to.
+/// children alone. Before them it looks at no more than it has to, at the touched ones, and behind them at no more than it has to.
 pub(crate) fn types_fit(
+    alloc: Global,
     automaton: &Auto,
     text: TypeId,
     old: &Children<'_>,
     new: &Children<'_>,
     touched: Touched,
-) -> bool
+) -> Result<bool, AllocError>
     requires order { touched.from ≤ touched.to }
     requires within { touched.to ≤ length old.now }
     requires new_order { touched.new_from ≤ touched.new_to }
     requires new_within { touched.new_to ≤ length new.now }
-    ensures { IsTrue result → LeadsOn text automaton.now.sets automaton.now.edges old.now new.now touched }
+    ensures { IfOk result (λ b. IsTrue b → LeadsOn text automaton.now.sets automaton.now.edges old.now new.now touched) }
 {
-    let start = automaton.start();
-    let Some(state) = walk(automaton, text, old, 0, touched.from, start) else {
-        return false;
+    let Some(state) = front_state(alloc, automaton, text, old, touched.from)? else {
+        return Ok(false);
     };
     let Some(left) = walk(automaton, text, old, touched.from, touched.to, state) else {
-        return false;
+        return Ok(false);
     };
     let Some(right) = walk(
         automaton,
@@ -112,7 +140,7 @@ pub(crate) fn types_fit(
         touched.new_to,
         state,
     ) else {
-        return false;
+        return Ok(false);
     };
-    ends_alike(automaton, text, old, touched.to, left, right)
+    Ok(ends_alike(automaton, text, old, touched.to, left, right))
 }
