@@ -21,5 +21,6 @@ mod sides;
 mod taking;
 mod target;
 mod values;
+mod walk;
 
 pub use change::DocChange;

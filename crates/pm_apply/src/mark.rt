@@ -15,6 +15,7 @@ use crate::marks::mark_content;
 use crate::restoring::restores;
 use crate::runs::Runs;
 use crate::target::{Target, push_step};
+use crate::walk::Walk;
 use pm_build::parts_pair;
 use pm_change::Failed;
 use pm_meaning::Reason;
@@ -51,16 +52,12 @@ pub fn mark_range(
     if parts_pair(content, to) {
         return Err(Failed::Reason(Reason::Pair));
     }
-    let made = mark_content(
-        alloc,
+    let walk = Walk {
         schema,
-        top.kind,
-        content,
-        from,
-        to,
-        &step.marking,
-        Reach::Inline,
-    )?;
+        marking: &step.marking,
+        parent: top.kind,
+    };
+    let made = mark_content(alloc, &walk, content, from, to, Reach::Inline)?;
     let change = Difference {
         from,
         to,
@@ -86,14 +83,19 @@ pub fn range_back(
     let marking = &step.marking;
     let size = content.size();
     let back = marking.opposite(alloc)?;
-    let kept = restores(alloc, schema, top.kind, content, from, to, marking, &back)?;
+    let walk = Walk {
+        schema,
+        marking,
+        parent: top.kind,
+    };
+    let kept = restores(alloc, &walk, &back, content, from, to)?;
     if kept {
         let mut steps = Vec::new(alloc);
         push_step(alloc, &mut steps, Target::Range { from, to }, back)?;
         return Ok(steps);
     }
     let mut runs = Runs::new(alloc);
-    runs.take_content(alloc, schema, top.kind, content, 0, from, to, marking)?;
+    runs.take_content(alloc, &walk, content, 0, from, to)?;
     runs.close(alloc, size)?;
     Ok(runs.steps)
 }

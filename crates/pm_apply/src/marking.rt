@@ -1,7 +1,7 @@
 //! Changes of the marks of a token.
 ghost use Rattle.std.specs.Prelude.{◌≡◌, ◌<◌, ◌&&◌, ◌||◌, true, length, IfOk};
 ghost use Rattle.pm_schema.specs.Documents.{documents_of};
-ghost use Rattle.pm_apply.specs.Markings.{changed, acts, sort_marks};
+ghost use Rattle.pm_apply.specs.Markings.{changed, acts};
 
 use pm_attrs::Attrs;
 use pm_auto::TypeId;
@@ -60,26 +60,6 @@ impl Reach {
             (Reach::Inline, Marking::Add(mark)) => sort.takes && schema.allows(parent, mark.kind),
             (Reach::Inline, Marking::Remove(_)) => sort.inline,
             (Reach::Nodes, _) => sort.node,
-        }
-    }
-
-    /// The marks that come of the marks `old` of a token of this sort in a node of the type `parent`.
-    pub fn made(
-        self,
-        alloc: Global,
-        schema: &Schema,
-        marking: &Marking,
-        sort: Sort,
-        parent: TypeId,
-        old: &MarkSet<Attrs>,
-    ) -> Result<MarkSet<Attrs>, AllocError>
-        requires { parent < length schema.now.spec.nodes }
-        ensures { IfOk result (λ s. s ≡ sort_marks (documents_of schema.now.spec) marking.now self sort parent old.now) }
-    {
-        if self.acts(schema, marking, sort, parent) {
-            change(alloc, schema, marking, old)
-        } else {
-            old.copy(alloc)
         }
     }
 }

@@ -10,33 +10,29 @@ ghost use Rattle.pm_apply.specs.Markings.{AreKnown, marked_in, new_marks};
 
 use crate::between::children_in;
 use crate::marking::{Reach, Sort, UNIT};
+use crate::walk::Walk;
 use pm_attrs::Attrs;
-use pm_auto::TypeId;
 use pm_marks::{MarkSet, Same};
 use pm_node::{Body, Fragment, Node, Units};
-use pm_schema::Schema;
-use pm_step::Marking;
 use std::alloc::{AllocError, Global};
 use std::sync::Arc;
 
-/// The content of a node of the type `parent` with the marks of the tokens from..to changed. It shares each node that has no
-/// token there.
+/// The content with the marks of the tokens from..to changed. It shares each node that has no token there.
 #[cycle(mark)]
 pub fn mark_content(
     alloc: Global,
-    schema: &Schema,
-    parent: TypeId,
+    walk: &Walk<'_>,
     content: &Fragment,
     from: usize,
     to: usize,
-    marking: &Marking,
     reach: Reach,
 ) -> Result<Fragment, AllocError>
     requires order { from ≤ to }
-    requires parent { parent < length schema.now.spec.nodes }
-    requires known { AreKnown (length schema.now.spec.nodes) content.now }
+    requires parent { walk.now.parent < length walk.now.schema.now.spec.nodes }
+    requires known { AreKnown (length walk.now.schema.now.spec.nodes) content.now }
     ensures { IfOk result (λ f. (ps : List ℕ)
-        → f ≡ marked_in (new_marks (documents_of schema.now.spec) marking.now reach) (parent ∷ ps) from to content.now) }
+        → f ≡ marked_in (new_marks (documents_of walk.now.schema.now.spec) walk.now.marking.now reach)
+        (walk.now.parent ∷ ps) from to content.now) }
 {
     let _ = content.size();
     let children = content.children();
@@ -48,9 +44,7 @@ pub fn mark_content(
     for i in touched.first..touched.end {
         let child = children.get(i);
         let size = child.size();
-        mark_child(
-            alloc, schema, parent, child, start, end, marking, reach, &mut made,
-        )?;
+        mark_child(alloc, walk, child, start, end, reach, &mut made)?;
         start = start.saturating_sub(size);
         end = end.saturating_sub(size);
     }
@@ -62,21 +56,20 @@ pub fn mark_content(
 #[cycle(mark)]
 fn mark_child(
     alloc: Global,
-    schema: &Schema,
-    parent: TypeId,
+    walk: &Walk<'_>,
     node: &Arc<Node, Global>,
     from: usize,
     to: usize,
-    marking: &Marking,
     reach: Reach,
     made: &mut Fragment,
 ) -> Result<(), AllocError>
     requires order { from ≤ to }
-    requires parent { parent < length schema.now.spec.nodes }
-    requires known { AreKnown (length schema.now.spec.nodes) (node_tokens (arc_value node.now)) }
+    requires parent { walk.now.parent < length walk.now.schema.now.spec.nodes }
+    requires known { AreKnown (length walk.now.schema.now.spec.nodes) (node_tokens (arc_value node.now)) }
     requires room { length made.old + length (node_tokens (arc_value node.now)) < 2 ^ 32 }
     ensures { OnOk result ((ps : List ℕ) → made.new ≡ made.old
-        ++ marked_in (new_marks (documents_of schema.now.spec) marking.now reach) (parent ∷ ps) from to (node_tokens (arc_value node.now))) }
+        ++ marked_in (new_marks (documents_of walk.now.schema.now.spec) walk.now.marking.now reach)
+        (walk.now.parent ∷ ps) from to (node_tokens (arc_value node.now))) }
 {
     let size = node.size();
     if to <= from {
@@ -85,7 +78,7 @@ fn mark_child(
     if size <= from {
         return push_shared(alloc, node, made);
     }
-    mark_part(alloc, schema, parent, node, from, to, marking, reach, made)
+    mark_part(alloc, walk, node, from, to, reach, made)
 }
 
 /// Puts the node itself behind the nodes that are made.
@@ -105,47 +98,41 @@ fn push_shared(
 #[cycle(mark)]
 fn mark_part(
     alloc: Global,
-    schema: &Schema,
-    parent: TypeId,
+    walk: &Walk<'_>,
     node: &Node,
     from: usize,
     to: usize,
-    marking: &Marking,
     reach: Reach,
     made: &mut Fragment,
 ) -> Result<(), AllocError>
     requires some { from < to }
     requires start { from < length (node_tokens node.now) }
-    requires parent { parent < length schema.now.spec.nodes }
-    requires known { AreKnown (length schema.now.spec.nodes) (node_tokens node.now) }
+    requires parent { walk.now.parent < length walk.now.schema.now.spec.nodes }
+    requires known { AreKnown (length walk.now.schema.now.spec.nodes) (node_tokens node.now) }
     requires room { length made.old + length (node_tokens node.now) < 2 ^ 32 }
     ensures { OnOk result ((ps : List ℕ) → made.new ≡ made.old
-        ++ marked_in (new_marks (documents_of schema.now.spec) marking.now reach) (parent ∷ ps) from to (node_tokens node.now)) }
+        ++ marked_in (new_marks (documents_of walk.now.schema.now.spec) walk.now.marking.now reach)
+        (walk.now.parent ∷ ps) from to (node_tokens node.now)) }
 {
     match &node.body {
         Body::Text(units) => {
-            let marks = reach.made(alloc, schema, marking, UNIT, parent, &node.marks)?;
+            let marks = walk.made(alloc, reach, UNIT, &node.marks)?;
             mark_text(alloc, node, units, from, to, &marks, made)
         }
         Body::Leaf => {
-            let sort = Sort::of(schema, node.kind, true);
-            let marks = reach.made(alloc, schema, marking, sort, parent, &node.marks)?;
+            let sort = Sort::of(walk.schema, node.kind, true);
+            let marks = walk.made(alloc, reach, sort, &node.marks)?;
             push_with(alloc, node, marks, Body::Leaf, made)
         }
         Body::Children(inner) => {
             let _ = inner.size();
-            let marks = mark_open(alloc, schema, parent, node, from, marking, reach)?;
+            let marks = mark_open(alloc, walk, node, from, reach)?;
             let start = from.saturating_sub(1);
-            let inner = mark_content(
-                alloc,
-                schema,
-                node.kind,
-                inner,
-                start,
-                to - 1,
-                marking,
-                reach,
-            )?;
+            let inside = Walk {
+                parent: node.kind,
+                ..*walk
+            };
+            let inner = mark_content(alloc, &inside, inner, start, to - 1, reach)?;
             push_with(alloc, node, marks, Body::Children(inner), made)
         }
     }
@@ -154,22 +141,20 @@ fn mark_part(
 /// The marks of a node that is no leaf and no text: changed, where its open stands in from..
 fn mark_open(
     alloc: Global,
-    schema: &Schema,
-    parent: TypeId,
+    walk: &Walk<'_>,
     node: &Node,
     from: usize,
-    marking: &Marking,
     reach: Reach,
 ) -> Result<MarkSet<Attrs>, AllocError>
-    requires parent { parent < length schema.now.spec.nodes }
-    requires known { node.now.kind < length schema.now.spec.nodes }
-    ensures start { from ≡ 0 → IfOk result (λ m. m ≡ new_marks (documents_of schema.now.spec) marking.now reach parent
-        (Open node.now.kind node.now.attrs node.now.marks) node.now.marks) }
+    requires parent { walk.now.parent < length walk.now.schema.now.spec.nodes }
+    requires known { node.now.kind < length walk.now.schema.now.spec.nodes }
+    ensures start { from ≡ 0 → IfOk result (λ m. m ≡ new_marks (documents_of walk.now.schema.now.spec) walk.now.marking.now reach
+        walk.now.parent (Open node.now.kind node.now.attrs node.now.marks) node.now.marks) }
     ensures inside { 0 < from → IfOk result (λ m. m ≡ node.now.marks) }
 {
     if from == 0 {
-        let sort = Sort::of(schema, node.kind, false);
-        reach.made(alloc, schema, marking, sort, parent, &node.marks)
+        let sort = Sort::of(walk.schema, node.kind, false);
+        walk.made(alloc, reach, sort, &node.marks)
     } else {
         node.marks.copy(alloc)
     }

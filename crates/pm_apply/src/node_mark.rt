@@ -17,6 +17,7 @@ use crate::marks::mark_content;
 use crate::runs::give_back;
 use crate::sides::node_marks_at;
 use crate::target::{Target, push_step};
+use crate::walk::Walk;
 use pm_attrs::Attrs;
 use pm_build::parts_pair;
 use pm_change::Failed;
@@ -51,16 +52,12 @@ pub fn mark_node(
     let Some(_) = node_marks_at(content, pos) else {
         return Err(Failed::Reason(Reason::NoNode));
     };
-    let made = mark_content(
-        alloc,
+    let walk = Walk {
         schema,
-        top.kind,
-        content,
-        pos,
-        pos + 1,
-        &step.marking,
-        Reach::Nodes,
-    )?;
+        marking: &step.marking,
+        parent: top.kind,
+    };
+    let made = mark_content(alloc, &walk, content, pos, pos + 1, Reach::Nodes)?;
     let change = Difference {
         from: pos,
         to: pos + 1,

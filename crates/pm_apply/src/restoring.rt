@@ -11,11 +11,10 @@ ghost use Rattle.pm_apply.specs.Backs.{marked_twice, twice};
 
 use crate::between::children_in;
 use crate::marking::{Reach, Sort, UNIT};
+use crate::walk::Walk;
 use pm_attrs::Attrs;
-use pm_auto::TypeId;
 use pm_marks::MarkSet;
 use pm_node::{Body, Fragment, Node};
-use pm_schema::Schema;
 use pm_step::Marking;
 use std::alloc::{AllocError, Global};
 
@@ -23,19 +22,18 @@ use std::alloc::{AllocError, Global};
 #[cycle(restores)]
 pub fn restores(
     alloc: Global,
-    schema: &Schema,
-    parent: TypeId,
+    walk: &Walk<'_>,
+    back: &Marking,
     content: &Fragment,
     from: usize,
     to: usize,
-    marking: &Marking,
-    back: &Marking,
 ) -> Result<bool, AllocError>
     requires order { from ≤ to }
-    requires parent { parent < length schema.now.spec.nodes }
-    requires known { AreKnown (length schema.now.spec.nodes) content.now }
+    requires parent { walk.now.parent < length walk.now.schema.now.spec.nodes }
+    requires known { AreKnown (length walk.now.schema.now.spec.nodes) content.now }
     ensures { IfOk result (λ b. (ps : List ℕ)
-        → b ≡ same_tokens (marked_twice (documents_of schema.now.spec) marking.now back.now (parent ∷ ps) from to content.now) content.now) }
+        → b ≡ same_tokens (marked_twice (documents_of walk.now.schema.now.spec) walk.now.marking.now back.now
+        (walk.now.parent ∷ ps) from to content.now) content.now) }
 {
     let _ = content.size();
     let children = content.children();
@@ -45,7 +43,7 @@ pub fn restores(
     for i in touched.first..touched.end {
         let child = children.get(i);
         let size = child.size();
-        let kept = restores_in(alloc, schema, parent, child, start, end, marking, back)?;
+        let kept = restores_in(alloc, walk, back, child, start, end)?;
         if !kept {
             return Ok(false);
         }
@@ -58,19 +56,18 @@ pub fn restores(
 #[cycle(restores)]
 fn restores_in(
     alloc: Global,
-    schema: &Schema,
-    parent: TypeId,
+    walk: &Walk<'_>,
+    back: &Marking,
     node: &Node,
     from: usize,
     to: usize,
-    marking: &Marking,
-    back: &Marking,
 ) -> Result<bool, AllocError>
     requires order { from ≤ to }
-    requires parent { parent < length schema.now.spec.nodes }
-    requires known { AreKnown (length schema.now.spec.nodes) (node_tokens node.now) }
+    requires parent { walk.now.parent < length walk.now.schema.now.spec.nodes }
+    requires known { AreKnown (length walk.now.schema.now.spec.nodes) (node_tokens node.now) }
     ensures { IfOk result (λ b. (ps : List ℕ)
-        → b ≡ same_tokens (marked_twice (documents_of schema.now.spec) marking.now back.now (parent ∷ ps) from to (node_tokens node.now)) (node_tokens node.now)) }
+        → b ≡ same_tokens (marked_twice (documents_of walk.now.schema.now.spec) walk.now.marking.now back.now
+        (walk.now.parent ∷ ps) from to (node_tokens node.now)) (node_tokens node.now)) }
 {
     let size = node.size();
     if to <= from {
@@ -80,28 +77,23 @@ fn restores_in(
         return Ok(true);
     }
     match &node.body {
-        Body::Text(_) => restores_marks(alloc, schema, UNIT, parent, &node.marks, marking, back),
+        Body::Text(_) => restores_marks(alloc, walk, back, UNIT, &node.marks),
         Body::Leaf => {
-            let sort = Sort::of(schema, node.kind, true);
-            restores_marks(alloc, schema, sort, parent, &node.marks, marking, back)
+            let sort = Sort::of(walk.schema, node.kind, true);
+            restores_marks(alloc, walk, back, sort, &node.marks)
         }
         Body::Children(inner) => {
             let _ = inner.size();
-            let kept = restores_open(alloc, schema, parent, node, from, marking, back)?;
+            let kept = restores_open(alloc, walk, back, node, from)?;
             if !kept {
                 return Ok(false);
             }
             let start = from.saturating_sub(1);
-            restores(
-                alloc,
-                schema,
-                node.kind,
-                inner,
-                start,
-                to - 1,
-                marking,
-                back,
-            )
+            let inside = Walk {
+                parent: node.kind,
+                ..*walk
+            };
+            restores(alloc, &inside, back, inner, start, to - 1)
         }
     }
 }
@@ -109,22 +101,21 @@ fn restores_in(
 /// Whether the open of a node has its marks back. It is changed where it stands in from..
 fn restores_open(
     alloc: Global,
-    schema: &Schema,
-    parent: TypeId,
+    walk: &Walk<'_>,
+    back: &Marking,
     node: &Node,
     from: usize,
-    marking: &Marking,
-    back: &Marking,
 ) -> Result<bool, AllocError>
-    requires parent { parent < length schema.now.spec.nodes }
-    requires known { node.now.kind < length schema.now.spec.nodes }
+    requires parent { walk.now.parent < length walk.now.schema.now.spec.nodes }
+    requires known { node.now.kind < length walk.now.schema.now.spec.nodes }
     ensures start { from ≡ 0 → IfOk result (λ b. b ≡ same_marks same_attrs
-        (twice (documents_of schema.now.spec) marking.now back.now parent (Open node.now.kind node.now.attrs node.now.marks) node.now.marks) node.now.marks) }
+        (twice (documents_of walk.now.schema.now.spec) walk.now.marking.now back.now walk.now.parent
+        (Open node.now.kind node.now.attrs node.now.marks) node.now.marks) node.now.marks) }
     ensures inside { 0 < from → IfOk result (λ b. b ≡ true) }
 {
     if from == 0 {
-        let sort = Sort::of(schema, node.kind, false);
-        restores_marks(alloc, schema, sort, parent, &node.marks, marking, back)
+        let sort = Sort::of(walk.schema, node.kind, false);
+        restores_marks(alloc, walk, back, sort, &node.marks)
     } else {
         Ok(true)
     }
@@ -133,19 +124,21 @@ fn restores_open(
 /// Whether the marking `back` gives a token of this sort its marks back, behind the marking.
 fn restores_marks(
     alloc: Global,
-    schema: &Schema,
-    sort: Sort,
-    parent: TypeId,
-    old: &MarkSet<Attrs>,
-    marking: &Marking,
+    walk: &Walk<'_>,
     back: &Marking,
+    sort: Sort,
+    old: &MarkSet<Attrs>,
 ) -> Result<bool, AllocError>
-    requires { parent < length schema.now.spec.nodes }
+    requires { walk.now.parent < length walk.now.schema.now.spec.nodes }
     ensures { IfOk result (λ b. b ≡ same_marks same_attrs
-        (sort_marks (documents_of schema.now.spec) back.now Reach.Inline sort parent
-        (sort_marks (documents_of schema.now.spec) marking.now Reach.Inline sort parent old.now)) old.now) }
+        (sort_marks (documents_of walk.now.schema.now.spec) back.now Reach.Inline sort walk.now.parent
+        (sort_marks (documents_of walk.now.schema.now.spec) walk.now.marking.now Reach.Inline sort walk.now.parent old.now)) old.now) }
 {
-    let new = Reach::Inline.made(alloc, schema, marking, sort, parent, old)?;
-    let restored = Reach::Inline.made(alloc, schema, back, sort, parent, &new)?;
+    let new = walk.made(alloc, Reach::Inline, sort, old)?;
+    let behind = Walk {
+        marking: back,
+        ..*walk
+    };
+    let restored = behind.made(alloc, Reach::Inline, sort, &new)?;
     Ok(restored.same(old))
 }

@@ -9,33 +9,30 @@ ghost use Rattle.pm_apply.specs.Walks.{Took};
 use crate::between::children_in;
 use crate::marking::{Reach, Sort, UNIT};
 use crate::runs::Runs;
-use pm_auto::TypeId;
+use crate::walk::Walk;
 use pm_node::{Body, Fragment, Node};
-use pm_schema::Schema;
-use pm_step::Marking;
 use std::alloc::{AllocError, Global};
 
 impl Runs {
-    /// Takes the tokens of a content of a node of the type `parent`, of which those from..to have the marks that the marking gives
-    /// them. `at` is the position of the first.
+    /// Takes the tokens of a content, of which those from..to have the marks that the walk gives them. `at` is the position of the
+    /// first.
     #[cycle(take)]
     pub fn take_content(
         &mut self,
         alloc: Global,
-        schema: &Schema,
-        parent: TypeId,
+        walk: &Walk<'_>,
         content: &Fragment,
         at: usize,
         from: usize,
         to: usize,
-        marking: &Marking,
     ) -> Result<(), AllocError>
         requires order { from ≤ to }
-        requires parent { parent < length schema.now.spec.nodes }
-        requires known { AreKnown (length schema.now.spec.nodes) content.now }
+        requires parent { walk.now.parent < length walk.now.schema.now.spec.nodes }
+        requires known { AreKnown (length walk.now.schema.now.spec.nodes) content.now }
         requires room { at + length content.now < 2 ^ 33 }
-        ensures { OnOk result ((ps : List ℕ) → Took (documents_of schema.now.spec) at content.now
-            (marked_in (new_marks (documents_of schema.now.spec) marking.now Reach.Inline) (parent ∷ ps) from to content.now) self.old self.new) }
+        ensures { OnOk result ((ps : List ℕ) → Took (documents_of walk.now.schema.now.spec) at content.now
+            (marked_in (new_marks (documents_of walk.now.schema.now.spec) walk.now.marking.now Reach.Inline)
+            (walk.now.parent ∷ ps) from to content.now) self.old self.new) }
     {
         let _ = content.size();
         let children = content.children();
@@ -47,7 +44,7 @@ impl Runs {
         for i in touched.first..touched.end {
             let child = children.get(i);
             let size = child.size();
-            self.take_child(alloc, schema, parent, child, place, start, end, marking)?;
+            self.take_child(alloc, walk, child, place, start, end)?;
             place += size;
             start = start.saturating_sub(size);
             end = end.saturating_sub(size);
@@ -61,20 +58,19 @@ impl Runs {
     fn take_child(
         &mut self,
         alloc: Global,
-        schema: &Schema,
-        parent: TypeId,
+        walk: &Walk<'_>,
         node: &Node,
         at: usize,
         from: usize,
         to: usize,
-        marking: &Marking,
     ) -> Result<(), AllocError>
         requires order { from ≤ to }
-        requires parent { parent < length schema.now.spec.nodes }
-        requires known { AreKnown (length schema.now.spec.nodes) (node_tokens node.now) }
+        requires parent { walk.now.parent < length walk.now.schema.now.spec.nodes }
+        requires known { AreKnown (length walk.now.schema.now.spec.nodes) (node_tokens node.now) }
         requires room { at + length (node_tokens node.now) < 2 ^ 33 }
-        ensures { OnOk result ((ps : List ℕ) → Took (documents_of schema.now.spec) at (node_tokens node.now)
-            (marked_in (new_marks (documents_of schema.now.spec) marking.now Reach.Inline) (parent ∷ ps) from to (node_tokens node.now)) self.old self.new) }
+        ensures { OnOk result ((ps : List ℕ) → Took (documents_of walk.now.schema.now.spec) at (node_tokens node.now)
+            (marked_in (new_marks (documents_of walk.now.schema.now.spec) walk.now.marking.now Reach.Inline)
+            (walk.now.parent ∷ ps) from to (node_tokens node.now)) self.old self.new) }
     {
         let size = node.size();
         if to <= from {
@@ -87,30 +83,25 @@ impl Runs {
             Body::Text(units) => {
                 let len = units.len();
                 let end = len.min(to);
-                let new = Reach::Inline.made(alloc, schema, marking, UNIT, parent, &node.marks)?;
+                let new = walk.made(alloc, Reach::Inline, UNIT, &node.marks)?;
                 self.pass(alloc, at, from)?;
                 self.token(alloc, at + from, true, &node.marks, &new)?;
                 self.pass(alloc, at + end, len - end)
             }
             Body::Leaf => {
-                let sort = Sort::of(schema, node.kind, true);
-                let new = Reach::Inline.made(alloc, schema, marking, sort, parent, &node.marks)?;
+                let sort = Sort::of(walk.schema, node.kind, true);
+                let new = walk.made(alloc, Reach::Inline, sort, &node.marks)?;
                 self.token(alloc, at, sort.takes, &node.marks, &new)
             }
             Body::Children(inner) => {
                 let end = at + 1 + inner.size();
                 let start = from.saturating_sub(1);
-                self.take_open(alloc, schema, parent, node, at, from, marking)?;
-                self.take_content(
-                    alloc,
-                    schema,
-                    node.kind,
-                    inner,
-                    at + 1,
-                    start,
-                    to - 1,
-                    marking,
-                )?;
+                self.take_open(alloc, walk, node, at, from)?;
+                let inside = Walk {
+                    parent: node.kind,
+                    ..*walk
+                };
+                self.take_content(alloc, &inside, inner, at + 1, start, to - 1)?;
                 self.pass(alloc, end, 1)
             }
         }
@@ -120,24 +111,23 @@ impl Runs {
     fn take_open(
         &mut self,
         alloc: Global,
-        schema: &Schema,
-        parent: TypeId,
+        walk: &Walk<'_>,
         node: &Node,
         at: usize,
         from: usize,
-        marking: &Marking,
     ) -> Result<(), AllocError>
-        requires parent { parent < length schema.now.spec.nodes }
-        requires known { node.now.kind < length schema.now.spec.nodes }
-        ensures { OnOk result ((ps : List ℕ) → Took (documents_of schema.now.spec) at (Open node.now.kind node.now.attrs node.now.marks ∷ [])
-            (marked_in (new_marks (documents_of schema.now.spec) marking.now Reach.Inline) (parent ∷ ps) from (from + 1)
-            (Open node.now.kind node.now.attrs node.now.marks ∷ [])) self.old self.new) }
+        requires parent { walk.now.parent < length walk.now.schema.now.spec.nodes }
+        requires known { node.now.kind < length walk.now.schema.now.spec.nodes }
+        ensures { OnOk result ((ps : List ℕ) → Took (documents_of walk.now.schema.now.spec) at
+            (Open node.now.kind node.now.attrs node.now.marks ∷ [])
+            (marked_in (new_marks (documents_of walk.now.schema.now.spec) walk.now.marking.now Reach.Inline)
+            (walk.now.parent ∷ ps) from (from + 1) (Open node.now.kind node.now.attrs node.now.marks ∷ [])) self.old self.new) }
     {
         if from > 0 {
             return self.pass(alloc, at, 1);
         }
-        let sort = Sort::of(schema, node.kind, false);
-        let new = Reach::Inline.made(alloc, schema, marking, sort, parent, &node.marks)?;
+        let sort = Sort::of(walk.schema, node.kind, false);
+        let new = walk.made(alloc, Reach::Inline, sort, &node.marks)?;
         self.token(alloc, at, sort.takes, &node.marks, &new)
     }
 }

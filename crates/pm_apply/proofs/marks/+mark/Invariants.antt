@@ -8,7 +8,7 @@ use Rattle.pm_apply.proofs.marks.+mark.Given as goal
 
 abbrev pub invariant-mark_content-loop-i : goal.invariant-mark_content-loop-i
 invariant-mark_content-loop-i l =
-    Marked (new_marks (documents_of l.schema.spec) l.marking l.reach) l.parent l.children l.i l.from l.to l.start l.end l.made
+    Marked (new_marks (documents_of l.walk.schema.now.spec) l.walk.marking.now l.reach) l.walk.parent l.children l.i l.from l.to l.start l.end l.made
 
 abbrev pub decreases-mark_content : goal.decreases-mark_content
 decreases-mark_content l = 3 * length l.content.now + 2

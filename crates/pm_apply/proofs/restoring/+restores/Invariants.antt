@@ -5,7 +5,7 @@ use Rattle.pm_apply.proofs.RestoredWalk.{Restored}
 use Rattle.pm_apply.proofs.restoring.+restores.Given as goal
 
 abbrev pub invariant-restores-loop-i : goal.invariant-restores-loop-i
-invariant-restores-loop-i l = Restored (documents_of l.schema.spec) l.marking l.back l.parent l.children l.i l.from l.to l.start l.end
+invariant-restores-loop-i l = Restored (documents_of l.walk.schema.now.spec) l.walk.marking.now l.back l.walk.parent l.children l.i l.from l.to l.start l.end
 
 abbrev pub decreases-restores : goal.decreases-restores
 decreases-restores l = 2 * length l.content.now + 1

@@ -6,7 +6,7 @@ use Rattle.pm_apply.proofs.runs.Runs.+take.Given as goal
 
 abbrev pub invariant-take_content-loop-i : goal.invariant-take_content-loop-i
 invariant-take_content-loop-i l =
-    Taken (documents_of l.schema.spec) l.marking l.parent l.children l.i l.at l.from l.to l.place l.start l.end l.fn.self l.self
+    Taken (documents_of l.walk.schema.now.spec) l.walk.marking.now l.walk.parent l.children l.i l.at l.from l.to l.place l.start l.end l.fn.self l.self
 
 abbrev pub decreases-take_content : goal.decreases-take_content
 decreases-take_content l = 2 * length l.content.now + 1
