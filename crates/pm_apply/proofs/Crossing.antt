@@ -33,10 +33,10 @@ pub attrs_sync : IsSync attrs.the_row
 attrs_sync = search (sendable, crosses, Values.crosses, Text.the_sync) depth 20
 
 pub fragment_send : IsSend fragment.the_row
-fragment_send = search (sendable, crosses, Nodes.crosses, attrs_send, attrs_sync, Units.the_send, Units.the_sync) depth 20
+fragment_send = search (sendable, crosses, Nodes.crosses, attrs_send, attrs_sync, Units.the_send, Units.the_sync) depth 60 fits 100000
 
 pub fragment_sync : IsSync fragment.the_row
-fragment_sync = search (sendable, crosses, Nodes.crosses, attrs_send, attrs_sync, Units.the_send, Units.the_sync) depth 20
+fragment_sync = search (sendable, crosses, Nodes.crosses, attrs_send, attrs_sync, Units.the_send, Units.the_sync) depth 60 fits 100000
 
 pub node_send : IsSend node.the_row
 node_send = search (sendable, crosses, fragment_send, attrs_send, MarkSet.the_send, Units.the_send) depth 20
