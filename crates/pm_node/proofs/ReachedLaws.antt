@@ -45,11 +45,6 @@ below-push n xs ys x e l h j k =
 abbrev pub kind_at : List Edge → ℕ → ℕ
 kind_at es i = (slice_index_or es i record { kind = 0; to = 0 }).kind
 
-pub kind-same : (es : List Edge) (i : ℕ) (e : Edge) → i < length es → e ≡ get_or es i e → kind_at es i ≡ e.kind
-kind-same [] i e l is = absurd (omega (arith, l))
-kind-same (x ∷ es) zero e l is = ap (λ z. z.kind) (sym is)
-kind-same (x ∷ es) (suc i) e l is = kind-same es i e (omega (arith, l)) is
-
 either : {P : Type 0} (b : Bool) → (b ≡ true → P) → (b ≡ false → P) → P
 either true f g = f refl
 either false f g = g refl

@@ -139,9 +139,6 @@ module _ {T : Type 0} (before : List (T × ℕ)) (v first second : Chunk (Arc T 
   count-values : length (chunk_values v) ≡ count
   count-values = omega (arith, count-is, length-values (chunk_pairs v), chunk-count v k.counted)
 
-  pub chunk-below : total_of before + total_of (chunk_values v) < 2 ^ 32 → v.size < 2 ^ 32
-  chunk-below room = omega (arith, room, chunk-size v k.counted, total-values (chunk_pairs v))
-
   pub room-first : total_of before + total_of (chunk_values v) < 2 ^ 32 → total_of before + total_of (chunk_values first) < 2 ^ 32
   room-first room = omega (arith, room, ap total_of e, total-part 0 32 (chunk_values v))
 

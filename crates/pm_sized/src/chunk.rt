@@ -1,5 +1,5 @@
 //! One chunk, and how it grows before it is shared.
-ghost use Rattle.std.specs.Prelude.{◌≡◌, ◌+◌, ◌<◌, ◌≤◌, ◌^◌, [], ◌∷◌, ◌++◌, length, get_or, OnOk, OnErr};
+ghost use Rattle.std.specs.Prelude.{◌≡◌, ◌+◌, ◌<◌, ◌≤◌, ◌^◌, [], ◌∷◌, ◌++◌, length, get_or, IfOk, OnOk, OnErr};
 ghost use Rattle.pm_sized.specs.Pairs.{chunk_pairs, IsCounted, Grown};
 ghost use Rattle.pm_sized.specs.Parts.{Unchanged};
 
@@ -26,6 +26,22 @@ impl<T> Chunk<T> {
             starts: Vec::new(alloc),
             size: 0,
         }
+    }
+
+    /// No items, with room for so many.
+    pub(crate) fn with_room(alloc: Global, count: usize) -> Result<Chunk<T>, AllocError>
+    where
+        T: Drop,
+        ensures pairs { IfOk result (λ c. chunk_pairs c ≡ []) }
+        ensures counted { IfOk result (λ c. IsCounted c.items.items c.starts.items c.size) }
+        ensures none { IfOk result (λ c. length c.items.items ≡ 0) }
+        ensures size { IfOk result (λ c. c.size ≡ 0) }
+    {
+        Ok(Chunk {
+            items: Vec::with_capacity(alloc, count)?,
+            starts: Vec::with_capacity(alloc, count)?,
+            size: 0,
+        })
     }
 
     /// Puts an item behind the last one. For want of memory the chunk stays as it was, and the item is let go.

@@ -42,6 +42,22 @@ impl<T> Many<T> {
         }
     }
 
+    /// No items, with room for so many chunks.
+    fn with_room(alloc: Global, chunks: usize) -> Result<Many<T>, AllocError>
+    where
+        T: Drop,
+        ensures pairs { IfOk result (λ m. many_pairs m ≡ []) }
+        ensures laid { IfOk result (λ m. IsMany m) }
+    {
+        Ok(Many {
+            chunks: Vec::with_capacity(alloc, chunks)?,
+            starts: Vec::with_capacity(alloc, chunks)?,
+            firsts: Vec::with_capacity(alloc, chunks)?,
+            total: 0,
+            len: 0,
+        })
+    }
+
     /// The items with their measures, in chunks of 32 but the last. For want of memory they are let go.
     pub(crate) fn from_vec(alloc: Global, items: Vec<(T, usize)>) -> Result<Many<T>, AllocError>
     where
@@ -122,7 +138,7 @@ impl<T> Many<T> {
         ensures laid { IfOk result (λ c. IsMany c) }
         ensures chunks { IfOk result (λ c. arc_values c.chunks.items ≡ arc_values self.now.chunks.items) }
     {
-        let mut made = Many::new(alloc);
+        let mut made = Many::with_room(alloc, self.chunks.len())?;
         for chunk in &self.chunks {
             made.push_chunk(Arc::try_clone(chunk)?)?;
         }

@@ -50,7 +50,7 @@ pub(crate) fn run<T: Drop>(
     ensures values { IfOk result (λ c. chunk_values (arc_value c) ≡ part from to (chunk_values source.now)) }
     ensures count { IfOk result (λ c. length (arc_value c).items.items ≡ to - from) }
 {
-    let mut made = Chunk::new(alloc);
+    let mut made = Chunk::with_room(alloc, to - from)?;
     made.append_run(source, from, to)?;
     Ok(Arc::new(alloc, made)?)
 }
@@ -71,7 +71,7 @@ pub(crate) fn extended<T: Drop>(
     ensures values { IfOk result (λ c. chunk_values (arc_value c) ≡ chunk_values chunk.now ++ take count (chunk_values more.now)) }
     ensures count { IfOk result (λ c. length (arc_value c).items.items ≡ length chunk.now.items.items + count) }
 {
-    let mut made = Chunk::new(alloc);
+    let mut made = Chunk::with_room(alloc, chunk.items.len() + count)?;
     made.append_run(chunk, 0, chunk.items.len())?;
     made.append_run(more, 0, count)?;
     Ok(Arc::new(alloc, made)?)

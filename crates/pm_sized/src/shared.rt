@@ -1,5 +1,5 @@
 //! Shared items, copied and put behind others.
-ghost use Rattle.std.specs.Prelude.{◌≡◌, ℕ, ◌+◌, ◌<◌, ◌≤◌, ◌^◌, [], ◌∷◌, ◌++◌, if◌then◌else◌, length, IfOk, OnOk, OnErr};
+ghost use Rattle.std.specs.Prelude.{◌≡◌, ℕ, ◌+◌, ◌<◌, ◌≤◌, ◌^◌, [], ◌∷◌, ◌++◌, if◌then◌else◌, length, true, IfOk, OnOk, OnErr};
 ghost use Rattle.std.specs.Arc.{arc_value};
 ghost use Rattle.pm_sized.specs.Pairs.{total_of, IsLaid, IsChunk, IsPart};
 ghost use Rattle.pm_sized.specs.Parts.{all_but_last, chunk_values, many_values, values_of, IsBelow, Widened, Deepened, HasFirst};
@@ -104,10 +104,23 @@ impl<T: Drop> Chunks<Arc<T, Global>> {
         ensures values { values_of self.new ≡ values_of self.old }
         ensures below { OnOk result (IsBelow least self.new) }
     {
+        if self.is_below(least) {
+            return Ok(());
+        }
         if let Some(many) = self.wider(alloc, least)? {
             *self = Chunks::Many(many);
         }
         Ok(())
+    }
+
+    /// Whether the items lie in chunks, or are fewer than `least`.
+    fn is_below(&self, least: usize) -> bool
+        ensures { result ≡ true → IsBelow least self.now }
+    {
+        match self {
+            Chunks::Few(few) => few.items.len() < least,
+            Chunks::Many(_) | Chunks::Groups(_) => true,
+        }
     }
 
     /// The same items in chunks, where they lie in none and are `least` or more.
@@ -169,10 +182,21 @@ impl<T: Drop> Chunks<Arc<T, Global>> {
         ensures values { values_of self.new ≡ values_of self.old }
         ensures below { (least : ℕ) → IsBelow least self.old → IsBelow least self.new }
     {
+        if !self.fills_a_part() {
+            return Ok(());
+        }
         if let Some(groups) = self.deeper(alloc)? {
             *self = Chunks::Groups(groups);
         }
         Ok(())
+    }
+
+    /// Whether the items take as many chunks as a part has.
+    fn fills_a_part(&self) -> bool {
+        match self {
+            Chunks::Few(_) | Chunks::Groups(_) => false,
+            Chunks::Many(many) => many.chunks.len() == PART,
+        }
     }
 
     /// The same items in groups, where they take as many chunks as a part has.

@@ -11,8 +11,8 @@ use Rattle.pm_sized.proofs.runs.extended.Goals.{In_ok-append_run}
 first : (g : _) (c : In_ok-append_run g) → chunk_values c.append_run.new.self ≡ chunk_values c.args.chunk.now
 first g c =
     let v = c.args.chunk.now in
-    c.in_ok-append_run.ensures.values ∙ (ap (λ z. values_in z ++ part 0 c.len.result (chunk_values v)) c.new-made.ensures.pairs
-    ∙ part-all c.len.result (chunk_values v) (omega (arith, length-values (chunk_pairs v), chunk-count v c.requires.chunk.counted, c.len.ensures, v.items.ok.0)))
+    c.in_ok-append_run.ensures.values ∙ (ap (λ z. values_in z ++ part 0 c.len-2.result (chunk_values v)) c.in_ok-made.ensures.pairs
+    ∙ part-all c.len-2.result (chunk_values v) (omega (arith, length-values (chunk_pairs v), chunk-count v c.requires.chunk.counted, c.len-2.ensures, v.items.ok.0)))
 
 pub append_run-requires-2-clause-room : goal.append_run-requires-2-clause-room
 append_run-requires-2-clause-room g c =

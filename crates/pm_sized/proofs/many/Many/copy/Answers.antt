@@ -4,7 +4,7 @@ use Rattle.pm_sized.proofs.CopyLaws.{none-in, full-copied, pairs-copied, shared-
 use Rattle.pm_sized.proofs.many.Many.copy.Goals as goal
 
 pub loop-chunk-init : goal.loop-chunk-init
-loop-chunk-init g c = record { laid = c.new-made.ensures.laid; same = ap arc_values (none-in c.new-made.result c.new-made.ensures.laid c.new-made.ensures.pairs) }
+loop-chunk-init g c = record { laid = c.in_ok-made.ensures.laid; same = ap arc_values (none-in c.in_ok-made.made c.in_ok-made.ensures.laid c.in_ok-made.ensures.pairs) }
 
 pub push_chunk-requires-clause-full : goal.push_chunk-requires-clause-full
 push_chunk-requires-clause-full g c =
