@@ -57,7 +57,7 @@ pub fn read_nodes(
     ensures { Gives (λ f. f) result (nodes_of schema.now.spec leaves (items_view items.now)) }
 {
     let nodes = node_list(alloc, schema, leaves, items)?;
-    joined(alloc, nodes)
+    fragment_of(alloc, nodes)
 }
 
 #[cycle(node)]
@@ -175,7 +175,7 @@ fn no_nodes(alloc: Global, items: &[Json]) -> Result<Fragment, DocReadError>
 
 /// What a node of the type holds: nothing where the type is a leaf's and there is no content.
 #[tactic(auto, using(crate::proofs::Bodies::bodies))]
-fn body_of(schema: &Schema, kind: TypeId, content: Fragment) -> Body
+pub fn body_of(schema: &Schema, kind: TypeId, content: Fragment) -> Body
     requires { kind < length schema.now.spec.nodes }
     ensures { result ≡ body_of schema.now.spec kind content }
 {
@@ -204,7 +204,7 @@ fn content_of(
         Some(value) => match value.as_array() {
             Some(items) => {
                 let nodes = node_list(alloc, schema, leaves, items)?;
-                joined(alloc, nodes)
+                fragment_of(alloc, nodes)
             }
             None => Err(DocReadError::Shape),
         },
@@ -228,9 +228,9 @@ fn node_list(
     Ok(nodes)
 }
 
-/// The nodes as a fragment, where they have not too many tokens.
+/// The nodes as a fragment. `Large` comes where they have more than 4,294,967,295 tokens.
 #[tactic(auto, using(crate::proofs::Bodies::bodies))]
-fn joined(alloc: Global, nodes: Vec<Node>) -> Result<Fragment, DocReadError>
+pub fn fragment_of(alloc: Global, nodes: Vec<Node>) -> Result<Fragment, DocReadError>
     ensures { Gives (λ f. f) result (bounded (nodes_tokens nodes.items)) }
 {
     if token_count(&nodes) > MAX_TOKENS {
