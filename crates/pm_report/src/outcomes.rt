@@ -26,7 +26,7 @@ pub fn with_numbers(
 ) -> Result<Vec<Numbered>, AllocError>
     ensures { IfOk result (λ v. v.items ≡ with_numbers lines.now outcomes.items) }
 {
-    let mut told = Vec::new(alloc);
+    let mut told = Vec::with_capacity(alloc, lines.len())?;
     let mut rest = outcomes.into_iter();
     for line in lines {
         let Some(outcome) = rest.next() else {

@@ -33,13 +33,22 @@ pub fn report(
         ++ settled_lines entries.now 0 settled.now.members.items
         ++ line (codes "final" & doc_text schema.now.spec settled.now.authority.doc)) }
 {
-    let mut text = String::new(alloc);
+    let room = room_for(outcomes.len(), settled.authority().log().len());
+    let mut text = String::with_capacity(alloc, room)?;
     push_outcomes(&mut text, outcomes)?;
     text.push_str(standing)?;
     push_log(alloc, schema, &mut text, entries, settled.authority().log())?;
     push_settled(alloc, &mut text, entries, settled.members())?;
     push_final(alloc, schema, &mut text, settled.authority().doc())?;
     Ok(text)
+}
+
+/// About as many bytes as the report of a long session takes, with so many outcomes and so many steps of a few letters each, so
+/// that its text need not move as it grows.
+fn room_for(outcomes: usize, steps: usize) -> usize {
+    let told = outcomes.saturating_mul(24);
+    let log = steps.saturating_mul(128);
+    told.saturating_add(log)
 }
 
 /// Puts the length of the log and its entries, counted from 1, behind the text.
