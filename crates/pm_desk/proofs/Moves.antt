@@ -1,20 +1,19 @@
 -- Each step of a desk's table keeps its rule.
-use Rattle.std.proofs.Common.{◌≡◌, ◌≢◌, ℕ, eqb, zero, suc, ◌+◌, ◌^◌, ◌%◌, ◌<◌, List, [], ◌∷◌, ◌++◌, length, get_or, set, Option, Some, Bool, true, false, true≢false, refl, eq-eqb, ne_eqb, sym, ap, ◌∙◌, subst, inl, inr, ⊎_elim, arith, length-append, length-set, get_or-set_other, get_or-set_same}
+use Rattle.std.proofs.Common.{◌≡◌, ◌≢◌, ℕ, eqb, zero, suc, ◌<◌, List, [], ◌∷◌, ◌++◌, length, get_or, set, Some, Bool, true, false, true≢false, refl, eq-eqb, ne_eqb, sym, ap, ◌∙◌, subst, inl, inr, ⊎_elim, arith, length-append, length-set, get_or-set_same}
 use mathlib.Core.Option.{some, none, some-ne-none}
 use mathlib.Core.Logic.{dite}
 use native.Mathlib.Decide.{ℕ_discrete}
 use lib.ListN.{get_elem?}
-use Rattle.std.proofs.Math.Nat.{mod-eq_of_lt}
 use prog.Atomic.{either}
 use lib.Seq.{set-get_or}
-use Rattle.atomic_table.specs.Table.{State, step, Act, Valid, keeps, takes, gives, stepped, carried_after, rest, Allows}
+use Rattle.atomic_table.specs.Table.{State, step, Act, Valid, keeps, takes, gives, stepped, carried_after, Allows}
 use Rattle.atomic_table.proofs.Lists.{at_set, at_snoc, set_again, set_here}
 use Rattle.pm_desk.specs.declared.history.Past.{Past}
 use Rattle.pm_desk.specs.declared.history.Opening.{Opening}
 use Rattle.pm_desk.specs.declared.history.Stored.{Stored}
 use Rattle.pm_desk.specs.declared.history.View.{View}
-use Rattle.pm_desk.specs.Histories.{state_at, calls_of, StartsWith}
-use Rattle.pm_desk.specs.Turns.{Among, First, Fits, Apart, AtEnd, Kept, Sat, with_turn, without_turn, counting, Seized, tried, counted, released}
+use Rattle.pm_desk.specs.Histories.{state_at, calls_of, StartsWith, Owned}
+use Rattle.pm_desk.specs.Turns.{Among, First, Fits, Apart, AtEnd, Kept, Sat, with_turn, without_turn, counting, Seized, tried, released}
 use Rattle.pm_desk.proofs.Histories.{calls_of-other, starts_longer, starts_same}
 
 off : false ≡ true → ⊥
@@ -30,7 +29,7 @@ module _ {M R Q : Type 0} (next : R → M → Q → M) (good : R → M → Type 
   V = View M R Q
 
   abbrev S : Type 0
-  S = Option (Stored M Q)
+  S = Stored M Q
 
   abbrev Rule : State S V → Type 0
   Rule = Kept next good own about
@@ -137,12 +136,11 @@ module _ {M R Q : Type 0} (next : R → M → Q → M) (good : R → M → Type 
       let idle : (j : ℕ) (u : V) → get_elem? s.views j ≡ some u → u.desk ≡ Some about → u.turn ≡ true → ⊥ = λ j u e l t. let one = ((r.each j u e l).turn_is t).0 in omega arith in
       let f = r.each id v at live in (
         w,
-        takes 0 (Some x),
+        takes 0 x,
         h.1,
         record {
           log = r.log;
           wide = length-set s.words 0 1 ∙ wide;
-          counted = get_or-set_other s.words 0 1 1 0 (λ e. omega arith) ∙ r.counted;
           owned = r.owned;
           each = each_set (get_or (set s.words 0 1) 0 0) r.log s.views id w (λ j u _ e l. fits_idle (turn_of s) _ r.log u (idle j u e l) (r.each j u e l))
               record { seen = f.seen; calls = f.calls; had = f.had; had_calls = f.had_calls; turn_is = λ _. (now, h.2.0); first = λ z. first_same r.log v true v.seen x.history.items (f.first z) };
@@ -164,71 +162,86 @@ module _ {M R Q : Type 0} (next : R → M → Q → M) (good : R → M → Type 
       unmoved s r id m at ne = subst (λ (t : List ℕ × List V). Rule record { words = t.0; homes = s.homes; views = t.1 })
           (λ i. (sym (ap (λ b. set s.words 0 (either b 1 (turn_of s))) (ne_eqb (turn_of s) 0 ne) ∙ set-get_or s.words 0 0) i, sym (set_again s.views id m.0 at) i)) r
 
-  -- the seat that has the turn counts its call
-  pub counts : (slots id : ℕ) (m : Sat M R Q) (e : Past Q) → m.0.desk ≡ Some about → m.0.turn ≡ true → e.seat ≡ m.0.number → own e.seat e.request → length m.0.kept + 1 < 2 ^ 64
-      → Allows Rule slots id m 1 (λ n. (n + 1) % 2 ^ 64) (counted own (e ∷ []) (step slots 1 1 0 none) m)
-  counts slots id m e live has by may room s r long at small =
-      let v = m.0 in
-      let f = r.each id v at live in
-      let t = f.turn_is has in
-      let wide = r.wide in
-      let log' = r.log ++ e ∷ [] in
-      let w : V = counting v (v.kept ++ e ∷ []) in
-      let w' : V = counting v log' in
-      let same : w' ≡ w = ap (λ l. counting v (l ++ e ∷ [])) (sym t.1) in
-      let n' = (get_or s.words 1 0 + 1) % 2 ^ 64 in
-      let ws = set s.words 1 n' in
-      let turn' : get_or ws 0 0 ≡ turn_of s = get_or-set_other s.words 1 0 n' 0 (λ z. omega arith) in
-      let idle : (j : ℕ) (u : V) → j ≢ id → get_elem? s.views j ≡ some u → u.desk ≡ Some about → u.turn ≡ true → ⊥ = λ j u ne g l has'. (r.apart j id u v ne g l at live).turns has' has in (
-        w,
-        keeps,
-        tt,
-        subst (λ (y : V). Rule (stepped s 1 n' id m.1 y keeps)) same record {
-          log = log';
-          wide = length-set s.words 1 n' ∙ wide;
-          counted = get_or-set_same s.words 1 n' 0 (omega arith) ∙ counted_more s r v t.1 room e;
-          owned = λ k y g. ⊎_elim (λ was. r.owned k y was) (λ (is : e ≡ y). subst (λ (p : Past Q). own p.seat p.request) is may) (at_snoc r.log e y k g);
-          each = subst (λ turn. (j : ℕ) (u : V) → get_elem? (set s.views id w') j ≡ some u → u.desk ≡ Some about → Fits turn log' u) (sym turn')
-              (each_set (turn_of s) log' s.views id w'
-              (λ j u ne g l. fits_longer (turn_of s) r.log v u e by (idle j u ne g l) (r.apart j id u v ne g l at live) (r.each j u g l))
-              (fits_counted (turn_of s) r.log v e by has f));
-          apart = apart_set s.views id w' r.apart
-              (λ j u ne g l. (apart_left v w' u refl refl refl (λ _. idle j u ne g l) (r.apart id j v u (λ p. ne (sym p)) at live g l), apart_right v w' u refl (λ x _. idle j u ne g l x) (r.apart j id u v ne g l at live)));
-          busy = λ _. (id, w', set_here s.views id w' (at_inside s.views id v at), live, has);
-          home = λ z. let one = t.0 in absurd (omega arith);
-        },
-        (refl, refl, subst (λ l. StartsWith l v.seen) (sym t.1) f.seen, ap (calls_of v.number) t.1 ∙ f.calls, λ k y g. r.owned k y (subst (λ l. get_elem? l k ≡ some y) t.1 g)),
-      )
-    where
-      counted_more : (s : State S V) (r : Rule s) (v : V) → v.kept ≡ r.log → length v.kept + 1 < 2 ^ 64 → (e : Past Q) → (get_or s.words 1 0 + 1) % 2 ^ 64 ≡ length (r.log ++ e ∷ [])
-      counted_more s r v k room e = let c = r.counted in let l = ap length k in let small : get_or s.words 1 0 + 1 < 2 ^ 64 = omega arith in mod-eq_of_lt small ∙ omega (arith, length-append r.log (e ∷ []))
+  -- the view of a seat that lets the turn go
+  fits_released : (turn : ℕ) (log : List (Past Q)) (v : V) → Fits turn log v → Fits 0 log (without_turn v)
+  fits_released turn log v f = record { seen = f.seen; calls = f.calls; had = f.had; had_calls = f.had_calls; turn_is = λ e. absurd (off e); first = λ z. first_same log v false v.seen [] (f.first z) }
 
-  -- the seat that has put the value back lets the turn go
-  pub releases : (slots id : ℕ) (m : Sat M R Q) (x : Stored M Q) (more : List (ℕ × S)) → slots ≡ 1 → m.0.desk ≡ Some about → m.0.turn ≡ true → m.1 ≡ (0, Some x) ∷ more → AtEnd next good about m.0.kept x
-      → Allows Rule slots id m 0 (λ _. 0) (λ _. released (step slots 0 0 0 none) m 0)
-  releases slots id m x more one live has holds right = subst (λ (c : List (ℕ × S)). Allows Rule slots id (m.0, c) 0 (λ _. 0) (λ _. released (step slots 0 0 0 none) m 0)) (sym holds)
+  -- the turn word becomes free, with the value at home and this history
+  frees : (s : State S V) → Rule s → (id : ℕ) (v w : V) (x : S) (log : List (Past Q)) → length s.homes ≡ 1 → get_elem? s.views id ≡ some v → v.desk ≡ Some about → v.turn ≡ true
+      → w.number ≡ v.number → w.out ≡ v.out → w.joined ≡ v.joined → w.turn ≡ false → AtEnd next good about log x → Owned own log
+      → ((j : ℕ) (u : V) → j ≢ id → get_elem? s.views j ≡ some u → u.desk ≡ Some about → (u.turn ≡ true → ⊥) → Fits 0 log u) → Fits 0 log w
+      → Rule (stepped s 0 0 id ((0, x) ∷ []) w gives)
+  frees s r id v w x log one at live has n o l done right owned others mine =
+      let wide = r.wide in
+      let now : get_or (set s.words 0 0) 0 0 ≡ 0 = get_or-set_same s.words 0 0 0 (omega arith) in
+      let idle : (j : ℕ) (u : V) → j ≢ id → get_elem? s.views j ≡ some u → u.desk ≡ Some about → u.turn ≡ true → ⊥ = λ j u ne g a has'. (r.apart j id u v ne g a at live).turns has' has in
+      record {
+        log = log;
+        wide = length-set s.words 0 0 ∙ wide;
+        owned = owned;
+        each = subst (λ turn. (j : ℕ) (u : V) → get_elem? (set s.views id w) j ≡ some u → u.desk ≡ Some about → Fits turn log u) (sym now)
+            (each_set 0 log s.views id w (λ j u ne g a. others j u ne g a (idle j u ne g a)) mine);
+        apart = apart_set s.views id w r.apart
+            (λ j u ne g a. (apart_left v w u n o l (λ e _. off (sym done ∙ e)) (r.apart id j v u (λ p. ne (sym p)) at live g a), apart_right v w u n (λ _ e. off (sym done ∙ e)) (r.apart j id u v ne g a at live)));
+        busy = λ ne. absurd (ne now);
+        home = λ _. (x, set_here s.homes 0 (some x) (omega arith), right);
+      }
+
+  -- one list holds one value
+  held_is : (x y : S) → ◌≡◌ {A = List (ℕ × S)} ((0, x) ∷ []) ((0, y) ∷ []) → x ≡ y
+  held_is x y e = ap (λ (l : List (ℕ × S)). (get_or l 0 (0, x)).1) e
+
+  one_more : (log : List (Past Q)) (e : Past Q) → log ≡ log ++ e ∷ [] → ⊥
+  one_more log e is = let l = ap length is in omega (arith, length-append log (e ∷ []))
+
+  -- the seat that has the turn lets it go, with the history as it found it
+  pub releases_as_found : (slots id : ℕ) (m : Sat M R Q) (x : S) → slots ≡ 1 → m.0.desk ≡ Some about → m.0.turn ≡ true → m.1 ≡ (0, x) ∷ [] → AtEnd next good about m.0.kept x
+      → Allows Rule slots id m 0 (λ _. 0) (λ _. released own (step slots 0 0 0 none) m 0)
+  releases_as_found slots id m x one live has holds right = subst (λ (c : List (ℕ × S)). Allows Rule slots id (m.0, c) 0 (λ _. 0) (λ _. released own (step slots 0 0 0 none) (m.0, c) 0)) (sym holds)
       (λ s r long at small.
       let v = m.0 in
       let f = r.each id v at live in
-      let t = f.turn_is has in
-      let w : V = without_turn v in
-      let wide = r.wide in
-      let now : get_or (set s.words 0 0) 0 0 ≡ 0 = get_or-set_same s.words 0 0 0 (omega arith) in
-      let idle : (j : ℕ) (u : V) → j ≢ id → get_elem? s.views j ≡ some u → u.desk ≡ Some about → u.turn ≡ true → ⊥ = λ j u ne g l has'. (r.apart j id u v ne g l at live).turns has' has in (
+      let is = (f.turn_is has).1 in (
+        without_turn v,
+        gives,
+        tt,
+        frees s r id v (without_turn v) x v.kept (long ∙ one) at live has refl refl refl refl right
+            (λ k y g. r.owned k y (subst (λ l. get_elem? l k ≡ some y) is g))
+            (λ j u ne g l idle. subst (λ log. Fits 0 log u) (sym is) (fits_idle (turn_of s) 0 r.log u idle (r.each j u g l)))
+            (subst (λ log. Fits 0 log (without_turn v)) (sym is) (fits_released (turn_of s) r.log v f)),
+        record {
+          rests = refl;
+          as_found = λ _ _ _. refl;
+          counted = λ y e held more. absurd (one_more v.kept e (sym right.0 ∙ (ap (λ (z : S). z.history.items) (held_is x y held) ∙ more)));
+        },
+      ))
+
+  -- and with one more call, of its own
+  pub releases_counted : (slots id : ℕ) (m : Sat M R Q) (x : S) (e : Past Q) → slots ≡ 1 → m.0.desk ≡ Some about → m.0.turn ≡ true → m.1 ≡ (0, x) ∷ [] → AtEnd next good about (m.0.kept ++ e ∷ []) x
+      → e.seat ≡ m.0.number → own e.seat e.request → Allows Rule slots id m 0 (λ _. 0) (λ _. released own (step slots 0 0 0 none) m 0)
+  releases_counted slots id m x e one live has holds right by may = subst (λ (c : List (ℕ × S)). Allows Rule slots id (m.0, c) 0 (λ _. 0) (λ _. released own (step slots 0 0 0 none) (m.0, c) 0)) (sym holds)
+      (λ s r long at small.
+      let v = m.0 in
+      let f = r.each id v at live in
+      let is = (f.turn_is has).1 in
+      let log = v.kept ++ e ∷ [] in
+      let w : V = without_turn (counting v log) in
+      let owned : Owned own v.kept = λ k y g. r.owned k y (subst (λ l. get_elem? l k ≡ some y) is g) in (
         w,
         gives,
         tt,
+        frees s r id v w x log (long ∙ one) at live has refl refl refl refl right
+            (λ k y g. ⊎_elim (λ was. owned k y was) (λ (q : e ≡ y). subst (λ (p : Past Q). own p.seat p.request) q may) (at_snoc v.kept e y k g))
+            (λ j u ne g l idle. subst (λ h. Fits 0 (h ++ e ∷ []) u) (sym is) (fits_longer 0 r.log v u e by idle (r.apart j id u v ne g l at live) (fits_idle (turn_of s) 0 r.log u idle (r.each j u g l))))
+            (subst (λ h. Fits 0 (h ++ e ∷ []) (without_turn (counting v (h ++ e ∷ [])))) (sym is) (fits_released (turn_of s) (r.log ++ e ∷ []) (counting v (r.log ++ e ∷ [])) (fits_counted (turn_of s) r.log v e by has f))),
         record {
-          log = r.log;
-          wide = length-set s.words 0 0 ∙ wide;
-          counted = get_or-set_other s.words 0 1 0 0 (λ e. omega arith) ∙ r.counted;
-          owned = r.owned;
-          each = each_set (get_or (set s.words 0 0) 0 0) r.log s.views id w (λ j u ne g l. fits_idle (turn_of s) _ r.log u (idle j u ne g l) (r.each j u g l))
-              record { seen = f.seen; calls = f.calls; had = f.had; had_calls = f.had_calls; turn_is = λ e. absurd (off e); first = λ z. first_same r.log v false v.seen [] (f.first z) };
-          apart = apart_set s.views id w r.apart
-              (λ j u ne g l. (apart_left v w u refl refl refl (λ e _. off e) (r.apart id j v u (λ p. ne (sym p)) at live g l), apart_right v w u refl (λ _ e. off e) (r.apart j id u v ne g l at live)));
-          busy = λ ne. absurd (ne now);
-          home = λ _. (x, set_here s.homes 0 (some (Some x)) (omega arith), subst (λ l. AtEnd next good about l x) t.1 right);
+          rests = refl;
+          as_found = λ y held same. absurd (one_more v.kept e (sym same ∙ (ap (λ (z : S). z.history.items) (sym (held_is x y held)) ∙ right.0)));
+          counted = λ y e' held more. (
+            ap (λ l. without_turn (counting v l)) (sym right.0 ∙ (ap (λ (z : S). z.history.items) (held_is x y held) ∙ more)),
+            subst (λ l. StartsWith l v.seen) (sym is) f.seen,
+            ap (calls_of v.number) is ∙ f.calls,
+            owned,
+          );
         },
-        (refl, ap rest (sym holds)),
       ))

@@ -1,5 +1,5 @@
 -- Seats that are split from the first one and joined to it, and the end.
-use Rattle.std.proofs.Common.{◌≡◌, ◌≢◌, ◌⊎◌, ℕ, eqb, ltb, zero, suc, ◌+◌, ◌<◌, ◌≤◌, List, [], ◌∷◌, ◌++◌, length, get_or, set, cond, Option, Some, None, Bool, true, false, refl, eq-eqb, ne_eqb, sym, ap, ◌∙◌, subst, inl, inr, ⊎_elim, arith, length-append, ltb-true, ltb-false}
+use Rattle.std.proofs.Common.{◌≡◌, ◌≢◌, ◌⊎◌, ℕ, eqb, ltb, zero, suc, ◌+◌, ◌<◌, ◌≤◌, List, [], ◌∷◌, ◌++◌, length, get_or, set, cond, Some, None, Bool, true, false, refl, eq-eqb, ne_eqb, sym, ap, ◌∙◌, subst, inl, inr, ⊎_elim, arith, length-append, ltb-true, ltb-false}
 use mathlib.Core.Option.{some, some-ne-none, some-injective}
 use mathlib.Core.Logic.{dite}
 use native.Mathlib.Decide.{ℕ_discrete}
@@ -62,17 +62,16 @@ module _ {M R Q : Type 0} (next : R → M → Q → M) (good : R → M → Type 
   V = View M R Q
 
   abbrev S : Type 0
-  S = Option (Stored M Q)
+  S = Stored M Q
 
   abbrev Rule : State S V → Type 0
   Rule = Kept next good own about
 
   -- the table at the start
-  pub begins : (x : Stored M Q) → x.history.items ≡ [] → x.machine ≡ about.machine → good about.rules x.machine → Rule (opening (0 ∷ 0 ∷ []) (Some x ∷ []) (newcomer about 0 []))
+  pub begins : (x : Stored M Q) → x.history.items ≡ [] → x.machine ≡ about.machine → good about.rules x.machine → Rule (opening (0 ∷ []) (x ∷ []) (newcomer about 0 []))
   begins x none same right = record {
     log = [];
     wide = refl;
-    counted = refl;
     owned = λ k e at. absurd (some-ne-none e (sym at));
     each = one;
     apart = two;
@@ -138,7 +137,6 @@ module _ {M R Q : Type 0} (next : R → M → Q → M) (good : R → M → Type 
       record {
         log = r.log;
         wide = r.wide;
-        counted = r.counted;
         owned = r.owned;
         each = λ j u there l. ⊎_elim (λ was. each' j u was l) (λ t. subst (Fits turn r.log) t.1 fits_new) (at_end vs new u j there);
         apart = λ i j u x ne a la b lb. ⊎_elim
@@ -214,7 +212,6 @@ module _ {M R Q : Type 0} (next : R → M → Q → M) (good : R → M → Type 
       record {
         log = r.log;
         wide = r.wide;
-        counted = r.counted;
         owned = r.owned;
         each = λ j x e l. ⊎_elim (λ (t : (j ≡ other) × (spent ≡ x)). absurd (not_live x t.1 l)) (λ (t : (j ≢ other) × (get_elem? vs j ≡ some x)). each' j x t.1 l) (at_set vs other j spent x e);
         apart = λ i j x y ne xa xl ya yl. ⊎_elim
@@ -259,7 +256,7 @@ module _ {M R Q : Type 0} (next : R → M → Q → M) (good : R → M → Type 
 
   -- the end
   pub ends : (id : ℕ) (v : V) (ws : List ℕ) (xs : List S) → Final (Seen Rule id v) ws xs → v.desk ≡ Some about → v.number ≡ 0 → v.turn ≡ false → length v.joined ≡ v.splits
-      → (x : Stored M Q) × (get_elem? xs 0 ≡ some (Some x)) × AtEnd next good about x.history.items x × Ending own v x.history.items
+      → (x : Stored M Q) × (get_elem? xs 0 ≡ some x) × AtEnd next good about x.history.items x × Ending own v x.history.items
   ends id v ws xs final live first idle all =
       let s = final.0 in
       let r = final.1.0 in
@@ -272,7 +269,7 @@ module _ {M R Q : Type 0} (next : R → M → Q → M) (good : R → M → Type 
       let h = r.home free in
       let x = h.0 in (
         x,
-        final.4 0 (Some x) h.1,
+        final.4 0 x h.1,
         subst (λ l. AtEnd next good about l x) (sym h.2.0) h.2,
         subst (Ending own v) (sym h.2.0) record {
           begins = f.seen;
@@ -289,14 +286,12 @@ module _ {M R Q : Type 0} (next : R → M → Q → M) (good : R → M → Type 
           (λ is. let same : v ≡ b.1 = some-injective v b.1 (sym at ∙ (ap (get_elem? s.views) (sym is) ∙ b.2)) in let t : v.turn ≡ true = ap (λ (y : V). y.turn) same ∙ b.4 in let e : true ≡ false = sym t ∙ idle in cc)
           (λ ne. among_none v.out b.1.number none ((r.apart id b.0 v b.1 (λ p. ne (sym p)) at live b.2 b.3).out first))
 
-  pub begins_at : (items : List S) (x : Stored M Q) → items ≡ Some x ∷ [] → x.history.items ≡ [] → x.machine ≡ about.machine → good about.rules x.machine → Rule (opening (0 ∷ 0 ∷ []) items (newcomer about 0 []))
-  begins_at items x is none same right = subst (λ (l : List S). Rule (opening (0 ∷ 0 ∷ []) l (newcomer about 0 []))) (sym is) (begins x none same right)
+  pub begins_at : (items : List S) (x : Stored M Q) → items ≡ x ∷ [] → x.history.items ≡ [] → x.machine ≡ about.machine → good about.rules x.machine → Rule (opening (0 ∷ []) items (newcomer about 0 []))
+  begins_at items x is none same right = subst (λ (l : List S). Rule (opening (0 ∷ []) l (newcomer about 0 []))) (sym is) (begins x none same right)
 
   -- what is found in the slot
   pub closes : (id : ℕ) (v : V) (ws : List ℕ) (xs : List S) (out : S) → Final (Seen Rule id v) ws xs → v.desk ≡ Some about → v.number ≡ 0 → v.turn ≡ false → length v.joined ≡ v.splits → get_elem? xs 0 ≡ some out
-      → (x : Stored M Q) × (out ≡ Some x) × AtEnd next good about x.history.items x × Ending own v x.history.items
-  closes id v ws xs out final live first idle all found = let e = ends id v ws xs final live first idle all in (e.0, some-injective out (Some e.0) (sym found ∙ e.1), e.2, e.3)
-
-  pub closed_as : (v : V) (out : S) (y : Stored M Q) → (x : Stored M Q) × (out ≡ Some x) × AtEnd next good about x.history.items x × Ending own v x.history.items → out ≡ Some y
-      → AtEnd next good about y.history.items y × Ending own v y.history.items
-  closed_as v out y e is = let two : Some e.0 ≡ Some y = sym e.1 ∙ is in let same : e.0 ≡ y = cc in subst (λ (x : Stored M Q). AtEnd next good about x.history.items x × Ending own v x.history.items) same (e.2, e.3)
+      → AtEnd next good about out.history.items out × Ending own v out.history.items
+  closes id v ws xs out final live first idle all found =
+      let e = ends id v ws xs final live first idle all in
+      subst (λ (x : S). AtEnd next good about x.history.items x × Ending own v x.history.items) (some-injective e.0 out (sym e.1 ∙ found)) (e.2, e.3)

@@ -1,5 +1,5 @@
--- The rule of a desk's table. Word 0 is the turn, 0 while it is free, and word 1 is the length of the history.
-use Rattle.std.specs.Prelude.{◌≡◌, ◌≢◌, ℕ, ◌+◌, ◌<◌, ◌≤◌, List, [], ◌∷◌, ◌++◌, length, slice_index, true, false, cond, ◌==◌, Option, Some, None, ◌⊎◌}
+-- The rule of a desk's table. Its one word is the turn, 0 while it is free.
+use Rattle.std.specs.Prelude.{◌≡◌, ◌≢◌, ℕ, ◌+◌, ◌<◌, ◌≤◌, List, [], ◌∷◌, ◌++◌, length, slice_index, true, false, cond, ◌==◌, Some, None, ◌⊎◌}
 use Rattle.std.proofs.Common.{ltb}
 use mathlib.Core.Option.{some}
 use lib.ListN.{get_elem?}
@@ -28,7 +28,7 @@ longer xs ys = cond (ltb (length xs) (length ys)) ys xs
 
 -- a seat in the table: its view, and the slot values that it holds
 abbrev pub Sat : Type 0 → Type 0 → Type 0 → Type 0
-Sat M R Q = Me (Option (Stored M Q)) (View M R Q)
+Sat M R Q = Me (Stored M Q) (View M R Q)
 
 -- what a desk was opened with
 abbrev pub opened : {M R : Type 0} → M → R → Opening M R
@@ -75,15 +75,14 @@ module _ {M R Q : Type 0} where
 
   module _ (next : R → M → Q → M) (good : R → M → Type 0) (own : ℕ → Q → Type 0) (about : Opening M R) where
     -- What holds of the table between any two steps. A spent view is excepted from each part.
-    pub record Kept (s : State (Option (Stored M Q)) (View M R Q)) : Type 0 where
+    pub record Kept (s : State (Stored M Q) (View M R Q)) : Type 0 where
       pub log : List (Past Q)
-      pub wide : length s.words ≡ 2
-      pub counted : slice_index s.words 1 ≡ length log
+      pub wide : length s.words ≡ 1
       pub owned : Owned own log
       pub each : (j : ℕ) (v : View M R Q) → get_elem? s.views j ≡ some v → v.desk ≡ Some about → Fits (slice_index s.words 0) log v
       pub apart : (i j : ℕ) (v w : View M R Q) → i ≢ j → get_elem? s.views i ≡ some v → v.desk ≡ Some about → get_elem? s.views j ≡ some w → w.desk ≡ Some about → Apart v w
       pub busy : slice_index s.words 0 ≢ 0 → (j : ℕ) × (v : View M R Q) × (get_elem? s.views j ≡ some v) × (v.desk ≡ Some about) × (v.turn ≡ true)
-      pub home : slice_index s.words 0 ≡ 0 → (x : Stored M Q) × (get_elem? s.homes 0 ≡ some (some (Some x))) × AtEnd next good about log x
+      pub home : slice_index s.words 0 ≡ 0 → (x : Stored M Q) × (get_elem? s.homes 0 ≡ some (some x)) × AtEnd next good about log x
 
   -- the view of the seat that takes the turn
   abbrev pub with_turn : View M R Q → List (Past Q) → View M R Q
@@ -113,22 +112,25 @@ module _ {M R Q : Type 0} where
 
   -- the seat has the turn, and holds the value
   abbrev pub Seized : (R → M → Q → M) → (R → M → Type 0) → Sat M R Q → Sat M R Q → Type 0
-  Seized next good m n = (about : Opening M R) → m.0.desk ≡ Some about → (x : Stored M Q) × (n.0 ≡ with_turn m.0 x.history.items) × (n.1 ≡ (0, Some x) ∷ m.1) × AtEnd next good about x.history.items x
+  Seized next good m n = (about : Opening M R) → m.0.desk ≡ Some about → (x : Stored M Q) × (n.0 ≡ with_turn m.0 x.history.items) × (n.1 ≡ (0, x) ∷ m.1) × AtEnd next good about x.history.items x
 
   -- a try finds the turn taken, and nothing changes, or takes it
-  abbrev pub tried : (R → M → Q → M) → (R → M → Type 0) → Step (Option (Stored M Q)) → Sat M R Q → ℕ → Sat M R Q → Type 0
+  abbrev pub tried : (R → M → Q → M) → (R → M → Type 0) → Step (Stored M Q) → Sat M R Q → ℕ → Sat M R Q → Type 0
   tried next good st m r n = (r ≢ 0 → n ≡ m) × (r ≡ 0 → Seized next good m n)
 
-  -- the seat's call stands in the history, which begins with all that the seat had seen
-  abbrev pub Counted : (ℕ → Q → Type 0) → List (Past Q) → Sat M R Q → Sat M R Q → Type 0
-  Counted own entry m n = (n.0 ≡ counting m.0 (m.0.kept ++ entry)) × (n.1 ≡ m.1) × StartsWith m.0.kept m.0.seen × (calls_of m.0.number m.0.kept ≡ calls_of m.0.number m.0.seen) × Owned own m.0.kept
+  -- The seat's call stands at the end of this history, and the turn is free. What came before begins with all that the
+  -- seat had seen.
+  abbrev pub Counted : (ℕ → Q → Type 0) → List (Past Q) → View M R Q → View M R Q → Type 0
+  Counted own log v w = (w ≡ without_turn (counting v log)) × StartsWith v.kept v.seen × (calls_of v.number v.kept ≡ calls_of v.number v.seen) × Owned own v.kept
 
-  abbrev pub counted : (ℕ → Q → Type 0) → List (Past Q) → Step (Option (Stored M Q)) → Sat M R Q → ℕ → Sat M R Q → Type 0
-  counted own entry st m r n = Counted own entry m n
+  -- What a release tells. The value that the seat lets go has the history as the seat found it, or one call more.
+  pub record Released (own : ℕ → Q → Type 0) (m n : Sat M R Q) : Type 0 where
+    pub rests : n.1 ≡ rest m.1
+    pub as_found : (x : Stored M Q) → m.1 ≡ (0, x) ∷ [] → x.history.items ≡ m.0.kept → n.0 ≡ without_turn m.0
+    pub counted : (x : Stored M Q) (e : Past Q) → m.1 ≡ (0, x) ∷ [] → x.history.items ≡ m.0.kept ++ e ∷ [] → Counted own (m.0.kept ++ e ∷ []) m.0 n.0
 
-  -- the seat lets the turn go, with the slot's value put back
-  abbrev pub released : Step (Option (Stored M Q)) → Sat M R Q → ℕ → Sat M R Q → Type 0
-  released st m r n = (n.0 ≡ without_turn m.0) × (n.1 ≡ rest m.1)
+  abbrev pub released : (ℕ → Q → Type 0) → Step (Stored M Q) → Sat M R Q → ℕ → Sat M R Q → Type 0
+  released own st m r n = Released own m n
 
   -- What a read tells of a seat: it and the seats that it took in know beginnings of one history, with all calls of theirs.
   -- To the first seat it tells also that no entry has a number that is not yet given.
@@ -142,19 +144,23 @@ module _ {M R Q : Type 0} where
     pub given : v.number ≡ 0 → (k : ℕ) (e : Past Q) → get_elem? log k ≡ some e → e.seat ≤ v.splits
 
   -- a read changes nothing
-  abbrev pub looked : Step (Option (Stored M Q)) → Sat M R Q → ℕ → Sat M R Q → Type 0
+  abbrev pub looked : Step (Stored M Q) → Sat M R Q → ℕ → Sat M R Q → Type 0
   looked st m r n = (n ≡ m) × Sees m.0
 
   -- the seat is of the desk that was opened so, and it holds nothing
   abbrev pub AtRest : Opening M R → Sat M R Q → Type 0
   AtRest about m = (m.0.desk ≡ Some about) × (m.1 ≡ []) × (m.0.turn ≡ false) × (m.0.kept ≡ [])
 
-  -- the seat has the turn and holds this value
-  abbrev pub HasValue : (R → M → Q → M) → (R → M → Type 0) → Opening M R → View M R Q → Sat M R Q → Type 0
-  HasValue next good about v m = (x : Stored M Q) × (m.0 ≡ with_turn v x.history.items) × (m.1 ≡ (0, Some x) ∷ []) × AtEnd next good about x.history.items x
+  -- the seat holds a value at the end of this history
+  abbrev pub HoldsEnd : (R → M → Q → M) → (R → M → Type 0) → Opening M R → List (Past Q) → Sat M R Q → Type 0
+  HoldsEnd next good about log m = (x : Stored M Q) × (m.1 ≡ (0, x) ∷ []) × AtEnd next good about log x
+
+  -- the seat has the turn, and holds the value
+  abbrev pub HasTurn : (R → M → Q → M) → (R → M → Type 0) → Opening M R → View M R Q → Sat M R Q → Type 0
+  HasTurn next good about v m = (log : List (Past Q)) × (m.0 ≡ with_turn v log) × HoldsEnd next good about log m
 
   -- the seat is of the desk with this table
-  abbrev pub IsOf : TableId → Opening M R → Seat (Option (Stored M Q)) (View M R Q) → Type 0
+  abbrev pub IsOf : TableId → Opening M R → Seat (Stored M Q) (View M R Q) → Type 0
   IsOf table about token = (token.table_id ≡ table) × AtRest about token.me
 
   -- the reply to q is the machine's at the end of a history that begins with all that the seat had seen, and in which

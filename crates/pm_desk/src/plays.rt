@@ -1,14 +1,12 @@
 //! The rule of a desk's table, and what each step tells.
-ghost use Rattle.std.specs.Prelude.{List};
-
-use crate::history::{Opening, Past, Stored, View};
+use crate::history::{Opening, Stored, View};
 use atomic_table::{Join, Play, Split, TableRule};
 use pm_change::Machine;
-use std::marker::{Brand, PhantomData};
+use std::marker::PhantomData;
 use std::snapshot::Snapshot;
 
-/// What the table's slot holds: the machine with its history, or nothing while a seat has it.
-pub type Slot<M> = Option<Stored<M, <M as Machine>::Request>>;
+/// What the table's slot holds: the machine with its history.
+pub type Slot<M> = Stored<M, <M as Machine>::Request>;
 
 /// What a seat knows.
 pub type Sight<M> = View<M, <M as Machine>::Rules, <M as Machine>::Request>;
@@ -44,31 +42,8 @@ impl<M: Machine> Play<Slot<M>, Sight<M>> for Try<M> {
     ghost then = { tried M.next M.good };
 }
 
-/// The entry with which a seat counts its call, for the proof alone.
-pub trait Entry<Q> {
-    ghost use Rattle.pm_desk.specs.declared.history.Past.{Past};
-
-    ghost entry: { List (Past Q) };
-}
-
-impl<Q> Entry<Q> for Brand {
-    ghost use Rattle.std.specs.Prelude.{[]};
-
-    ghost entry = { [] };
-}
-
-/// The count of a call, with which it stands in the history.
-pub struct Count<M, E> {
-    machine: PhantomData<(M, E)>,
-}
-
-impl<M: Machine, E: Entry<M::Request>> Play<Slot<M>, Sight<M>> for Count<M, E> {
-    ghost use Rattle.pm_desk.specs.Turns.{counted};
-
-    ghost then = { counted M.own E.entry };
-}
-
-/// The release of the turn.
+/// The release of the turn. Where the seat has put a call at the end of the slot's history, that call stands in the
+/// desk's history from then on.
 pub struct Release<M> {
     machine: PhantomData<M>,
 }
@@ -76,7 +51,7 @@ pub struct Release<M> {
 impl<M: Machine> Play<Slot<M>, Sight<M>> for Release<M> {
     ghost use Rattle.pm_desk.specs.Turns.{released};
 
-    ghost then = { released };
+    ghost then = { released M.own };
 }
 
 /// A read, by which a seat learns of the history.

@@ -104,58 +104,78 @@ fn ask<R: Wait>(
     }
 }
 
+// Makes these calls one after another, and gives what they were told.
+fn ask_all<R: Wait>(
+    alloc: Global,
+    rt: &R,
+    desk: &Desk<Ledger>,
+    seat: &mut Seat<Ledger>,
+    wishes: Vec<Wish>,
+) -> Result<Vec<(bool, u64)>, AllocError>
+    requires { IsSeatOf desk.now seat.old }
+    ensures { seat.new ≡ record seat.old { seen = seat.new.seen } }
+{
+    let mut replies = Vec::new(alloc);
+    for wish in wishes {
+        replies.push(ask(alloc, rt, desk, seat, wish)?)?;
+    }
+    Ok(replies)
+}
+
+// Whether the history has these seats' calls, with these amounts, and no others.
+fn has_calls(closed: &Closed<Ledger>, calls: &[(u32, bool, u32)]) -> bool {
+    let mut left = calls.iter();
+    for past in &closed.history {
+        let call = (past.seat, past.request.submits, past.request.amount);
+        if left.next() != Some(&call) {
+            return false;
+        }
+    }
+    left.next().is_none()
+}
+
+// What one seat was told, and what it leaves.
+fn play_alone<R: Wait>(
+    alloc: Global,
+    rt: &R,
+) -> Result<(Vec<(bool, u64)>, Closed<Ledger>), AllocError> {
+    let wishes = vec![in alloc; submission(0, 7), submission(0, 8), request(0)]?;
+    let (desk, mut seat) = Desk::new(alloc, LIMIT, Ledger { length: 0, sum: 0 })?;
+    let replies = ask_all(alloc, rt, &desk, &mut seat, wishes)?;
+    Ok((replies, desk.close(seat)))
+}
+
 #[test]
 fn a_reply_stands_at_its_place(rt: HostRuntime) -> Result<(), AllocError> {
-    let alloc = rt.alloc();
-    let (desk, mut seat) = Desk::new(alloc, LIMIT, Ledger { length: 0, sum: 0 })?;
-    assert_eq!(rt; (seat.number(), *desk.rules()), (0, LIMIT));
-    assert_eq!(rt;
-        ask(alloc, &rt, &desk, &mut seat, submission(0, 7))?,
-        (true, 0)
-    );
-    assert_eq!(rt;
-        ask(alloc, &rt, &desk, &mut seat, submission(0, 7))?,
-        (false, 1)
-    );
-    assert_eq!(rt; ask(alloc, &rt, &desk, &mut seat, request(0))?, (false, 1));
-    let closed = desk.close(seat);
-    assert_eq!(rt;
-        (closed.rules, closed.machine.length, closed.machine.sum),
-        (LIMIT, 1, 7)
-    );
-    assert_eq!(rt; closed.history.len(), 3);
-    for (place, submits) in [(0, true), (1, true), (2, false)] {
-        let past = closed.history.get(place);
-        assert!(rt;
-            past.is_some_and(|p| p.seat == 0
-                && p.request.submits == submits
-                && p.request.version == 0)
-        );
-    }
+    let (replies, closed) = play_alone(rt.alloc(), &rt)?;
+    assert!(rt; replies.as_slice() == [(true, 0), (false, 1), (false, 1)].as_slice());
+    let Ledger { length, sum } = closed.machine;
+    assert_eq!(rt; (closed.rules, length, sum), (LIMIT, 1, 7));
+    assert!(rt; has_calls(&closed, &[(0, true, 7), (0, true, 8), (0, false, 0)]));
     Ok(())
+}
+
+// What a second seat was told, and then the first one, which has taken it in. The numbers are
+// the second seat's and the rules.
+fn play_joined<R: Wait>(
+    alloc: Global,
+    rt: &R,
+) -> Result<((u32, u64), [(bool, u64); 2], Closed<Ledger>), AllocError> {
+    let (desk, mut first) = Desk::new(alloc, LIMIT, Ledger { length: 0, sum: 0 })?;
+    let mut other = desk.split(&mut first);
+    let asked = (other.number(), *desk.rules());
+    let told = ask(alloc, rt, &desk, &mut other, submission(0, 5))?;
+    desk.join(&mut first, other);
+    let behind = ask(alloc, rt, &desk, &mut first, submission(1, 6))?;
+    Ok((asked, [told, behind], desk.close(first)))
 }
 
 #[test]
 fn a_call_after_a_join_stands_after_the_other_seats(rt: HostRuntime) -> Result<(), AllocError> {
-    let alloc = rt.alloc();
-    let (desk, mut first) = Desk::new(alloc, LIMIT, Ledger { length: 0, sum: 0 })?;
-    let mut other = desk.split(&mut first);
-    assert_eq!(rt; other.number(), 1);
-    assert_eq!(rt;
-        ask(alloc, &rt, &desk, &mut other, submission(0, 5))?,
-        (true, 0)
-    );
-    desk.join(&mut first, other);
-    assert_eq!(rt;
-        ask(alloc, &rt, &desk, &mut first, submission(1, 6))?,
-        (true, 1)
-    );
-    let closed = desk.close(first);
-    assert_eq!(rt; closed.history.len(), 2);
-    for (place, seat, amount) in [(0, 1, 5), (1, 0, 6)] {
-        let past = closed.history.get(place);
-        assert!(rt; past.is_some_and(|p| p.seat == seat && p.request.amount == amount));
-    }
+    let (asked, replies, closed) = play_joined(rt.alloc(), &rt)?;
+    assert_eq!(rt; (asked, closed.machine.length), ((1, LIMIT), 2));
+    assert!(rt; replies == [(true, 0), (true, 1)]);
+    assert!(rt; has_calls(&closed, &[(1, true, 5), (0, true, 6)]));
     Ok(())
 }
 
@@ -222,14 +242,6 @@ fn seated(alloc: Global, seat: Seat<Ledger>) -> Caller
     }
 }
 
-fn leave(told: &mut Vec<Vec<(bool, u64)>>, caller: Caller) -> Result<Seat<Ledger>, AllocError>
-    ensures { IfOk result (λ s. s ≡ caller.seat) }
-{
-    let Caller { seat, replies } = caller;
-    told.push(replies)?;
-    Ok(seat)
-}
-
 // Plays the history again on one thread. Each reply has to be the next one that its seat was told.
 fn replays(
     alloc: Global,
@@ -266,16 +278,16 @@ fn four_threads_leave_one_history(rt: HostRuntime) -> Result<(), AllocError> {
         &mut || run_two(alloc, &rt, &desk, &mut a, &mut b),
         &mut || run_two(alloc, &rt, &desk, &mut c, &mut d),
     );
-    let mut told = Vec::new(alloc);
-    let mut first = leave(&mut told, a)?;
-    desk.join(&mut first, leave(&mut told, b)?);
-    desk.join(&mut first, leave(&mut told, c)?);
-    desk.join(&mut first, leave(&mut told, d)?);
+    let mut first = a.seat;
+    desk.join(&mut first, b.seat);
+    desk.join(&mut first, c.seat);
+    desk.join(&mut first, d.seat);
     let closed = desk.close(first);
-    assert_eq!(rt; closed.history.len(), 8_000);
+    let told = vec![in alloc; a.replies, b.replies, c.replies, d.replies]?;
     for t in &told {
         assert_eq!(rt; t.len(), 2_000);
     }
+    assert_eq!(rt; closed.history.len(), 8_000);
     assert!(rt; replays(alloc, &closed, told.as_slice())?);
     Ok(())
 }

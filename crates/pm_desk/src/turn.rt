@@ -1,17 +1,15 @@
 //! The machine under a turn. These types have the table's own words for desk and seat; callers see those of `desk`.
-ghost use Rattle.std.specs.Prelude.{◌≡◌, ℕ, ◌+◌, ◌<◌, ◌^◌, length, [], ◌∷◌, None, Some, IfOk, IfErr, OnOk, OnErr, true, false, vec_len, vec_capacity};
+ghost use Rattle.std.specs.Prelude.{◌≡◌, ℕ, ◌+◌, ◌<◌, ◌^◌, length, [], ◌∷◌, ◌++◌, Some, IfOk, IfErr, OnOk, OnErr, vec_len, vec_capacity};
 ghost use Rattle.std.specs.Coded.{Coded-set};
 ghost use Rattle.pm_desk.specs.Histories.{past, state_at, calls_of, Gathers};
-ghost use Rattle.pm_desk.specs.Turns.{AtEnd, AtRest, HasValue, Answered, Counted, newcomer, without_turn, IsOf, opened, with_split, split_off, with_joined, Ending};
+ghost use Rattle.pm_desk.specs.Turns.{AtRest, HoldsEnd, HasTurn, Answered, newcomer, IsOf, opened, with_split, split_off, with_joined, Ending};
 
 use crate::history::{Back, Closed, Opening, Past, Stored};
-use crate::plays::{
-    About, Count, Deal, Entry, Gather, Look, Release, Sight, Slot, Token, Try, Turns,
-};
+use crate::plays::{About, Deal, Gather, Look, Release, Sight, Slot, Token, Try, Turns};
 use atomic_table::{Refused, Table};
 use pm_change::Machine;
 use std::alloc::{AllocError, Global};
-use std::marker::Brand;
+use std::hint::spin_loop;
 use std::snapshot::Snapshot;
 use std::sync::Wait;
 use std::thread::yield_now;
@@ -21,7 +19,7 @@ use std::thread::yield_now;
 pub struct Desk<M: Machine> {
     pub table: Table<Slot<M>, Sight<M>, About<M>, Turns<M>, Global>,
     pub rules: M::Rules,
-    ghost sized: { (table.shared.table_id.words ≡ 2) × (table.shared.table_id.slots ≡ 1) },
+    ghost sized: { (table.shared.table_id.words ≡ 1) × (table.shared.table_id.slots ≡ 1) },
     ghost ruled: { rules ≡ table.shared.key.value.rules } by { Coded-set M.Rules.code rules table.shared.key.value.rules },
 }
 
@@ -34,48 +32,60 @@ pub struct Seat<M: Machine> {
     ghost numbered: { (number ≡ token.me.0.number) × (splits ≡ token.me.0.splits) },
 }
 
+// How often a seat looks whether the turn is free before it lets other threads go on.
+const LOOKS: u32 = 64;
+
 impl<M: Machine> Desk<M> {
-    // Tries until it has the turn. While another seat has it, it lets other threads go on.
+    // Tries until it has the turn.
     fn take_turn<R: Wait>(&self, rt: &R, token: &mut Token<M>)
         requires desk { token.old.table_id ≡ self.now.table.shared.table_id }
         requires rest { AtRest self.now.table.shared.key.value token.old.me }
         ensures same { (token.new.table_id ≡ token.old.table_id) × (token.new.id ≡ token.old.id) }
-        ensures value { HasValue M.next M.good self.now.table.shared.key.value token.old.me.0 token.new.me }
+        ensures value { HasTurn M.next M.good self.now.table.shared.key.value token.old.me.0 token.new.me }
     {
         // A word that is 0 means that the turn is free.
         for _ in rt.forever() {
             if self.table.shared.compare_exchange::<Try<M>>(token, 0, 0, 1) == 0 {
                 return;
             }
-            yield_now();
+            self.look_out();
         }
         unreachable!()
     }
 
-    // Counts the call, which stands in the history from then on.
-    fn count<E: Entry<M::Request>>(&self, token: &mut Token<M>, called: &Past<M::Request>)
-        requires desk { token.old.table_id ≡ self.now.table.shared.table_id }
-        requires turn { (token.old.me.0.desk ≡ Some self.now.table.shared.key.value) × (token.old.me.0.turn ≡ true) }
-        requires entry { (E.entry ≡ called.now ∷ []) × (called.now.seat ≡ token.old.me.0.number) × M.own called.now.seat called.now.request }
-        requires room { length token.old.me.0.kept + 1 < 2 ^ 64 }
-        ensures same { (token.new.table_id ≡ token.old.table_id) × (token.new.id ≡ token.old.id) }
-        ensures counted { Counted M.own (called.now ∷ []) token.old.me token.new.me }
-    {
-        self.table.shared.fetch_add::<Count<M, E>>(token, 1, 1);
+    // Looks for a while whether the turn is free. If it is not, lets other threads go on.
+    fn look_out(&self) {
+        for _ in 0..LOOKS {
+            if self.table.shared.peek(0) == 0 {
+                return;
+            }
+            spin_loop();
+        }
+        yield_now();
     }
 
-    // Puts the value back, and lets the turn go.
-    fn put_back(&self, token: &mut Token<M>, stored: Stored<M, M::Request>)
+    // Answers the request in the slot. A call that got a reply then stands at the end of the slot's history.
+    fn answer(
+        &self,
+        alloc: Global,
+        token: &mut Token<M>,
+        seat: u32,
+        request: M::Request,
+    ) -> Result<M::Reply, Back<M::Request>>
         requires desk { token.old.table_id ≡ self.now.table.shared.table_id }
-        requires turn { (token.old.me.0.desk ≡ Some self.now.table.shared.key.value) × (token.old.me.0.turn ≡ true) }
-        requires out { token.old.me.1 ≡ (0, None) ∷ [] }
-        requires value { AtEnd M.next M.good self.now.table.shared.key.value token.old.me.0.kept stored }
-        ensures same { (token.new.table_id ≡ token.old.table_id) × (token.new.id ≡ token.old.id) }
-        ensures view { (token.new.me.0 ≡ without_turn token.old.me.0) × (token.new.me.1 ≡ []) }
+        requires value { HoldsEnd M.next M.good self.now.table.shared.key.value token.old.me.0.kept token.old.me }
+        ensures same { (token.new.table_id ≡ token.old.table_id) × (token.new.id ≡ token.old.id) × (token.new.me.0 ≡ token.old.me.0) }
+        ensures ok { let opening = self.now.table.shared.key.value in let log = token.old.me.0.kept in IfOk result (λ r. (r ≡ M.reply opening.rules (state_at M.next opening.rules opening.machine log) request) × HoldsEnd M.next M.good opening (log ++ past seat request ∷ []) token.new.me) }
+        ensures err { IfErr result (λ b. (b.request ≡ request) × HoldsEnd M.next M.good self.now.table.shared.key.value token.old.me.0.kept token.new.me) }
     {
-        let old = self.table.shared.exchange(token, 0, Some(stored));
-        let None = old else { unreachable!() };
-        self.table.shared.store::<Release<M>>(token, 0, 0);
+        let stored = token.slot_mut(&self.table.shared, 0);
+        match answer(alloc, stored, &self.rules, &request) {
+            Ok(reply) => {
+                stored.history.push_reserved(Past { seat, request });
+                Ok(reply)
+            }
+            Err(_) => Err(Back { request }),
+        }
     }
 }
 
@@ -90,11 +100,11 @@ impl<M: Machine> Desk<M> {
         let about = Snapshot::of(&opening);
         let Opening { machine, rules } = opening;
         let mut slots = Vec::with_capacity(alloc, 1)?;
-        slots.push_reserved(Some(Stored {
+        slots.push_reserved(Stored {
             machine,
             history: Vec::new(alloc),
-        }));
-        match Table::new(alloc, &[0, 0], slots, &about) {
+        });
+        match Table::new(alloc, &[0], slots, &about) {
             Ok((table, token)) => {
                 let desk = Desk { table, rules };
                 let seat = Seat {
@@ -170,10 +180,8 @@ impl<M: Machine> Desk<M> {
             token,
         } = seat;
         let mut closed = table.close_with(token);
-        let out = closed.take(0);
+        let Stored { machine, history } = closed.take(0);
         closed.free();
-        let Some(stored) = out else { unreachable!() };
-        let Stored { machine, history } = stored;
         Closed {
             rules,
             machine,
@@ -181,7 +189,7 @@ impl<M: Machine> Desk<M> {
         }
     }
 
-    /// Takes the turn and the value out, counts the call and puts the value back. No step that may fail comes after the count.
+    /// Takes the turn, answers the request, and lets the turn go. With that a call that got a reply stands in the history.
     pub fn call<R: Wait>(
         &self,
         alloc: Global,
@@ -196,26 +204,9 @@ impl<M: Machine> Desk<M> {
         ensures err { IfErr result (λ b. (b.request ≡ request) × (seat.new.token.me.0 ≡ seat.old.token.me.0)) }
     {
         self.take_turn(rt, &mut seat.token);
-        let out = self.table.shared.exchange(&mut seat.token, 0, None);
-        let Some(mut stored) = out else {
-            unreachable!()
-        };
-        match answer(alloc, &mut stored, &self.rules, &request) {
-            Ok(reply) => {
-                let called = Past {
-                    seat: seat.number,
-                    request,
-                };
-                self.count::<Brand>(&mut seat.token, &called);
-                stored.history.push_reserved(called);
-                self.put_back(&mut seat.token, stored);
-                Ok(reply)
-            }
-            Err(_) => {
-                self.put_back(&mut seat.token, stored);
-                Err(Back { request })
-            }
-        }
+        let told = self.answer(alloc, &mut seat.token, seat.number, request);
+        self.table.shared.store::<Release<M>>(&mut seat.token, 0, 0);
+        told
     }
 }
 

@@ -1,4 +1,4 @@
-use Rattle.std.proofs.Common.{◌∷◌, rules, Some, ap, ◌∙◌, subst}
+use Rattle.std.proofs.Common.{◌∷◌, rules, ap, ◌∙◌, subst}
 use Rattle.pm_desk.specs.Turns.{Seized}
 use Rattle.pm_desk.proofs.Moves.{tries}
 use Rattle.pm_desk.proofs.turn.Desk.take_turn.Goals as goal
@@ -12,4 +12,4 @@ returns-then-compare_exchange-eq0-clause-value g c =
     let n = c.compare_exchange.new.seat.me in
     let seized = subst (λ m. Seized g.M.Machine.next g.M.Machine.good m n) c.loop.invariant.2 (c.compare_exchange.ensures.2.1 c.if-compare_exchange-eq0.true) in
     let t = seized c.args.self.now.table.shared.key.value c.requires.rest.0 in
-    (t.0, t.1, t.2 ∙ ap (λ l. (0, Some t.0) ∷ l) c.requires.rest.1, t.3)
+    (t.0.history.items, t.1, (t.0, t.2 ∙ ap (λ l. (0, t.0) ∷ l) c.requires.rest.1, t.3))
