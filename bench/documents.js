@@ -180,6 +180,7 @@ const WHOLE = {
   schema: [({spec}) => new Schema(spec), schema => Object.keys(schema.nodes).length + Object.keys(schema.marks).length],
   parse: [({line}) => JSON.parse(line), json => json.content.length],
   read: [({schema, json}) => Node.fromJSON(schema, json), doc => doc.nodeSize],
+  line: [({schema, line}) => Node.fromJSON(schema, JSON.parse(line)), doc => doc.nodeSize],
   check: [({doc}) => doc.check(), (_, {doc}) => doc.content.size],
   copy: [({doc}) => copies(doc), sum => sum],
   write: [({doc}) => doc.toJSON(), json => json.content.length],

@@ -2,9 +2,10 @@
 
 use crate::round::Round;
 use crate::time::nanos_since;
-use anyhow::{Result, ensure};
+use anyhow::{Result, bail, ensure};
 use pm_docjson::{read_node, write_node};
 use pm_doctext::push_document;
+use pm_doctree::node_in;
 use pm_node::Document;
 use pm_schema::Schema;
 use pm_schemajson::read_schema;
@@ -47,6 +48,18 @@ pub fn read<R: Clock + AllocGlobal>(rt: &R, schema: &Schema, json: &Value) -> Re
     let start = Instant::now(rt)?;
     let top = read_node(rt.alloc(), schema, json)?;
     let nanos = nanos_since(rt, &start)?;
+    let check = top.size() as u64;
+    Ok(Round { check, nanos })
+}
+
+/// Times reading a document from its line, without a value of the line. What was computed is the number of its tokens.
+pub fn line<R: Clock + AllocGlobal>(rt: &R, schema: &Schema, line: &str) -> Result<Round> {
+    let start = Instant::now(rt)?;
+    let top = node_in(rt.alloc(), schema, line)?;
+    let nanos = nanos_since(rt, &start)?;
+    let Some(top) = top else {
+        bail!("the line is not read at once");
+    };
     let check = top.size() as u64;
     Ok(Round { check, nanos })
 }

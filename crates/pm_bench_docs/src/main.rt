@@ -19,7 +19,7 @@ use std::rt::Env;
 use std::{env, io};
 
 const USAGE: &str = "usage: PART REPEATS < LINES
-parts: schema parse read check copy write print text resolve splice replace apply invert map";
+parts: schema parse read line check copy write print text resolve splice replace apply invert map";
 
 /// Times one part as often as is asked, and writes what was computed and the nanoseconds, the least of all repeats. The first
 /// line of the input is a schema, the second a document, and each further one a step.

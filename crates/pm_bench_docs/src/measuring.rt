@@ -32,6 +32,7 @@ fn round_of<R: Clock + AllocGlobal>(rt: &R, part: Part, inputs: &Inputs) -> Resu
         Part::Schema => documents::schema(rt, &inputs.types),
         Part::Parse => documents::parse(rt, inputs.line.as_str()),
         Part::Read => documents::read(rt, &inputs.schema, &inputs.json),
+        Part::Line => documents::line(rt, &inputs.schema, inputs.line.as_str()),
         Part::Check => documents::check(rt, &inputs.schema, &inputs.document),
         Part::Copy => documents::copy(rt, &inputs.document),
         Part::Write => documents::write(rt, &inputs.schema, &inputs.document),

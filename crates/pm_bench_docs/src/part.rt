@@ -9,6 +9,8 @@ pub enum Part {
     Parse,
     /// `read_node`.
     Read,
+    /// `node_in` of the document's line.
+    Line,
     /// `Document::check`.
     Check,
     /// `Document::copy`.
@@ -65,6 +67,7 @@ fn part_of(name: &str) -> Option<Part> {
         "schema" => Some(Part::Schema),
         "parse" => Some(Part::Parse),
         "read" => Some(Part::Read),
+        "line" => Some(Part::Line),
         "check" => Some(Part::Check),
         "copy" => Some(Part::Copy),
         "write" => Some(Part::Write),
