@@ -1,6 +1,7 @@
 pub mod Split
 pub mod Counts
 pub mod Missing
+pub mod AtOnce
 mod OneSchema
 mod TwinFills
 pub mod SameNodes

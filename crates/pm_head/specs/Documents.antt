@@ -63,10 +63,19 @@ TopNode s d r = MatchBool (is_some (as_null d)) (FilledTop s r) (ReadTop s d r)
 abbrev pub may_be_first : Schema → Node → Bool
 may_be_first s n = (n.kind == top_of s.spec) && (is_whole (doc_of n).tokens && is_none (fault (documents_of s.spec) (doc_of n)))
 
+-- the first document with this top node, or that it is not valid or not of the top type
+abbrev pub DocFrom : Schema → Node → Result Doc Code → Type 0
+DocFrom s n (Ok doc) = (may_be_first s n ≡ true) × (doc ≡ doc_of n)
+DocFrom s n (Err code) = (may_be_first s n ≡ false) × (code ≡ InvalidDocument)
+
 -- the first document, or the code of its fault: last of all that it is not valid or not of the top type
 abbrev pub DocIs : Schema → Data → Result Doc Code → Type 0
 DocIs s d (Ok doc) = (n : Node) × TopNode s d (Ok n) × (may_be_first s n ≡ true) × (doc ≡ doc_of n)
 DocIs s d (Err code) = TopNode s d (Err code) ⊎ ((n : Node) × TopNode s d (Ok n) × (may_be_first s n ≡ false) × (code ≡ InvalidDocument))
+
+-- the line is a JSON value that writes this node
+abbrev pub WritesNode : Schema → List ℕ → Node → Type 0
+WritesNode s line n = (d : Data) × (json_line line ≡ Ok d) × (node_of s.spec Kept d ≡ Ok n)
 
 -- line 2
 abbrev pub DocLine : Schema → List ℕ → Result Doc Code → Type 0

@@ -1,21 +1,23 @@
 //! Line 2: the first document.
-ghost use Rattle.std.specs.Prelude.{◌≡◌, ◌<◌, length, IfOk};
+ghost use Rattle.std.specs.Prelude.{◌≡◌, ◌<◌, length, IfOk, IfSome};
 ghost use Rattle.serde_json.specs.View.{view};
 ghost use Rattle.pm_tokens.specs.Faults.{Valid};
 ghost use Rattle.pm_schema.specs.Documents.{documents_of};
 ghost use Rattle.pm_head.specs.Answers.{Finds};
-ghost use Rattle.pm_head.specs.Documents.{FilledTop, TopNode, DocIs, DocLine, top_of};
+ghost use Rattle.pm_head.specs.Documents.{FilledTop, TopNode, DocFrom, DocIs, DocLine, WritesNode, top_of};
 
 use crate::code::Code;
 use crate::codes::{fill_code, node_code};
 use crate::fault::LineError;
-use crate::lines::json_line;
+use crate::lines::{MAX_LINE, json_line};
 use pm_auto::TypeId;
 use pm_docjson::read_node;
+use pm_doctree::node_in;
 use pm_node::{CheckError, Document, Node, make_filled};
 use pm_schema::Schema;
 use serde_json::Value;
-use std::alloc::Global;
+use std::alloc::{AllocError, Global};
+use std::str;
 
 /// The first document: the one that line 2 writes, or the top type filled where it is null. An error says the code of its
 /// first fault, or that there was no memory.
@@ -23,8 +25,24 @@ pub fn doc_line(alloc: Global, schema: &Schema, line: &[u8]) -> Result<Document,
     ensures read { Finds (DocLine schema.now line.now) result }
     ensures valid { IfOk result (Valid (documents_of schema.now.spec)) }
 {
+    if let Some(node) = node_at_once(alloc, schema, line)? {
+        return doc_from(alloc, schema, node);
+    }
     let json = json_line(alloc, line)?;
     doc_of(alloc, schema, &json)
+}
+
+/// The node that the line writes, where it is read without a value of the whole line.
+fn node_at_once(alloc: Global, schema: &Schema, line: &[u8]) -> Result<Option<Node>, AllocError>
+    ensures { IfOk result (λ o. IfSome o (WritesNode schema.now line.now)) }
+{
+    if line.len() > MAX_LINE {
+        return Ok(None);
+    }
+    match str::from_utf8(line) {
+        Ok(text) => node_in(alloc, schema, text),
+        Err(_) => Ok(None),
+    }
 }
 
 fn doc_of(alloc: Global, schema: &Schema, json: &Value) -> Result<Document, LineError>
@@ -32,6 +50,14 @@ fn doc_of(alloc: Global, schema: &Schema, json: &Value) -> Result<Document, Line
     ensures valid { IfOk result (Valid (documents_of schema.now.spec)) }
 {
     let node = top_node(alloc, schema, json)?;
+    doc_from(alloc, schema, node)
+}
+
+/// The first document whose top node this is, where it is valid and of the top type.
+fn doc_from(alloc: Global, schema: &Schema, node: Node) -> Result<Document, LineError>
+    ensures read { Finds (DocFrom schema.now node) result }
+    ensures valid { IfOk result (Valid (documents_of schema.now.spec)) }
+{
     if node.kind != top_type(schema) {
         return Err(LineError::Code(Code::InvalidDocument));
     }

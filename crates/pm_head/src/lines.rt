@@ -10,7 +10,7 @@ use serde_json::Value;
 use std::alloc::{AllocError, Global};
 
 /// The greatest number of bytes of a line, its LF not counted.
-const MAX_LINE: usize = 1_048_576;
+pub(crate) const MAX_LINE: usize = 1_048_576;
 
 const LF: u8 = b'\n';
 
