@@ -3,6 +3,7 @@ use pm_docjson::{
     LeafContent, document_text, has_its_body, node_text, read_mark, read_node, read_node_with,
     read_nodes, valid_content_is_writable, valid_is_writable, write_mark, write_node, write_nodes,
 };
+use pm_doctree::node_in;
 use pm_node::{Document, Fragment, Node};
 use pm_schema::Schema;
 use pm_slice::Slice;
@@ -56,6 +57,14 @@ fn node_again(alloc: Global, schema: &Schema, json: &Json) -> Result<String, Fai
     match read_node(alloc, schema, json) {
         Ok(node) => node_written(alloc, schema, &node),
         Err(fault) => refused(alloc, &fault),
+    }
+}
+
+/// The text of the node that a text is read as at once, or `!` where it is not.
+pub(crate) fn at_once(alloc: Global, schema: &Schema, text: &str) -> Result<String, Fail> {
+    match node_in(alloc, schema, text)? {
+        Some(node) => node_written(alloc, schema, &node),
+        None => Ok(String::from_str(alloc, "!")?),
     }
 }
 

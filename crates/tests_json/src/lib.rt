@@ -5,6 +5,8 @@
 #[cfg(test)]
 mod again;
 #[cfg(test)]
+mod at_once;
+#[cfg(test)]
 mod nodes;
 #[cfg(test)]
 mod rows;

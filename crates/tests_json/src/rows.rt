@@ -1,5 +1,5 @@
 //! Rows of a table: the kind of a value, its text, and behind an arrow the text that is written of it, or `!` and a fault.
-use crate::again::again;
+use crate::again::{again, at_once};
 use pm_schema::Schema;
 use pm_schemajson::read_schema;
 use serde_json::Value as Json;
@@ -25,6 +25,9 @@ fn parts(row: &str) -> Option<(&str, &str, &str)> {
 
 /// What is found for the row.
 fn found(alloc: Global, schema: &Schema, kind: &str, text: &str) -> Result<String, Fail> {
+    if kind == "text" {
+        return at_once(alloc, schema, text);
+    }
     let json = Json::from_str(alloc, text)?;
     again(alloc, schema, kind, &json)
 }
