@@ -6,7 +6,7 @@ use crate::carrying::{Ends, carry, follow};
 use anyhow::{Result, ensure};
 use pm_frames::{Frames, Growing, Route};
 use pm_map::{Mapping, Moved, Side, Span};
-use std::alloc::Global;
+use std::alloc::{AllocError, Global};
 
 /// The replacement of these tokens by so many, as three numbers tell it. Several stand between commas.
 fn ranges_of(alloc: Global, text: &str) -> Result<Vec<Span>> {
@@ -56,119 +56,158 @@ fn over<P: Growing>(alloc: Global, size: u64, foreign: &[Span]) -> Result<(P, En
     Ok((positions, ends))
 }
 
-/// Where all positions of the last document go by this side, once pending steps were carried over foreign ones.
-fn places<P: Growing>(
-    alloc: Global,
+/// The size of a document, foreign steps, and pending ones that are to be carried over them.
+#[derive(Clone, Copy)]
+struct Steps<'a> {
     size: u64,
-    foreign: &[Span],
-    pending: &[Span],
-    side: Side,
-) -> Result<Vec<Moved>> {
-    let (mut positions, mut ends) = over::<P>(alloc, size, foreign)?;
-    for range in pending {
+    foreign: &'a [Span],
+    pending: &'a [Span],
+}
+
+/// Where all positions of the last document go by this side, once the pending steps were carried over the foreign ones.
+fn places<P: Growing>(alloc: Global, steps: &Steps<'_>, side: Side) -> Result<String> {
+    let (mut positions, mut ends) = over::<P>(alloc, steps.size, steps.foreign)?;
+    for range in steps.pending {
         ensure!(is_within(range, ends.first), "a pending step is too large");
         ensure!(ends.last < 1_000, "the last document is too large");
         ends = carry(alloc, &mut positions, *range, ends)?;
     }
-    told(alloc, &positions, ends, side)
+    Ok(told(alloc, &positions, ends, side)?)
 }
 
-/// Where all positions of the first document go by this side.
-fn told<P: Growing>(alloc: Global, positions: &P, ends: Ends, side: Side) -> Result<Vec<Moved>>
+/// Where all positions of the first document go by this side, each with a blank behind it.
+fn told<P: Growing>(
+    alloc: Global,
+    positions: &P,
+    ends: Ends,
+    side: Side,
+) -> Result<String, AllocError>
     requires leads { ((maps : ℕ) × StandsFor P.leads positions.now maps ends.first ends.last) }
     requires small { ends.first < 2000 }
 {
-    let mut places = Vec::new(alloc);
-    for pos in 0..ends.first + 1 {
-        places.push(positions.place(pos, side))?;
-    }
-    Ok(places)
-}
-
-/// The positions, each with a letter for each flag: deleted, x for across, after.
-fn text_of(alloc: Global, places: &[Moved]) -> Result<String> {
     let mut text = String::new(alloc);
-    for place in places {
-        if !text.is_empty() {
-            text.push(' ')?;
-        }
-        let (deleted, across, after) = (place.deleted, place.across, place.after);
-        text.push_str(format!(in alloc; "{}", place.pos)?.as_str())?;
-        for (is, letter) in [(deleted, 'd'), (across, 'x'), (after, 'a')] {
-            if is {
-                text.push(letter)?;
-            }
-        }
+    for pos in 0..ends.first + 1 {
+        push_place(&mut text, positions.place(pos, side))?;
     }
     Ok(text)
 }
 
-/// Where all positions of the last document go, which frames, a mapping and a client's route have to tell alike.
-fn both(
-    alloc: Global,
+/// Writes the position, a letter for each flag: deleted, x for across, after; and a blank.
+fn push_place(text: &mut String, place: Moved) -> Result<(), AllocError> {
+    write!(text, "{}", place.pos)?;
+    text.push_str(if place.deleted { "d" } else { "" })?;
+    text.push_str(if place.across { "x" } else { "" })?;
+    text.push_str(if place.after { "a " } else { " " })
+}
+
+/// Whether this is told of all positions.
+fn tells<P: Growing>(alloc: Global, steps: &Steps<'_>, side: Side, want: &str) -> Result<bool> {
+    let text = places::<P>(alloc, steps, side)?;
+    Ok(text.as_str().trim_end() == want)
+}
+
+/// Whether frames, a mapping and a client's route tell this.
+fn all_tell(alloc: Global, steps: &Steps<'_>, side: Side, want: &str) -> Result<bool> {
+    let frames = tells::<Frames>(alloc, steps, side, want)?;
+    let mapping = tells::<Mapping>(alloc, steps, side, want)?;
+    let route = tells::<Route>(alloc, steps, side, want)?;
+    Ok(frames && mapping && route)
+}
+
+/// The size of a document, foreign steps, pending ones, and where all positions go before and after.
+#[derive(Clone, Copy)]
+struct Row {
     size: u64,
-    foreign: &[Span],
-    pending: &[Span],
-    side: Side,
-) -> Result<String> {
-    let frames = places::<Frames>(alloc, size, foreign, pending, side)?;
-    let each = places::<Mapping>(alloc, size, foreign, pending, side)?;
-    ensure!(
-        frames.as_slice() == each.as_slice(),
-        "frames and the mapping differ"
-    );
-    let route = places::<Route>(alloc, size, foreign, pending, side)?;
-    ensure!(
-        route.as_slice() == each.as_slice(),
-        "a route and the mapping differ"
-    );
-    text_of(alloc, frames.as_slice())
+    foreign: &'static str,
+    pending: &'static str,
+    before: &'static str,
+    after: &'static str,
+}
+
+const ROWS: [Row; 8] = [
+    // Positions don't keep their order.
+    Row {
+        size: 1,
+        foreign: "0 1 0",
+        pending: "0 0 1",
+        before: "0a 1 0d",
+        after: "0 1da 1",
+    },
+    Row {
+        size: 1,
+        foreign: "0 1 0",
+        pending: "1 1 1",
+        before: "0a 0da 1",
+        after: "1da 0 1",
+    },
+    // The letter typed stays, where foreign steps carried over the pending ones would take it away.
+    Row {
+        size: 1,
+        foreign: "0 1 0",
+        pending: "0 0 1, 0 2 0",
+        before: "0a",
+        after: "1",
+    },
+    // A recovered place doesn't go on over the map in which it is.
+    Row {
+        size: 0,
+        foreign: "",
+        pending: "0 0 1",
+        before: "0a 1",
+        after: "0 1",
+    },
+    // A jump keeps the flags before it, and those behind it are added.
+    Row {
+        size: 0,
+        foreign: "",
+        pending: "0 0 1, 1 1 1",
+        before: "0a 1a 2",
+        after: "0 1 2",
+    },
+    Row {
+        size: 0,
+        foreign: "",
+        pending: "0 0 3, 1 2 0",
+        before: "0a 1a 2",
+        after: "0 1 2",
+    },
+    // A step that is lost still stands in front.
+    Row {
+        size: 4,
+        foreign: "0 2 0",
+        pending: "1 1 1, 4 4 1",
+        before: "0a 0dxa 0dxa 0d 1a 2 3",
+        after: "0da 0dxa 0dxa 0 1 2 3",
+    },
+    // What an inner pair recovers is led on by the outer ones.
+    Row {
+        size: 3,
+        foreign: "1 1 2",
+        pending: "0 3 2, 1 2 3, 2 3 0",
+        before: "0a 1a 2a 3",
+        after: "0 1 2 3",
+    },
+];
+
+/// Whether all tell what the row wants.
+fn is_told(alloc: Global, row: &Row) -> Result<bool> {
+    let foreign = ranges_of(alloc, row.foreign)?;
+    let pending = ranges_of(alloc, row.pending)?;
+    let steps = Steps {
+        size: row.size,
+        foreign: &foreign,
+        pending: &pending,
+    };
+    let before = all_tell(alloc, &steps, Side::Before, row.before)?;
+    let after = all_tell(alloc, &steps, Side::After, row.after)?;
+    Ok(before && after)
 }
 
 // What is expected comes from a plain script that goes over each map, and positions and `deleted` from ProseMirror too.
 #[test]
 fn frames_answer_as_each_map_does(rt: HostRuntime) -> Result<()> {
-    let alloc = rt.alloc();
-    for (size, foreign, pending, before, after) in [
-        // Positions don't keep their order.
-        (1, "0 1 0", "0 0 1", "0a 1 0d", "0 1da 1"),
-        (1, "0 1 0", "1 1 1", "0a 0da 1", "1da 0 1"),
-        // The letter typed stays, where foreign steps carried over the pending ones would take it away.
-        (1, "0 1 0", "0 0 1, 0 2 0", "0a", "1"),
-        // A recovered place doesn't go on over the map in which it is.
-        (0, "", "0 0 1", "0a 1", "0 1"),
-        // A jump keeps the flags before it, and those behind it are added.
-        (0, "", "0 0 1, 1 1 1", "0a 1a 2", "0 1 2"),
-        (0, "", "0 0 3, 1 2 0", "0a 1a 2", "0 1 2"),
-        // A step that is lost still stands in front.
-        (
-            4,
-            "0 2 0",
-            "1 1 1, 4 4 1",
-            "0a 0dxa 0dxa 0d 1a 2 3",
-            "0da 0dxa 0dxa 0 1 2 3",
-        ),
-        // What an inner pair recovers is led on by the outer ones.
-        (3, "1 1 2", "0 3 2, 1 2 3, 2 3 0", "0a 1a 2a 3", "0 1 2 3"),
-    ] {
-        let foreign = ranges_of(alloc, foreign)?;
-        let pending = ranges_of(alloc, pending)?;
-        let told = both(
-            alloc,
-            size,
-            foreign.as_slice(),
-            pending.as_slice(),
-            Side::Before,
-        )?;
-        assert_eq!(rt; told.as_str(), before);
-        let told = both(
-            alloc,
-            size,
-            foreign.as_slice(),
-            pending.as_slice(),
-            Side::After,
-        )?;
-        assert_eq!(rt; told.as_str(), after);
+    for row in &ROWS {
+        assert!(rt; is_told(rt.alloc(), row)?, "{}", row.pending);
     }
     Ok(())
 }

@@ -12,8 +12,6 @@ mod maps;
 mod numbers;
 mod plan;
 mod ranges;
-#[cfg(test)]
-mod room_tests;
 mod round;
 #[cfg(test)]
 mod tests;

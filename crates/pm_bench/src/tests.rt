@@ -1,56 +1,83 @@
 //! Words, drawn numbers, and each measurement once. What maps and walks compute was taken from ProseMirror.
-use crate::automata::{Shape, measure as automata};
-use crate::desk::measure as desk;
-use crate::frames::measure as frames;
-use crate::maps::measure as maps;
+use crate::measured;
 use crate::numbers::Numbers;
-use crate::plan::{Measure, plan_of};
-use crate::ranges::Edits;
-use std::test::Fail;
+use crate::plan::plan_of;
+use anyhow::{Result, anyhow};
+use std::alloc::{AllocError, Global};
+use std::rt::Clock;
+use std::sync::Wait;
+use std::thread::Threads;
+
+/// Words, and the size that they ask for; 0 where they ask for nothing.
+const SIZES: [(&str, u32); 10] = [
+    ("desk 4 20000 3", 4),
+    ("maps 200 2000 1", 200),
+    ("maps 200 2000", 0),
+    ("maps 0 2000 1", 0),
+    ("maps 1001 2000 1", 0),
+    ("frames 10 100000 1", 10),
+    ("scattered 1001 10 1", 0),
+    ("brackets 60 100001 1", 0),
+    ("rings 60 64 1", 0),
+    ("desk 4 x 1", 0),
+];
+
+fn words_of(alloc: Global, text: &str) -> Result<Vec<String>, AllocError> {
+    let mut words = Vec::new(alloc);
+    for word in text.split(' ') {
+        words.push(String::from_str(alloc, word)?)?;
+    }
+    Ok(words)
+}
+
+/// The size that the words ask for; 0 where they ask for nothing.
+fn size_of(alloc: Global, text: &str) -> Result<u32, AllocError> {
+    let words = words_of(alloc, text)?;
+    Ok(plan_of(words.as_slice()).map_or(0, |plan| plan.size))
+}
 
 #[test]
-fn words_ask_for_a_measurement(rt: HostRuntime) -> Result<(), Fail> {
-    let alloc = rt.alloc();
-    for (words, asked) in [
-        ("desk 4 20000 3", true),
-        ("maps 200 2000 1", true),
-        ("maps 200 2000", false),
-        ("maps 0 2000 1", false),
-        ("maps 1001 2000 1", false),
-        ("frames 10 100000 1", true),
-        ("scattered 1001 10 1", false),
-        ("brackets 60 100001 1", false),
-        ("rings 60 64 1", false),
-        ("desk 4 x 1", false),
-    ] {
-        let mut list = Vec::new(alloc);
-        for word in words.split(' ') {
-            list.push(String::from_str(alloc, word)?)?;
-        }
-        let plan = plan_of(list.as_slice());
-        assert_eq!(rt; plan.is_some(), asked, "{words}");
-        if let Some(plan) = plan {
-            let is_desk = matches!(plan.measure, Measure::Desk);
-            assert_eq!(rt; is_desk, plan.size == 4, "{words}");
-        }
+fn words_ask_for_a_measurement(rt: HostRuntime) -> Result<()> {
+    for (words, size) in &SIZES {
+        assert!(rt; size_of(rt.alloc(), words)? == *size, "{words}");
     }
     Ok(())
 }
 
 #[test]
-fn each_measurement_is_taken(rt: HostRuntime) -> anyhow::Result<()> {
+fn numbers_are_those_of_the_series(rt: HostRuntime) {
     let mut numbers = Numbers::new(1);
     let mut last = 0;
     for _ in 0..10_000 {
         last = numbers.below(2_147_483_647);
     }
-    assert_eq!(rt; last, 1_043_618_065);
-    assert_eq!(rt; desk(&rt, 2, 10)?.check, 20);
-    assert_eq!(rt; automata(&rt, Shape::Sequence, 7, 6)?.check, 7);
-    assert_eq!(rt; automata(&rt, Shape::Choice, 3, 2)?.check, 4_002);
-    assert_eq!(rt; automata(&rt, Shape::Brackets, 2, 1)?.check, 4);
-    assert_eq!(rt; maps(&rt, 3, 5)?.check, 48_969_560);
-    assert_eq!(rt; frames(&rt, Edits::Typed, 5, 7)?.check, 700_112);
-    assert_eq!(rt; frames(&rt, Edits::Scattered, 10, 100)?.check, 11_252_268);
+    assert!(rt; last == 1_043_618_065);
+}
+
+/// The words of each measurement, and the number that says what was computed.
+const CHECKS: [(&str, u64); 7] = [
+    ("desk 2 10 1", 20),
+    ("sequences 7 6 1", 7),
+    ("choices 3 2 1", 4_002),
+    ("brackets 2 1 1", 4),
+    ("maps 3 5 1", 48_969_560),
+    ("frames 5 7 1", 700_112),
+    ("scattered 10 100 1", 11_252_268),
+];
+
+/// What a round of the measurement computes for which the words ask.
+fn computed<R: Threads + Wait + Clock + AllocGlobal + Sync>(rt: &R, text: &str) -> Result<u64> {
+    let words = words_of(rt.alloc(), text)?;
+    let Some(plan) = plan_of(words.as_slice()) else {
+        return Err(anyhow!("no measurement"));
+    };
+    Ok(measured(rt, &plan)?.check)
+}
+
+#[test]
+fn each_measurement_is_taken(rt: HostRuntime) -> Result<()> {
+    for (words, check) in &CHECKS {
+        assert!(rt; computed(&rt, words)? == *check, "{words}");
+    }
     Ok(())
 }
