@@ -5,7 +5,7 @@ ghost use Rattle.pm_sheet.specs.Edits.{meaning, is_good};
 
 use crate::{Edit, Rules};
 use pm_change::{Change, Failed, Name};
-use pm_history::{Branches, Event, Held, Item, MadeBy, Turn, undo_event};
+use pm_history::{Branches, Event, Item, MadeBy, Turn, undo_event};
 use pm_list::Listed;
 use pm_map::{Span, StepMap};
 use std::alloc::{AllocError, Global};
@@ -23,30 +23,6 @@ struct Line {
     edit: Edit,
     own: Option<u64>,
     undoes: Option<u64>,
-}
-
-fn own(serial: u64, edit: Edit) -> Line {
-    Line {
-        edit,
-        own: Some(serial),
-        undoes: None,
-    }
-}
-
-fn foreign(edit: Edit) -> Line {
-    Line {
-        edit,
-        own: None,
-        undoes: None,
-    }
-}
-
-fn put(at: u64, value: u8) -> Edit {
-    Edit::Insert { at, value }
-}
-
-fn out(at: u64) -> Edit {
-    Edit::Delete { at }
 }
 
 fn named(serial: u64) -> Name {
@@ -113,19 +89,30 @@ fn play(alloc: Global, rules: &Rules, numbers: &[u8], lines: &[Line]) -> Result<
     Ok(played)
 }
 
-/// Whether undoing the steps of these serials leads to the numbers `left` by `made` steps.
-fn leaves(
-    alloc: Global,
+fn names_of(alloc: Global, serials: &[u64]) -> Result<Listed<Name>, AllocError> {
+    let mut names = Listed::new(alloc);
+    for serial in serials {
+        names.push(named(*serial))?;
+    }
+    Ok(names)
+}
+
+/// How long a sheet may be, the numbers at first, edits, the serials of the steps that are undone then, and the numbers that are
+/// left by so many steps.
+struct Row {
     limit: u64,
-    numbers: &[u8],
-    lines: &[Line],
-    serials: &[u64],
-    left: &[u8],
+    numbers: &'static [u8],
+    lines: &'static [Line],
+    serials: &'static [u64],
+    left: &'static [u8],
     made: usize,
-) -> Result<bool, AllocError> {
-    let rules = Rules { limit };
-    let Played { doc, items } = play(alloc, &rules, numbers, lines)?;
-    let names = names_of(alloc, serials)?;
+}
+
+/// Whether undoing the steps leads to what the row wants.
+fn leaves(alloc: Global, row: &Row) -> Result<bool, AllocError> {
+    let rules = Rules { limit: row.limit };
+    let Played { doc, items } = play(alloc, &rules, row.numbers, row.lines)?;
+    let names = names_of(alloc, row.serials)?;
     let undone = undo_event(
         alloc,
         &rules,
@@ -135,252 +122,409 @@ fn leaves(
         doc,
         100,
     )?;
-    Ok(undone.doc.as_slice() == left && undone.made.len() == made)
+    Ok(undone.doc.as_slice() == row.left && undone.made.len() == row.made)
 }
 
-fn names_of(alloc: Global, serials: &[u64]) -> Result<Listed<Name>, AllocError> {
-    let mut names = Listed::new(alloc);
-    for serial in serials {
-        names.push(named(*serial))?;
-    }
-    Ok(names)
-}
+/// The first number is taken out, and 8 put in.
+const TWO: [Line; 2] = [
+    Line {
+        edit: Edit::Delete { at: 0 },
+        own: Some(1),
+        undoes: None,
+    },
+    Line {
+        edit: Edit::Insert { at: 1, value: 8 },
+        own: Some(2),
+        undoes: None,
+    },
+];
+
+/// 9 is put in, and then a foreign 7 in front.
+const FRONT: [Line; 2] = [
+    Line {
+        edit: Edit::Insert { at: 1, value: 9 },
+        own: Some(1),
+        undoes: None,
+    },
+    Line {
+        edit: Edit::Insert { at: 0, value: 7 },
+        own: None,
+        undoes: None,
+    },
+];
+
+/// 9 is put in, and another takes it out.
+const GONE: [Line; 2] = [
+    Line {
+        edit: Edit::Insert { at: 1, value: 9 },
+        own: Some(1),
+        undoes: None,
+    },
+    Line {
+        edit: Edit::Delete { at: 1 },
+        own: None,
+        undoes: None,
+    },
+];
+
+/// The first number is taken out, and another fills the sheet.
+const FULL: [Line; 2] = [
+    Line {
+        edit: Edit::Delete { at: 0 },
+        own: Some(1),
+        undoes: None,
+    },
+    Line {
+        edit: Edit::Insert { at: 0, value: 7 },
+        own: None,
+        undoes: None,
+    },
+];
+
+/// 9 is put in, taken out, and comes back.
+const BACK: [Line; 3] = [
+    Line {
+        edit: Edit::Insert { at: 0, value: 9 },
+        own: Some(1),
+        undoes: None,
+    },
+    Line {
+        edit: Edit::Delete { at: 0 },
+        own: Some(2),
+        undoes: None,
+    },
+    Line {
+        edit: Edit::Insert { at: 0, value: 9 },
+        own: Some(3),
+        undoes: Some(2),
+    },
+];
+
+const ROWS: [Row; 7] = [
+    // The first of two edits, and both.
+    Row {
+        limit: 9,
+        numbers: &[5, 6],
+        lines: &TWO,
+        serials: &[1],
+        left: &[5, 6, 8],
+        made: 1,
+    },
+    Row {
+        limit: 9,
+        numbers: &[5, 6],
+        lines: &TWO,
+        serials: &[1, 2],
+        left: &[5, 6],
+        made: 2,
+    },
+    // A foreign number came in front.
+    Row {
+        limit: 9,
+        numbers: &[1, 2],
+        lines: &FRONT,
+        serials: &[1],
+        left: &[7, 1, 2],
+        made: 1,
+    },
+    // The number put in is gone already.
+    Row {
+        limit: 9,
+        numbers: &[1, 2],
+        lines: &GONE,
+        serials: &[1],
+        left: &[1, 2],
+        made: 0,
+    },
+    // The sheet is full.
+    Row {
+        limit: 2,
+        numbers: &[1, 2],
+        lines: &FULL,
+        serials: &[1],
+        left: &[7, 2],
+        made: 0,
+    },
+    // The step does not stand in the timeline.
+    Row {
+        limit: 2,
+        numbers: &[1, 2],
+        lines: &FULL,
+        serials: &[7],
+        left: &[7, 2],
+        made: 0,
+    },
+    // A number that came back is the same.
+    Row {
+        limit: 9,
+        numbers: &[1],
+        lines: &BACK,
+        serials: &[1],
+        left: &[1],
+        made: 1,
+    },
+];
 
 #[test]
 fn steps_are_undone_where_they_stand_now(rt: HostRuntime) -> Result<(), AllocError> {
-    let alloc = rt.alloc();
-    // The first of two edits, and both.
-    let two = [own(1, out(0)), own(2, put(1, 8))];
-    assert!(rt; leaves(alloc, 9, &[5, 6], &two, &[1], &[5, 6, 8], 1)?);
-    assert!(rt; leaves(alloc, 9, &[5, 6], &two, &[1, 2], &[5, 6], 2)?);
-    // A foreign number came in front.
-    let front = [own(1, put(1, 9)), foreign(put(0, 7))];
-    assert!(rt; leaves(alloc, 9, &[1, 2], &front, &[1], &[7, 1, 2], 1)?);
+    for (number, row) in ROWS.iter().enumerate() {
+        assert!(rt; leaves(rt.alloc(), row)?, "row {number}");
+    }
     Ok(())
 }
 
-#[test]
-fn what_is_lost_or_does_not_apply_is_left_out(rt: HostRuntime) -> Result<(), AllocError> {
-    let alloc = rt.alloc();
-    // The number put in is gone already.
-    let gone = [own(1, put(1, 9)), foreign(out(1))];
-    assert!(rt; leaves(alloc, 9, &[1, 2], &gone, &[1], &[1, 2], 0)?);
-    // The sheet is full.
-    let full = [own(1, out(0)), foreign(put(0, 7))];
-    assert!(rt; leaves(alloc, 2, &[1, 2], &full, &[1], &[7, 2], 0)?);
-    // The step does not stand in the timeline.
-    assert!(rt; leaves(alloc, 2, &[1, 2], &full, &[7], &[7, 2], 0)?);
-    Ok(())
+/// What becomes of a history.
+#[derive(Clone, Copy)]
+enum Act {
+    /// An own step with this serial, which undoes the step of that one, made by this call.
+    Own(u64, Option<u64>, MadeBy),
+    /// A foreign step.
+    Foreign,
+    /// An event is taken off.
+    Pop(Turn),
+    /// The event of this number is taken off.
+    PopNumbered(u32),
+    /// In place of the last two steps stand a foreign one and the step 5.
+    Rebase,
+    /// The last event to undo is undone, by the step 6, which undoes the step 5.
+    Undo,
 }
 
-#[test]
-fn a_number_that_came_back_is_the_same(rt: HostRuntime) -> Result<(), AllocError> {
-    let back = [
-        own(1, put(0, 9)),
-        own(2, out(0)),
-        Line {
-            edit: put(0, 9),
-            own: Some(3),
-            undoes: Some(2),
-        },
-    ];
-    assert!(rt; leaves(rt.alloc(), 9, &[1], &back, &[1], &[1], 1)?);
-    Ok(())
-}
-
-/// The item of a step that takes the tokens at 5 and 6 out, or of one that undoes such a step.
-fn item(alloc: Global, serial: u64, undoes: Option<u64>) -> Result<Item<u8>, AllocError> {
-    let takes_out = undoes.is_none();
+/// The map of a step that takes the tokens at 5 and 6 out, or of one that puts them in.
+fn map_of(takes_out: bool) -> StepMap {
     let span = Span {
         start: 5,
         old_size: if takes_out { 2 } else { 0 },
         new_size: if takes_out { 0 } else { 2 },
     };
-    Item::own(
-        alloc,
-        named(serial),
-        StepMap::new(Some(span), None, false),
-        Listed::from_vec(vec![in alloc; 10, 20]?),
-        undoes.map(named),
-    )
+    StepMap::new(Some(span), None, false)
 }
 
-fn edit(event: Option<u32>, first: bool) -> MadeBy {
-    MadeBy::Edit { event, first }
+/// The item of a step that takes two tokens out, or of one that undoes such a step.
+fn item(alloc: Global, serial: u64, undoes: Option<u64>) -> Result<Item<u8>, AllocError> {
+    let inverse = Listed::from_vec(vec![in alloc; 10, 20]?);
+    let map = map_of(undoes.is_none());
+    Item::own(alloc, named(serial), map, inverse, undoes.map(named))
 }
 
-/// A history of the own steps with these serials and calls.
-fn noted(alloc: Global, steps: &[(u64, MadeBy)]) -> Result<Branches<u8>, AllocError> {
-    let mut history = Branches::new(alloc);
-    for (serial, made_by) in steps {
-        history.note_own(alloc, item(alloc, *serial, None)?, *made_by)?;
-    }
-    Ok(history)
+fn rebase(alloc: Global, history: &mut Branches<u8>) -> Result<(), AllocError> {
+    let kept = vec![in alloc; item(alloc, 5, None)?]?;
+    let maps = vec![in alloc; StepMap::new(None, None, false)]?;
+    history.rebased(alloc, 2, maps, kept)
 }
 
-/// Two steps of one call, one that joins them by its number, and two without a number.
-fn five(alloc: Global) -> Result<Branches<u8>, AllocError> {
-    noted(
-        alloc,
-        &[
-            (1, edit(Some(4), true)),
-            (2, edit(Some(4), false)),
-            (3, edit(Some(4), true)),
-            (4, edit(None, true)),
-            (5, edit(None, true)),
-        ],
-    )
-}
-
-/// Whether the event at this place is of these serials.
-fn is_of(
-    alloc: Global,
-    events: &[Event],
-    place: usize,
-    serials: &[u64],
-) -> Result<bool, AllocError> {
-    let names = names_of(alloc, serials)?;
-    match events.get(place) {
-        Some(event) => Ok(event.names.as_slice() == names.as_slice()),
-        None => Ok(false),
-    }
-}
-
-#[test]
-fn edits_join_by_number(rt: HostRuntime) -> Result<(), AllocError> {
-    let alloc = rt.alloc();
-    let history = five(alloc)?;
-    assert!(rt; history.undo_events().len() == 3);
-    assert!(rt; is_of(alloc, history.undo_events(), 0, &[1, 2, 3])?);
-    assert!(rt; is_of(alloc, history.undo_events(), 1, &[4])?);
-    assert!(rt; history.inverse(named(4)) == Some([10, 20].as_slice()));
-    Ok(())
-}
-
-#[test]
-fn an_empty_history_has_no_event_and_no_step(rt: HostRuntime) -> Result<(), AllocError> {
-    let alloc = rt.alloc();
-    let mut history: Branches<u8> = Branches::new(alloc);
-    assert!(rt; history.pop(Turn::Undo).is_none() && history.pop(Turn::Redo).is_none());
-    assert!(rt; history.later(alloc, named(1))?.is_none() && history.inverse(named(1)).is_none());
-    Ok(())
-}
-
-#[test]
-fn an_undo_closes_the_event_and_an_edit_empties_redo(rt: HostRuntime) -> Result<(), AllocError> {
-    let alloc = rt.alloc();
-    let mut history = five(alloc)?;
-    assert!(rt; history.pop(Turn::Undo).is_some());
-    let undo = MadeBy::Undo {
-        event: None,
-        first: true,
-    };
-    history.note_own(alloc, item(alloc, 6, Some(5))?, undo)?;
-    assert!(rt; history.redo_events().len() == 1 && history.undo_events().len() == 2);
-    history.note(alloc, StepMap::new(None, None, false))?;
-    assert!(rt; history.later(alloc, named(4))?.is_some());
-    history.note_own(alloc, item(alloc, 7, None)?, edit(Some(4), true))?;
-    assert!(rt; history.redo_events().is_empty() && history.undo_events().len() == 3);
-    Ok(())
-}
-
-#[test]
-fn an_event_is_taken_by_its_number(rt: HostRuntime) -> Result<(), AllocError> {
-    let alloc = rt.alloc();
-    let calls = [
-        (1, edit(Some(4), true)),
-        (2, edit(Some(7), true)),
-        (3, edit(Some(4), true)),
-        (4, edit(None, true)),
-    ];
-    let mut history = noted(alloc, &calls)?;
-    assert!(rt; history.event_numbered(9).is_none() && history.pop_event(9).is_none());
-    assert!(rt; history.undo_events().len() == 4 && history.event_numbered(4).is_some());
-    assert!(rt; history.pop_event(4).is_some() && history.undo_events().len() == 3);
-    assert!(rt; is_of(alloc, history.undo_events(), 0, &[1])?);
-    assert!(rt; is_of(alloc, history.undo_events(), 1, &[2])?);
-    assert!(rt; is_of(alloc, history.undo_events(), 2, &[4])?);
-    Ok(())
-}
-
-/// The history with a foreign step and the step 5 in place of the last two.
-fn rebased(alloc: Global, history: Branches<u8>) -> Result<Branches<u8>, AllocError> {
-    let mut history = history;
-    if history.items().len() < 2 {
-        return Err(AllocError);
-    }
-    let mut kept = Vec::new(alloc);
-    kept.push(item(alloc, 5, None)?)?;
-    let mut maps = Vec::new(alloc);
-    maps.push(StepMap::new(None, None, false))?;
-    history.rebased(alloc, 2, maps, kept)?;
-    Ok(history)
-}
-
-#[test]
-fn a_dropped_step_leaves_its_event(rt: HostRuntime) -> Result<(), AllocError> {
-    let alloc = rt.alloc();
-    let history = rebased(alloc, five(alloc)?)?;
-    assert!(rt; history.items().len() == 5 && history.items()[3].name().is_none());
-    assert!(rt; history.inverse(named(4)).is_none() && history.undo_events().len() == 3);
-    assert!(rt; is_of(alloc, history.undo_events(), 1, &[])?);
-    assert!(rt; is_of(alloc, history.undo_events(), 2, &[5])?);
-    Ok(())
-}
-
-#[test]
-fn what_was_undone_can_be_redone(rt: HostRuntime) -> Result<(), AllocError> {
-    let alloc = rt.alloc();
-    let mut history = five(alloc)?;
-    let mut items = Listed::new(alloc);
-    items.push(item(alloc, 6, Some(5))?)?;
+fn undo(alloc: Global, history: &mut Branches<u8>) -> Result<(), AllocError> {
+    let items = Listed::from_vec(vec![in alloc; item(alloc, 6, Some(5))?]?);
     let made = Event {
         number: Some(3),
         names: names_of(alloc, &[6])?,
     };
-    history.undone(Turn::Undo, made, items)?;
-    assert!(rt; history.undo_events().len() == 2 && history.items().len() == 6);
-    assert!(rt; is_of(alloc, history.redo_events(), 0, &[6])?);
+    history.undone(Turn::Undo, made, items)
+}
+
+/// Makes one of the acts.
+fn make_act(alloc: Global, history: &mut Branches<u8>, act: Act) -> Result<(), AllocError> {
+    match act {
+        Act::Own(serial, undoes, made_by) => {
+            history.note_own(alloc, item(alloc, serial, undoes)?, made_by)
+        }
+        Act::Foreign => history.note(alloc, StepMap::new(None, None, false)),
+        Act::Pop(turn) => {
+            let _ = history.pop(turn);
+            Ok(())
+        }
+        Act::PopNumbered(number) => {
+            let _ = history.pop_event(number);
+            Ok(())
+        }
+        Act::Rebase => rebase(alloc, history),
+        Act::Undo => undo(alloc, history),
+    }
+}
+
+/// The history after both lists of acts.
+fn history_of(alloc: Global, first: &[Act], then: &[Act]) -> Result<Branches<u8>, AllocError> {
+    let mut history = Branches::new(alloc);
+    for one in first.iter().chain(then) {
+        make_act(alloc, &mut history, *one)?;
+    }
+    Ok(history)
+}
+
+/// Writes the serials of each event's names, and a semicolon behind each event.
+fn push_events(text: &mut String, events: &[Event]) -> Result<(), AllocError> {
+    for event in events {
+        push_serials(text, event.names.as_slice())?;
+        text.push(';')?;
+    }
     Ok(())
 }
 
-/// How much a history holds behind three foreign steps, behind an edit, behind its undo, and behind another edit, and whether the
-/// maps behind the first edit are there still.
-fn held(alloc: Global) -> Result<(Listed<Held>, bool), AllocError> {
-    let mut history: Branches<u8> = Branches::new(alloc);
-    let mut all = Listed::new(alloc);
-    for _ in 0..3 {
-        history.note(alloc, StepMap::new(None, None, false))?;
+fn push_serials(text: &mut String, names: &[Name]) -> Result<(), AllocError> {
+    for name in names {
+        write!(text, " {}", name.serial)?;
     }
-    all.push(history.held())?;
-    history.note_own(alloc, item(alloc, 1, None)?, edit(None, true))?;
-    all.push(history.held())?;
-    let _ = history.pop(Turn::Undo);
-    let undo = MadeBy::Undo {
-        event: None,
-        first: true,
-    };
-    history.note_own(alloc, item(alloc, 2, Some(1))?, undo)?;
-    all.push(history.held())?;
-    history.note_own(alloc, item(alloc, 3, None)?, edit(None, true))?;
-    all.push(history.held())?;
-    let is_there = history.later(alloc, named(1))?.is_some();
-    Ok((all, is_there))
+    Ok(())
 }
 
-/// So many items, each with the changes that undo it.
-fn both(count: u64) -> Held {
-    Held {
-        items: count,
-        inverses: count,
+/// Writes the serial of each item's name, or `-` where it has none.
+fn push_items(text: &mut String, items: &[Item<u8>]) -> Result<(), AllocError> {
+    for item in items {
+        match item.name() {
+            Some(name) => write!(text, " {}", name.serial)?,
+            None => text.push_str(" -")?,
+        }
     }
+    Ok(())
+}
+
+/// The events to undo, those to redo, the items, and how many of them have the changes that undo them.
+fn told(alloc: Global, history: &Branches<u8>) -> Result<String, AllocError> {
+    let mut text = String::new(alloc);
+    push_events(&mut text, history.undo_events())?;
+    text.push_str(" |")?;
+    push_events(&mut text, history.redo_events())?;
+    text.push_str(" |")?;
+    push_items(&mut text, history.items())?;
+    write!(text, " | {}", history.held().inverses)?;
+    Ok(text)
+}
+
+/// An edit of the event that is open, if it has this number.
+const OF_FOUR: MadeBy = MadeBy::Edit {
+    event: Some(4),
+    first: true,
+};
+
+const OF_SEVEN: MadeBy = MadeBy::Edit {
+    event: Some(7),
+    first: true,
+};
+
+/// A further step of the edit before it.
+const MORE: MadeBy = MadeBy::Edit {
+    event: Some(4),
+    first: false,
+};
+
+const ALONE: MadeBy = MadeBy::Edit {
+    event: None,
+    first: true,
+};
+
+const AN_UNDO: MadeBy = MadeBy::Undo {
+    event: None,
+    first: true,
+};
+
+/// Two steps of one call, one that joins them by its number, and two without a number.
+const FIVE: [Act; 5] = [
+    Act::Own(1, None, OF_FOUR),
+    Act::Own(2, None, MORE),
+    Act::Own(3, None, OF_FOUR),
+    Act::Own(4, None, ALONE),
+    Act::Own(5, None, ALONE),
+];
+
+/// Two events of one number, with another between them, and one without a number.
+const FOUR: [Act; 4] = [
+    Act::Own(1, None, OF_FOUR),
+    Act::Own(2, None, OF_SEVEN),
+    Act::Own(3, None, OF_FOUR),
+    Act::Own(4, None, ALONE),
+];
+
+const FOREIGN: [Act; 3] = [Act::Foreign, Act::Foreign, Act::Foreign];
+
+const UNDONE: [Act; 2] = [Act::Pop(Turn::Undo), Act::Own(6, Some(5), AN_UNDO)];
+
+/// What becomes of a history at first and then, and what is told of it.
+const TOLD: [(&[Act], &[Act], &str); 12] = [
+    (
+        &[],
+        &[Act::Pop(Turn::Undo), Act::Pop(Turn::Redo)],
+        " | | | 0",
+    ),
+    // Edits join by number.
+    (&FIVE, &[], " 1 2 3; 4; 5; | | 1 2 3 4 5 | 5"),
+    // An undo closes the event, and an edit empties the redo branch.
+    (&FIVE, &UNDONE, " 1 2 3; 4; | 6; | 1 2 3 4 5 6 | 6"),
+    (
+        &FIVE,
+        &[
+            Act::Pop(Turn::Undo),
+            Act::Own(6, Some(5), AN_UNDO),
+            Act::Foreign,
+            Act::Own(7, None, OF_FOUR),
+        ],
+        " 1 2 3; 4; 7; | | 1 2 3 4 5 6 - 7 | 5",
+    ),
+    // An event is taken by its number, the last one that has it.
+    (
+        &FOUR,
+        &[Act::PopNumbered(9)],
+        " 1; 2; 3; 4; | | 1 2 3 4 | 4",
+    ),
+    (&FOUR, &[Act::PopNumbered(4)], " 1; 2; 4; | | 1 2 3 4 | 4"),
+    // A dropped step leaves its event.
+    (&FIVE, &[Act::Rebase], " 1 2 3;; 5; | | 1 2 3 - 5 | 4"),
+    // What was undone can be redone.
+    (&FIVE, &[Act::Undo], " 1 2 3; 4; | 6; | 1 2 3 4 5 6 | 6"),
+    // A history holds what is live.
+    (&FOREIGN, &[], " | | | 0"),
+    (&FOREIGN, &[Act::Own(1, None, ALONE)], " 1; | | 1 | 1"),
+    (
+        &FOREIGN,
+        &[
+            Act::Own(1, None, ALONE),
+            Act::Pop(Turn::Undo),
+            Act::Own(2, Some(1), AN_UNDO),
+        ],
+        " | 2; | 1 2 | 2",
+    ),
+    (
+        &FOREIGN,
+        &[
+            Act::Own(1, None, ALONE),
+            Act::Pop(Turn::Undo),
+            Act::Own(2, Some(1), AN_UNDO),
+            Act::Own(3, None, ALONE),
+        ],
+        " 3; | | 3 | 1",
+    ),
+];
+
+/// Whether this is told of the history.
+fn is_told(alloc: Global, first: &[Act], then: &[Act], want: &str) -> Result<bool, AllocError> {
+    let history = history_of(alloc, first, then)?;
+    Ok(told(alloc, &history)?.as_str() == want)
 }
 
 #[test]
-fn a_history_holds_what_is_live(rt: HostRuntime) -> Result<(), AllocError> {
-    let (all, is_there) = held(rt.alloc())?;
-    let expected = [both(0), both(1), both(2), both(1)];
-    assert!(rt; all.as_slice() == expected.as_slice());
-    assert!(rt; !is_there);
+fn a_history_keeps_events_and_what_is_live(rt: HostRuntime) -> Result<(), AllocError> {
+    for (first, then, want) in &TOLD {
+        assert!(rt; is_told(rt.alloc(), first, then, want)?, "{want}");
+    }
+    Ok(())
+}
+
+/// Whether maps behind the step of this serial are there, and its changes are those of an item.
+fn is_found(alloc: Global, history: &Branches<u8>, serial: u64) -> Result<bool, AllocError> {
+    let later = history.later(alloc, named(serial))?;
+    Ok(later.is_some() && history.inverse(named(serial)) == Some([10, 20].as_slice()))
+}
+
+/// Whether the last of four steps is found and a fifth is not, and an event by its number alone.
+fn are_found(alloc: Global, history: &Branches<u8>) -> Result<bool, AllocError> {
+    let there = is_found(alloc, history, 4)?;
+    let gone = is_found(alloc, history, 5)?;
+    let numbered = history.event_numbered(4).is_some();
+    Ok(there && !gone && numbered && history.event_numbered(9).is_none())
+}
+
+#[test]
+fn steps_and_events_are_found(rt: HostRuntime) -> Result<(), AllocError> {
+    let history = history_of(rt.alloc(), &FOUR, &[])?;
+    assert!(rt; are_found(rt.alloc(), &history)?);
     Ok(())
 }
