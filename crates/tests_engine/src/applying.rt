@@ -61,13 +61,17 @@ fn inserted(alloc: Global, schema: &Schema, at: u64) -> Result<String> {
     applied(alloc, schema, &before, step)
 }
 
+/// Positions, and what comes of a letter there.
+const ROWS: [(u64, &str); 2] = [
+    (2, AFTER),
+    (9, "the positions are not in order within the document"),
+];
+
 #[test]
 fn a_step_is_applied_or_tells_why_not(rt: HostRuntime) -> Result<()> {
     let schema = schema_of(rt.alloc(), SCHEMA)?;
-    assert!(rt; inserted(rt.alloc(), &schema, 2)?.as_str() == AFTER);
-    assert!(rt;
-        inserted(rt.alloc(), &schema, 9)?.as_str()
-            == "the positions are not in order within the document"
-    );
+    for (at, want) in &ROWS {
+        assert!(rt; inserted(rt.alloc(), &schema, *at)?.as_str() == *want);
+    }
     Ok(())
 }

@@ -29,6 +29,47 @@ fn type_letter(
     Ok(())
 }
 
+/// The client's step is submitted, and is in the log.
+const SUBMITTED: (MessageKind, Taken) = (MessageKind::Submit, Taken::Confirmed { own: 1 });
+
+/// A step is submitted at an old version.
+const REFUSED: (MessageKind, Taken) = (MessageKind::Submit, Taken::Refused);
+
+/// The client asks, and takes one step of the other's.
+const ASKED: (MessageKind, Taken) = (
+    MessageKind::Ask,
+    Taken::Rebased {
+        own: 0,
+        foreign: 1,
+        dropped: 0,
+    },
+);
+
+/// One exchange of a client: its message, and what has to be told to it. The other client goes on standing to the log.
+fn exchanged(
+    alloc: Global,
+    schema: &Schema,
+    authority: &mut Authority<DocChange>,
+    client: &mut Client<DocChange>,
+    other: &Client<DocChange>,
+    turn: (MessageKind, Taken),
+) -> Result<()>
+    requires kept { IsKept meaning schema.now authority.old }
+    requires stands { Kin meaning schema.now authority.old.first authority.old.log client.old }
+    requires other { Kin meaning schema.now authority.old.first authority.old.log other.now }
+    requires differ { client.old.name ≡ other.now.name → ⊥ }
+    ensures kept { IsKept meaning schema.now authority.new }
+    ensures stands { Kin meaning schema.now authority.new.first authority.new.log client.new }
+    ensures other { Kin meaning schema.now authority.new.first authority.new.log other.now }
+    ensures name { client.new.name ≡ client.old.name }
+{
+    let other = other.name();
+    let (kind, want) = turn;
+    let taken = exchange(alloc, schema, authority, client, kind)?;
+    ensure!(taken == want, "not as wanted, beside client {other}");
+    Ok(())
+}
+
 /// What both do, one after another.
 fn work(
     alloc: Global,
@@ -45,24 +86,12 @@ fn work(
 {
     type_letter(alloc, schema, authority, ann, 1, 'A')?;
     type_letter(alloc, schema, authority, bob, 3, 'B')?;
-    let taken = exchange(alloc, schema, authority, ann, MessageKind::Submit)?;
-    ensure!(taken == Taken::Confirmed { own: 1 }, "Ann comes first");
-    let taken = exchange(alloc, schema, authority, bob, MessageKind::Submit)?;
-    ensure!(taken == Taken::Refused, "Bob's version is old");
-    let taken = exchange(alloc, schema, authority, bob, MessageKind::Ask)?;
-    let rebased = Taken::Rebased {
-        own: 0,
-        foreign: 1,
-        dropped: 0,
-    };
-    ensure!(taken == rebased, "Bob's step is carried over Ann's");
-    let taken = exchange(alloc, schema, authority, bob, MessageKind::Submit)?;
-    ensure!(
-        taken == Taken::Confirmed { own: 1 },
-        "Bob's step is in the log"
-    );
-    let taken = exchange(alloc, schema, authority, ann, MessageKind::Ask)?;
-    ensure!(taken == rebased, "Ann has Bob's step");
+    exchanged(alloc, schema, authority, ann, bob, SUBMITTED)?;
+    // Bob's version is old. He asks, his step is carried over Ann's, and he submits again.
+    exchanged(alloc, schema, authority, bob, ann, REFUSED)?;
+    exchanged(alloc, schema, authority, bob, ann, ASKED)?;
+    exchanged(alloc, schema, authority, bob, ann, SUBMITTED)?;
+    exchanged(alloc, schema, authority, ann, bob, ASKED)?;
     ensure!(
         undo(alloc, schema, authority, ann)? == 1,
         "Ann undoes her one step"
