@@ -1,16 +1,24 @@
 //! Tables with ample memory: the forms of fragments, and the first faults of small documents.
 use pm_attrs::Attrs;
-use pm_auto::{Expr, TypeId};
-use pm_list::Listed;
+use pm_auto::TypeId;
+use pm_head::schema_line;
 use pm_marks::{Mark, MarkId, MarkRules, MarkSet};
 use pm_node::{Body, CheckError, Document, Fragment, MAX_DEPTH, Node, Units};
-use pm_schema::{AttrSpec, AttrSpecs, MarkSpec, NodeSpec, Schema, SchemaSpec};
-use pm_value::{Text, Value};
+use pm_schema::Schema;
+use pm_value::Value;
 use std::alloc::{AllocError, Global};
 use std::test::Fail;
 
-/// The types of the schema below: blocks, of which code has no marks and a title has a level, and inline images, which
-/// have a source, and texts.
+/// Blocks, of which code has no marks and a title has a level, and inline images, which have a source, and texts.
+const SCHEMA: &str = r#"{"nodes":[
+    {"name":"doc","content":"(paragraph | quote | title | code)+"},
+    {"name":"paragraph","content":"(image | text)*"},
+    {"name":"quote","content":"(paragraph | quote | title | code)+"},
+    {"name":"title","content":"(image | text)*","attrs":{"level":{}}},
+    {"name":"code","content":"text*","marks":""},
+    {"name":"image","inline":true,"attrs":{"src":{}}},{"name":"text","inline":true}],
+    "marks":[{"name":"em"},{"name":"link","attrs":{"href":{}}}]}"#;
+
 const DOC: TypeId = 0;
 
 const PARAGRAPH: TypeId = 1;
@@ -28,93 +36,6 @@ const TEXT: TypeId = 6;
 const EM: MarkId = 0;
 
 const LINK: MarkId = 1;
-
-/// At least one of the types, or any number of them where they are inline; or nothing.
-fn content(alloc: Global, kinds: &[TypeId], is_inline: bool) -> Result<Expr, AllocError> {
-    if kinds.is_empty() {
-        return Ok(Expr::Empty);
-    }
-    let mut all = Vec::new(alloc);
-    for kind in kinds {
-        all.push(Expr::One(*kind))?;
-    }
-    let inner = Box::new(alloc, Expr::Choice(all))?;
-    Ok(if is_inline {
-        Expr::Star(inner)
-    } else {
-        Expr::Plus(inner)
-    })
-}
-
-/// One attribute of the name, without default, or none where the name is empty.
-fn declared(alloc: Global, name: &str) -> Result<AttrSpecs, AllocError> {
-    if name.is_empty() {
-        return Ok(AttrSpecs::new(alloc));
-    }
-    let name = Text::from_str(alloc, name)?;
-    let attr = AttrSpec {
-        name,
-        default: None,
-        validate: None,
-    };
-    AttrSpecs::one(alloc, attr)
-}
-
-fn node_types(alloc: Global) -> Result<Listed<NodeSpec>, AllocError> {
-    let blocks: &[TypeId] = &[PARAGRAPH, QUOTE, TITLE, CODE];
-    let inline: &[TypeId] = &[IMAGE, TEXT];
-    let rows: [(&str, &[TypeId], bool, &str); 7] = [
-        ("doc", blocks, false, ""),
-        ("paragraph", inline, false, ""),
-        ("quote", blocks, false, ""),
-        ("title", inline, false, "level"),
-        ("code", &[TEXT], false, ""),
-        ("image", &[], true, "src"),
-        ("text", &[], true, ""),
-    ];
-    let mut nodes = Listed::new(alloc);
-    for (name, kinds, inline, attr) in &rows {
-        let marks = if *name == "code" {
-            Some(Text::from_str(alloc, "")?)
-        } else {
-            None
-        };
-        nodes.push(NodeSpec {
-            name: Text::from_str(alloc, name)?,
-            content: content(alloc, kinds, kinds.contains(&TEXT))?,
-            groups: Listed::new(alloc),
-            marks,
-            inline: *inline,
-            atom: false,
-            attrs: declared(alloc, attr)?,
-        })?;
-    }
-    Ok(nodes)
-}
-
-fn mark_types(alloc: Global) -> Result<Listed<MarkSpec>, AllocError> {
-    let mut marks = Listed::new(alloc);
-    for (name, attr) in &[("em", ""), ("link", "href")] {
-        marks.push(MarkSpec {
-            name: Text::from_str(alloc, name)?,
-            attrs: declared(alloc, attr)?,
-            inclusive: true,
-            excludes: None,
-            groups: Listed::new(alloc),
-        })?;
-    }
-    Ok(marks)
-}
-
-fn schema(alloc: Global) -> Result<Schema, Fail> {
-    let spec = SchemaSpec {
-        nodes: node_types(alloc)?,
-        marks: mark_types(alloc)?,
-        top: Text::from_str(alloc, "doc")?,
-        version: 1,
-    };
-    Ok(Schema::build(alloc, spec)?)
-}
 
 fn attrs(alloc: Global, values: &[i64]) -> Result<Attrs, AllocError> {
     let mut list = Vec::new(alloc);
@@ -193,31 +114,41 @@ fn document(alloc: Global, pieces: &[Piece]) -> Result<Document, Fail> {
     Ok(Document::new(alloc, block(alloc, DOC, &[], nodes)?)?)
 }
 
+/// Two letters, an image, a letter, and one with em.
+const NEIGHBOURS: [Piece; 5] = [
+    Piece::Unit(97, &[]),
+    Piece::Unit(98, &[]),
+    Piece::Image,
+    Piece::Unit(99, &[]),
+    Piece::Unit(100, &[(EM, &[])]),
+];
+
+/// Writes the size of a node, and its units where it is a text.
+fn push_node(out: &mut String, node: &Node) -> Result<(), AllocError> {
+    write!(out, " {}:", node.size())?;
+    if let Body::Text(units) = &node.body {
+        for unit in units.as_slice() {
+            write!(out, " {unit}")?;
+        }
+    }
+    Ok(())
+}
+
+/// The sizes of a document and of its top node, and its children.
+fn told(alloc: Global, document: &Document) -> Result<String, AllocError> {
+    let mut out = format!(in alloc; "{} {}", document.size(), document.top().size())?;
+    let content = document.content();
+    for i in 0..content.len() {
+        push_node(&mut out, content.child(i))?;
+    }
+    Ok(out)
+}
+
 #[test]
 fn neighbouring_texts_are_joined(rt: HostRuntime) -> Result<(), Fail> {
-    let alloc = rt.alloc();
-    let pieces = [
-        Piece::Unit(97, &[]),
-        Piece::Unit(98, &[]),
-        Piece::Image,
-        Piece::Unit(99, &[]),
-        Piece::Unit(100, &[(EM, &[])]),
-    ];
-    let document = document(alloc, &pieces)?.copy()?;
-    assert!(rt; document.size() == 5);
-    assert!(rt; document.top().size() == 7);
-    if let Body::Children(content) = &document.top().body {
-        let content = content.copy(alloc)?;
-        assert!(rt; content.len() == 4);
-        assert!(rt;
-            content.len() > 1 && content.child(0).size() == 2 && content.child(1).size() == 1
-        );
-        let children = content.children();
-        assert!(rt;
-            children.len() > 0
-                && matches!(&children.get(0).body, Body::Text(units) if units.as_slice() == [97, 98].as_slice())
-        );
-    }
+    let document = document(rt.alloc(), &NEIGHBOURS)?.copy()?;
+    let told = told(rt.alloc(), &document)?;
+    assert!(rt; told.as_str() == "5 7 2: 97 98 1: 1: 99 1: 100");
     Ok(())
 }
 
@@ -275,23 +206,31 @@ const FAULTS: [(&[Piece], Option<CheckError>); 11] = [
 ];
 
 /// The first fault of a document.
-fn fault_of(alloc: Global, schema: &Schema, document: &Document) -> Option<CheckError> {
-    document.check(alloc, schema).err()
+fn fault_of(alloc: Global, schema: &Schema, pieces: &[Piece]) -> Result<Option<CheckError>, Fail> {
+    let document = document(alloc, pieces)?;
+    Ok(document.check(alloc, schema).err())
 }
 
 #[test]
 fn a_fault_is_named_by_its_place(rt: HostRuntime) -> Result<(), Fail> {
-    let alloc = rt.alloc();
-    let schema = schema(alloc)?;
-    for (pieces, fault) in &FAULTS {
-        let found = fault_of(alloc, &schema, &document(alloc, *pieces)?);
-        assert!(rt; found == *fault);
+    let schema = schema_line(rt.alloc(), SCHEMA.as_bytes())?;
+    for (number, (pieces, fault)) in FAULTS.iter().enumerate() {
+        assert!(rt;
+            fault_of(rt.alloc(), &schema, pieces)? == *fault,
+            "row {number}"
+        );
     }
     Ok(())
 }
 
+/// How deep a lone half of a pair stands in a document, and its first fault: depth comes before pairs.
+const DEPTHS: [(usize, CheckError); 2] = [
+    (MAX_DEPTH, CheckError::Pair { at: 49 }),
+    (MAX_DEPTH + 1, CheckError::Deep),
+];
+
 /// A lone half of a pair in a paragraph, in quotes, so many levels deep.
-fn nested(alloc: Global, levels: usize) -> Result<Document, Fail> {
+fn nested(alloc: Global, levels: usize) -> Result<Vec<Piece>, AllocError> {
     let mut pieces = Vec::new(alloc);
     for _ in 1..levels {
         pieces.push(Piece::Open(QUOTE, &[]))?;
@@ -301,19 +240,31 @@ fn nested(alloc: Global, levels: usize) -> Result<Document, Fail> {
     for _ in 0..levels {
         pieces.push(END)?;
     }
-    document(alloc, &pieces)
+    Ok(pieces)
+}
+
+fn fault_in(alloc: Global, schema: &Schema, levels: usize) -> Result<Option<CheckError>, Fail> {
+    let pieces = nested(alloc, levels)?;
+    fault_of(alloc, schema, &pieces)
+}
+
+/// The first fault of a text among blocks that has a unit more than a document may have tokens.
+fn fault_of_long(alloc: Global, schema: &Schema) -> Result<Option<CheckError>, Fail> {
+    let units = vec![in alloc; 97; schema.max_size().saturating_add(1)]?;
+    let nodes = vec![in alloc; text(alloc, units, &[])?]?;
+    let document = Document::new(alloc, block(alloc, DOC, &[], nodes)?)?;
+    Ok(document.check(alloc, schema).err())
 }
 
 #[test]
 fn size_comes_before_depth_before_pairs(rt: HostRuntime) -> Result<(), Fail> {
-    let alloc = rt.alloc();
-    let schema = schema(alloc)?;
-    let deep = nested(alloc, MAX_DEPTH)?;
-    assert!(rt; fault_of(alloc, &schema, &deep) == Some(CheckError::Pair { at: 49 }));
-    let deeper = nested(alloc, MAX_DEPTH + 1)?;
-    assert!(rt; fault_of(alloc, &schema, &deeper) == Some(CheckError::Deep));
-    let long = text(alloc, vec![in alloc; 97; schema.max_size() + 1]?, &[])?;
-    let long = Document::new(alloc, block(alloc, DOC, &[], vec![in alloc; long]?)?)?;
-    assert!(rt; fault_of(alloc, &schema, &long) == Some(CheckError::Large));
+    let schema = schema_line(rt.alloc(), SCHEMA.as_bytes())?;
+    for (levels, fault) in &DEPTHS {
+        assert!(rt;
+            fault_in(rt.alloc(), &schema, *levels)? == Some(*fault),
+            "{levels}"
+        );
+    }
+    assert!(rt; fault_of_long(rt.alloc(), &schema)? == Some(CheckError::Large));
     Ok(())
 }
