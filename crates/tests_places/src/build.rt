@@ -6,7 +6,7 @@ use pm_auto::TypeId;
 use pm_build::{Builder, depth_at, parts_pair, unit_at};
 use pm_marks::MarkSet;
 use pm_node::{Body, Fragment, Node, Units};
-use std::alloc::Global;
+use std::alloc::{AllocError, Global};
 use std::test::Fail;
 
 const PARAGRAPH: TypeId = 1;
@@ -45,33 +45,40 @@ fn paragraph(alloc: Global) -> Result<Fragment, Fail> {
     alone(alloc, node(alloc, PARAGRAPH, Body::Children(inner)))
 }
 
+/// A position; there the depth and the unit, and whether it parts a pair.
+const TOLD: [(usize, usize, Option<u16>, bool); 5] = [
+    (0, 0, None, false),
+    (1, 1, Some(0xD83D), false),
+    (2, 1, Some(0xDE00), true),
+    (3, 1, None, false),
+    (4, 0, None, false),
+];
+
+/// Whether this is told of a position of the content.
+fn is_told(content: &Fragment, pos: usize, depth: usize, unit: Option<u16>, pair: bool) -> bool {
+    pos <= content.size()
+        && depth_at(content, pos) == depth
+        && unit_at(content, pos) == unit
+        && parts_pair(content, pos) == pair
+}
+
 #[test]
 fn positions_are_told(rt: HostRuntime) -> Result<(), Fail> {
-    let alloc = rt.alloc();
-    let content = paragraph(alloc)?;
-    assert_eq!(rt; content.size(), 4);
-    let rows = [
-        (0, 0, None, false),
-        (1, 1, Some(0xD83D), false),
-        (2, 1, Some(0xDE00), true),
-        (3, 1, None, false),
-        (4, 0, None, false),
-    ];
-    for (pos, depth, unit, pair) in &rows {
-        if *pos <= content.size() {
-            assert_eq!(rt; depth_at(&content, *pos), *depth);
-        }
-        assert_eq!(rt; unit_at(&content, *pos), *unit);
-        assert_eq!(rt; parts_pair(&content, *pos), *pair);
+    let content = paragraph(rt.alloc())?;
+    assert!(rt; content.size() == 4);
+    for (pos, depth, unit, pair) in &TOLD {
+        assert!(rt; is_told(&content, *pos, *depth, *unit, *pair), "{pos}");
     }
     Ok(())
 }
 
-#[test]
-fn nodes_are_built_from_left_to_right(rt: HostRuntime) -> Result<(), Fail> {
-    let alloc = rt.alloc();
+/// What is open at first, within a line, and behind it.
+type Opened = (Option<TypeId>, Option<TypeId>, Option<TypeId>);
+
+/// A quote with a line, whose type is that of a leaf, and what was open on the way.
+fn quote(alloc: Global) -> Result<(Fragment, Opened), AllocError> {
     let mut builder = Builder::new(alloc);
-    assert_eq!(rt; builder.top(), None);
+    let first = builder.top();
     builder.open(
         alloc,
         QUOTE,
@@ -79,11 +86,17 @@ fn nodes_are_built_from_left_to_right(rt: HostRuntime) -> Result<(), Fail> {
         MarkSet::empty(alloc),
     )?;
     builder.open_copy(alloc, &node(alloc, LINE, Body::Leaf))?;
-    assert_eq!(rt; builder.top(), Some(LINE));
+    let within = builder.top();
     builder.close(alloc)?;
-    assert_eq!(rt; builder.top(), Some(QUOTE));
+    let behind = builder.top();
     builder.close(alloc)?;
-    let content = builder.finish();
-    assert_eq!(rt; (content.size(), content.len()), (4, 1));
+    Ok((builder.finish(), (first, within, behind)))
+}
+
+#[test]
+fn nodes_are_built_from_left_to_right(rt: HostRuntime) -> Result<(), Fail> {
+    let (content, opened) = quote(rt.alloc())?;
+    assert!(rt; opened == (None, Some(LINE), Some(QUOTE)));
+    assert!(rt; content.size() == 4 && content.len() == 1);
     Ok(())
 }

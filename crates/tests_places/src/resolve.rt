@@ -1,135 +1,57 @@
 //! Tables with ample memory: places of small documents, and the marks there.
-ghost use Rattle.std.specs.Prelude.{◌≡◌, ◌<◌};
+ghost use Rattle.std.specs.Prelude.{◌≡◌, ◌<◌, length};
 
-use pm_attrs::Attrs;
-use pm_auto::{Expr, TypeId};
-use pm_list::Listed;
-use pm_marks::{Mark, MarkId, MarkRules, MarkSet};
-use pm_node::{Body, Document, Fragment, Node, Units};
-use pm_resolve::{Place, PlaceError, resolve, resolve_counted};
-use pm_schema::{AttrSpecs, MarkSpec, NodeSpec, Schema, SchemaSpec};
+use pm_head::{doc_line, schema_line};
+use pm_node::Document;
+use pm_resolve::{Place, resolve, resolve_counted};
+use pm_schema::Schema;
 use pm_sized::Steps;
-use pm_value::Text;
 use std::alloc::{AllocError, Global};
 use std::marker::Brand;
 use std::sync::ledger::{Blank, Ledger};
 use std::test::Fail;
 
-const DOC: TypeId = 0;
+/// A link is not inclusive.
+const SCHEMA: &str = r#"{"nodes":[
+    {"name":"doc","content":"(paragraph | quote)+"},{"name":"paragraph","content":"text*"},
+    {"name":"quote","content":"paragraph+"},{"name":"text"}],
+    "marks":[{"name":"em"},{"name":"link","inclusive":false}]}"#;
 
-const PARAGRAPH: TypeId = 1;
-
-const QUOTE: TypeId = 2;
-
-const TEXT: TypeId = 3;
-
-const EM: MarkId = 0;
-
-/// Not inclusive.
-const LINK: MarkId = 1;
-
-fn content(alloc: Global, kind: TypeId) -> Result<Expr, AllocError> {
-    match kind {
-        TEXT => Ok(Expr::Empty),
-        PARAGRAPH => Ok(Expr::Star(Box::new(alloc, Expr::One(TEXT))?)),
-        DOC => Ok(Expr::Plus(Box::new(
-            alloc,
-            Expr::Choice(vec![in alloc; Expr::One(PARAGRAPH), Expr::One(QUOTE)]?),
-        )?)),
-        _ => Ok(Expr::Plus(Box::new(alloc, Expr::One(PARAGRAPH))?)),
-    }
-}
-
-fn mark_type(alloc: Global, name: &str, inclusive: bool) -> Result<MarkSpec, AllocError> {
-    Ok(MarkSpec {
-        name: Text::from_str(alloc, name)?,
-        attrs: AttrSpecs::new(alloc),
-        inclusive,
-        excludes: None,
-        groups: Listed::new(alloc),
-    })
-}
-
-fn schema(alloc: Global) -> Result<Schema, Fail> {
-    let mut nodes = Listed::new(alloc);
-    for (kind, name) in ["doc", "paragraph", "quote", "text"].iter().enumerate() {
-        nodes.push(NodeSpec {
-            name: Text::from_str(alloc, name)?,
-            content: content(alloc, kind)?,
-            groups: Listed::new(alloc),
-            marks: None,
-            inline: false,
-            atom: false,
-            attrs: AttrSpecs::new(alloc),
-        })?;
-    }
-    let mut marks = Listed::new(alloc);
-    marks.push(mark_type(alloc, "em", true)?)?;
-    marks.push(mark_type(alloc, "link", false)?)?;
-    let spec = SchemaSpec {
-        nodes,
-        marks,
-        top: Text::from_str(alloc, "doc")?,
-        version: 1,
-    };
-    Ok(Schema::build(alloc, spec)?)
+/// The document with the content that a JSON text writes.
+fn document(alloc: Global, schema: &Schema, content: &str) -> Result<Document, Fail> {
+    let text = format!(in alloc; r#"{{"type":"doc","content":[{content}]}}"#)?;
+    Ok(doc_line(alloc, schema, text.as_str().as_bytes())?)
 }
 
 /// The marks that a letter stands for: `i` is italic, `l` a link, `b` both, and any other letter neither.
-fn has_em(letter: u8) -> bool {
-    letter == b'i' || letter == b'b'
-}
-
-fn has_link(letter: u8) -> bool {
-    letter == b'l' || letter == b'b'
-}
-
-fn mark(alloc: Global, kind: MarkId) -> Mark<Attrs> {
-    Mark {
-        kind,
-        attrs: Attrs::new(Vec::new(alloc)),
+fn marks(letter: char) -> &'static str {
+    match letter {
+        'i' => r#"{"type":"em"}"#,
+        'l' => r#"{"type":"link"}"#,
+        'b' => r#"{"type":"em"},{"type":"link"}"#,
+        _ => "",
     }
 }
 
-/// The letter with the marks that it stands for.
-fn text(alloc: Global, letter: u8) -> Result<Node, Fail> {
-    let mut marks = Vec::new(alloc);
-    if has_em(letter) {
-        marks.push(mark(alloc, EM))?;
+/// The JSON text of a paragraph of letters with the marks that they stand for.
+fn paragraph(alloc: Global, letters: &str) -> Result<String, AllocError> {
+    let mut text = String::from_str(alloc, r#"{"type":"paragraph","content":["#)?;
+    for (i, letter) in letters.chars().enumerate() {
+        text.push_str(if i == 0 { "" } else { "," })?;
+        let marks = marks(letter);
+        write!(
+            text,
+            r#"{{"type":"text","text":"{letter}","marks":[{marks}]}}"#
+        )?;
     }
-    if has_link(letter) {
-        marks.push(mark(alloc, LINK))?;
-    }
-    Ok(Node {
-        kind: TEXT,
-        attrs: Attrs::new(Vec::new(alloc)),
-        marks: MarkSet::from_list(alloc, &MarkRules::new(Vec::new(alloc)), marks)?,
-        body: Body::Text(Units::new(vec![in alloc; u16::from(letter)]?)),
-    })
+    text.push_str("]}")?;
+    Ok(text)
 }
 
-fn block(alloc: Global, kind: TypeId, nodes: Vec<Node>) -> Result<Node, Fail> {
-    if !Fragment::can_hold(&nodes) {
-        return Err(Fail::new("too many tokens"));
-    }
-    Ok(Node {
-        kind,
-        attrs: Attrs::new(Vec::new(alloc)),
-        marks: MarkSet::empty(alloc),
-        body: Body::Children(Fragment::from_nodes(alloc, nodes)?),
-    })
-}
-
-fn paragraph(alloc: Global, letters: &str) -> Result<Node, Fail> {
-    let mut nodes = Vec::new(alloc);
-    for letter in letters.as_bytes() {
-        nodes.push(text(alloc, *letter)?)?;
-    }
-    block(alloc, PARAGRAPH, nodes)
-}
-
-fn document(alloc: Global, node: Node) -> Result<Document, Fail> {
-    Ok(Document::new(alloc, block(alloc, DOC, vec![in alloc; node]?)?)?)
+/// The document of one paragraph of these letters.
+fn lettered(alloc: Global, schema: &Schema, letters: &str) -> Result<Document, Fail> {
+    let text = paragraph(alloc, letters)?;
+    document(alloc, schema, text.as_str())
 }
 
 /// Whether the place has the depth, with this index, start and end.
@@ -137,19 +59,57 @@ fn tells(place: &Place<'_>, d: usize, index: usize, start: usize, end: usize) ->
     d <= place.depth() && place.index(d) == index && place.start(d) == start && place.end(d) == end
 }
 
+/// The depth of a position; there the type, the index, the start and the end; and the depths that it shares with the positions
+/// 3 and 4. Or why there is no place.
+fn told(alloc: Global, doc: &Document, pos: usize) -> Result<String, AllocError> {
+    match resolve(alloc, doc, pos) {
+        Ok(place) => path_of(alloc, &place, doc.size()),
+        Err(fault) => format!(in alloc; "{fault:?}"),
+    }
+}
+
+fn path_of(alloc: Global, place: &Place<'_>, size: usize) -> Result<String, AllocError>
+    requires { size ≡ length place.now.doc.tokens }
+{
+    let d = place.depth();
+    let mut text = format!(in alloc; "{d} {}", place.node(d).kind)?;
+    write!(
+        text,
+        " {} {} {}",
+        place.index(d),
+        place.start(d),
+        place.end(d)
+    )?;
+    if 4 <= size {
+        write!(text, " {} {}", place.shared_depth(3), place.shared_depth(4))?;
+    }
+    Ok(text)
+}
+
+/// Positions in a document of one paragraph, which is of type 1, with two letters.
+const PATHS: [(usize, &str); 2] = [(2, "1 1 0 1 3 1 0"), (5, "OutOfRange")];
+
+fn is_told(alloc: Global, schema: &Schema, pos: usize, want: &str) -> Result<bool, Fail> {
+    let doc = lettered(alloc, schema, "ac")?;
+    Ok(told(alloc, &doc, pos)?.as_str() == want)
+}
+
 #[test]
 fn a_place_tells_its_path(rt: HostRuntime) -> Result<(), Fail> {
-    let alloc = rt.alloc();
-    let doc = document(alloc, paragraph(alloc, "ac")?)?;
-    let place = resolve(alloc, &doc, 2)?;
-    assert!(rt; place.depth() == 1);
-    assert!(rt; place.node(1).kind == PARAGRAPH);
-    assert!(rt; tells(&place, 1, 0, 1, 3));
-    assert!(rt; doc.size() == 4);
-    assert!(rt; place.shared_depth(3) == 1);
-    assert!(rt; place.shared_depth(4) == 0);
-    assert!(rt; resolve(alloc, &doc, 5).err() == Some(PlaceError::OutOfRange));
+    let schema = schema_line(rt.alloc(), SCHEMA.as_bytes())?;
+    for (pos, want) in &PATHS {
+        assert!(rt; is_told(rt.alloc(), &schema, *pos, want)?, "{want}");
+    }
     Ok(())
+}
+
+/// The JSON text of so many empty paragraphs, parted by commas.
+fn many(alloc: Global, count: usize) -> Result<String, AllocError> {
+    let mut text = String::from_str(alloc, r#"{"type":"paragraph"}"#)?;
+    for _ in 1..count {
+        text.push_str(r#",{"type":"paragraph"}"#)?;
+    }
+    Ok(text)
 }
 
 /// Whether position 10,001 of the document is at the start of its child 5,000, which has no content.
@@ -164,38 +124,49 @@ fn is_halfway<L: Ledger>(blank: Blank, alloc: Global, doc: &Document) -> Result<
     Ok(place.depth() == 1 && outer && tells(&place, 1, 0, 10_001, 10_001))
 }
 
+fn is_found(alloc: Global, schema: &Schema) -> Result<bool, Fail> {
+    let text = many(alloc, 10_000)?;
+    let doc = document(alloc, schema, text.as_str())?;
+    is_halfway::<Brand>(Blank::new(1), alloc, &doc)
+}
+
 #[test]
 fn a_place_among_many_is_found_by_halves(rt: HostRuntime) -> Result<(), Fail> {
-    let alloc = rt.alloc();
-    let mut nodes = Vec::new(alloc);
-    for _ in 0..10_000 {
-        nodes.push(paragraph(alloc, "")?)?;
-    }
-    let doc = Document::new(alloc, block(alloc, DOC, nodes)?)?;
-    assert!(rt; is_halfway::<Brand>(Blank::new(1), alloc, &doc)?);
+    let schema = schema_line(rt.alloc(), SCHEMA.as_bytes())?;
+    assert!(rt; is_found(rt.alloc(), &schema)?);
     Ok(())
 }
 
-/// The letters of a paragraph, a position, and a letter with the marks there.
-const MARKS: &str = ",1,-;l,1,-;l,2,-;ll,2,l;i,1,i;ia,2,i;ai,2,-;lb,2,l;bi,2,i";
+/// The letters of a paragraph, a position, and the numbers of the marks there: em is 0, and a link 1.
+const MARKS: [(&str, usize, &str); 9] = [
+    ("", 1, ""),
+    ("l", 1, ""),
+    ("l", 2, ""),
+    ("ll", 2, "1"),
+    ("i", 1, "0"),
+    ("ia", 2, "0"),
+    ("ai", 2, ""),
+    ("lb", 2, "1"),
+    ("bi", 2, "0"),
+];
+
+/// The numbers of the marks at the position.
+fn marks_at(alloc: Global, schema: &Schema, letters: &str, pos: usize) -> Result<String, Fail> {
+    let doc = lettered(alloc, schema, letters)?;
+    let found = resolve(alloc, &doc, pos)?.marks(alloc, schema)?;
+    let mut text = String::new(alloc);
+    for mark in found.marks() {
+        write!(text, "{}", mark.kind)?;
+    }
+    Ok(text)
+}
 
 #[test]
 fn marks_go_on_at_the_end_of_a_text(rt: HostRuntime) -> Result<(), Fail> {
-    let alloc = rt.alloc();
-    let schema = schema(alloc)?;
-    for row in MARKS.split(';') {
-        let fields: Vec<&str> = row.split(',').collect(alloc)?;
-        let [letters, pos, want] = fields.as_slice() else {
-            return Err(Fail::new("a row has three fields"));
-        };
-        let doc = document(alloc, paragraph(alloc, letters)?)?;
-        let found = resolve(alloc, &doc, pos.parse()?)?.marks(alloc, &schema)?;
-        let em = found.marks().iter().any(|mark| mark.kind == EM);
-        let link = found.marks().iter().any(|mark| mark.kind == LINK);
-        let [want] = want.as_bytes() else {
-            return Err(Fail::new("a row ends in a letter"));
-        };
-        assert!(rt; em == has_em(*want) && link == has_link(*want), "{row}");
+    let schema = schema_line(rt.alloc(), SCHEMA.as_bytes())?;
+    for (letters, pos, want) in &MARKS {
+        let found = marks_at(rt.alloc(), &schema, letters, *pos)?;
+        assert!(rt; found.as_str() == *want, "{letters}");
     }
     Ok(())
 }

@@ -36,7 +36,6 @@ fn maps_have_the_ranges_of_their_steps(rt: HostRuntime) -> Result<(), Fail> {
     let shown = format!(in alloc; "{:?}", step.step_map())?;
     let first = "first: Some(Span { start: 2, old_size: 1, new_size: 2 })";
     let second = "second: Some(Span { start: 8, old_size: 1, new_size: 0 })";
-    assert!(rt; shown.as_str().contains(first));
-    assert!(rt; shown.as_str().contains(second));
+    assert!(rt; shown.as_str().contains(first) && shown.as_str().contains(second));
     Ok(())
 }
