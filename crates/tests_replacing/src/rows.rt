@@ -40,28 +40,26 @@ fn parts(row: &str) -> Option<Row<'_>> {
 /// What is found for the row, as a text.
 fn found(alloc: Global, schema: &Schema, row: Row<'_>) -> Result<String, Fail> {
     let before = document(alloc, schema, row.before)?;
-    if row.asked == "carry" {
-        return carried_over(alloc, schema, &before, row.step);
-    }
-    if is_sliced(row.asked) {
-        return sliced(alloc, schema, row.asked, &before, row.step);
-    }
-    if row.asked == "view" {
-        return viewed(alloc, &before, row.step);
-    }
-    let step = step(alloc, schema, row.step)?;
     match row.asked {
-        "apply" => applied(alloc, schema, &before, step),
-        "replace" => replaced(alloc, schema, &before, &step),
-        "fit" => fitted(alloc, schema, &before, &step),
-        "undo" => undone(alloc, schema, &before, step),
-        _ => Err(Fail::new("nothing is asked")),
+        "carry" => carried_over(alloc, schema, &before, row.step),
+        "view" => viewed(alloc, &before, row.step),
+        "cut" | "part" | "clip" | "open" => sliced(alloc, schema, row.asked, &before, row.step),
+        _ => found_by(alloc, schema, row, &before),
     }
 }
 
-/// Whether a slice is asked for, in place of a document or steps.
-fn is_sliced(asked: &str) -> bool {
-    matches!(asked, "cut" | "part" | "clip" | "open")
+/// What is found by the row's step.
+fn found_by(alloc: Global, schema: &Schema, row: Row<'_>, before: &Document) -> Result<String, Fail>
+    requires { Valid (documents_of schema.now.spec) before.now }
+{
+    let step = step(alloc, schema, row.step)?;
+    match row.asked {
+        "apply" => applied(alloc, schema, before, step),
+        "replace" => replaced(alloc, schema, before, &step),
+        "fit" => fitted(alloc, schema, before, &step),
+        "undo" => undone(alloc, schema, before, step),
+        _ => Err(Fail::new("nothing is asked")),
+    }
 }
 
 /// The text of what the row wants: what begins with `!` itself, or else a slice where it asks for one, the steps where it asks for
@@ -70,13 +68,11 @@ fn wanted(alloc: Global, schema: &Schema, row: Row<'_>) -> Result<String, Fail> 
     if row.want.starts_with('!') {
         return Ok(String::from_str(alloc, row.want)?);
     }
-    if matches!(row.asked, "carry" | "undo") {
-        return steps_json(alloc, schema, row.want);
+    match row.asked {
+        "carry" | "undo" => steps_json(alloc, schema, row.want),
+        "cut" | "part" | "clip" | "open" => slice_json(alloc, schema, row.want),
+        _ => document_json(alloc, schema, row.want),
     }
-    if is_sliced(row.asked) {
-        return slice_json(alloc, schema, row.want);
-    }
-    document_json(alloc, schema, row.want)
 }
 
 /// The JSON text of a step from 0 to the slice's size, with the slice.

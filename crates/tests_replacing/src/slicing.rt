@@ -8,6 +8,12 @@ use pm_stepjson::step_text;
 use std::alloc::Global;
 use std::test::Fail;
 
+/// The two numbers that stand in a text, parted by a blank.
+pub(crate) fn two_numbers(text: &str) -> Result<(usize, usize), Fail> {
+    let (first, second) = text.split_once(' ').ok_or("two numbers")?;
+    Ok((first.parse()?, second.parse()?))
+}
+
 /// What becomes of the document by the two numbers: `cut` gives the part between two positions, `part` that of its content, `clip` the
 /// content's tokens there with the nodes around them, and `open` the content with so many open sides.
 pub(crate) fn sliced(
@@ -17,8 +23,7 @@ pub(crate) fn sliced(
     before: &Document,
     numbers: &str,
 ) -> Result<String, Fail> {
-    let (first, second) = numbers.split_once(' ').ok_or("two numbers")?;
-    let (first, second) = (first.parse()?, second.parse()?);
+    let (first, second) = two_numbers(numbers)?;
     if asked == "cut" {
         return cut_out(alloc, schema, before, first, second);
     }

@@ -24,7 +24,18 @@ pub(crate) fn undone(
     requires { Valid (documents_of schema.now.spec) before.now }
 {
     let change = DocChange::new(alloc, step)?;
-    let Tried { next, backs } = there_and_back(alloc, schema, before, &change)?;
+    let tried = there_and_back(alloc, schema, before, &change)?;
+    shown(alloc, schema, before, tried)
+}
+
+/// The steps back as texts, where they lead back to the document before.
+fn shown(
+    alloc: Global,
+    schema: &Schema,
+    before: &Document,
+    tried: Tried<DocChange>,
+) -> Result<String, Fail> {
+    let Tried { next, backs } = tried;
     let again = text_after(alloc, schema, next, &backs)?;
     if again.as_str() != document_text(alloc, schema, before)?.as_str() {
         return Err(Fail::new("the steps back give another document"));

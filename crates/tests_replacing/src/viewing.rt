@@ -1,5 +1,6 @@
 //! Parts of documents that are lent: what their tokens are, one part after another.
 use crate::rows::answers;
+use crate::slicing::two_numbers;
 use pm_node::Document;
 use pm_view::{Part, Tokens, view};
 use std::alloc::{AllocError, Global};
@@ -8,8 +9,8 @@ use std::test::Fail;
 /// What the part of the document between the two positions shows, behind `!`: its size, and then its parts. A node that opens is
 /// `(` and one that closes `)`, a leaf is `*`, and a run of text is its units, each of which is a letter or else `@`.
 pub(crate) fn viewed(alloc: Global, before: &Document, numbers: &str) -> Result<String, Fail> {
-    let (first, second) = numbers.split_once(' ').ok_or("two numbers")?;
-    match view(before, first.parse()?, second.parse()?) {
+    let (first, second) = two_numbers(numbers)?;
+    match view(before, first, second) {
         Ok(lent) => {
             let mut out = format!(in alloc; "!{}", lent.size())?;
             push_parts(&mut out, lent.tokens(alloc)?, lent.size())?;
