@@ -54,18 +54,23 @@ enum Piece {
     Unit(u16, &'static [(MarkId, &'static [i64])]),
 }
 
-fn text(alloc: Global, units: Vec<u16>, marks: &[(MarkId, &'static [i64])]) -> Result<Node, Fail> {
+/// The set of these marks, of which none pushes out another.
+fn marks_of(alloc: Global, marks: &[(MarkId, &'static [i64])]) -> Result<MarkSet<Attrs>, Fail> {
     let mut list = Vec::new(alloc);
     for (kind, values) in marks {
-        list.push(Mark {
-            kind: *kind,
-            attrs: attrs(alloc, values)?,
-        })?;
+        let attrs = attrs(alloc, values)?;
+        list.push(Mark { kind: *kind, attrs })?;
     }
+    let rules = MarkRules::new(Vec::new(alloc));
+    Ok(MarkSet::from_list(alloc, &rules, list)?)
+}
+
+fn text(alloc: Global, units: Vec<u16>, marks: &[(MarkId, &'static [i64])]) -> Result<Node, Fail> {
+    let marks = marks_of(alloc, marks)?;
     Ok(Node {
         kind: TEXT,
-        attrs: attrs(alloc, &[])?,
-        marks: MarkSet::from_list(alloc, &MarkRules::new(Vec::new(alloc)), list)?,
+        attrs: Attrs::new(Vec::new(alloc)),
+        marks,
         body: Body::Text(Units::new(units)),
     })
 }
