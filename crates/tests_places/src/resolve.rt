@@ -124,16 +124,12 @@ fn is_halfway<L: Ledger>(blank: Blank, alloc: Global, doc: &Document) -> Result<
     Ok(place.depth() == 1 && outer && tells(&place, 1, 0, 10_001, 10_001))
 }
 
-fn is_found(alloc: Global, schema: &Schema) -> Result<bool, Fail> {
-    let text = many(alloc, 10_000)?;
-    let doc = document(alloc, schema, text.as_str())?;
-    is_halfway::<Brand>(Blank::new(1), alloc, &doc)
-}
-
 #[test]
 fn a_place_among_many_is_found_by_halves(rt: HostRuntime) -> Result<(), Fail> {
-    let schema = schema_line(rt.alloc(), SCHEMA.as_bytes())?;
-    assert!(rt; is_found(rt.alloc(), &schema)?);
+    let alloc = rt.alloc();
+    let schema = schema_line(alloc, SCHEMA.as_bytes())?;
+    let doc = document(alloc, &schema, many(alloc, 10_000)?.as_str())?;
+    assert!(rt; is_halfway::<Brand>(Blank::new(1), alloc, &doc)?);
     Ok(())
 }
 
