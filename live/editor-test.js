@@ -31,7 +31,8 @@ class Log {
     this.entries = []
   }
 
-  join(clientID, options) { return new Editor({doc: this.first, clientID, undo: {newGroupDelay: 0}, ...options}) }
+  // Each edit is an event of its own, also where two come within one millisecond.
+  join(clientID, options) { return new Editor({doc: this.first, clientID, undo: {newGroupDelay: -1}, ...options}) }
 
   ask({line}) {
     if (line.op == "submit" && line.version != this.entries.length) return {version: this.entries.length}
