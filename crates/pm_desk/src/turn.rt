@@ -9,7 +9,6 @@ use crate::plays::{About, Deal, Gather, Look, Release, Sight, Slot, Token, Try, 
 use atomic_table::{Refused, Table};
 use pm_change::Machine;
 use std::alloc::{AllocError, Global};
-use std::hint::spin_loop;
 use std::snapshot::Snapshot;
 use std::sync::Wait;
 use std::thread::yield_now;
@@ -32,9 +31,6 @@ pub struct Seat<M: Machine> {
     ghost numbered: { (number ≡ token.me.0.number) × (splits ≡ token.me.0.splits) },
 }
 
-// How often a seat looks whether the turn is free before it lets other threads go on.
-const LOOKS: u32 = 64;
-
 impl<M: Machine> Desk<M> {
     // Tries until it has the turn.
     fn take_turn<R: Wait>(&self, rt: &R, token: &mut Token<M>)
@@ -48,20 +44,9 @@ impl<M: Machine> Desk<M> {
             if self.table.shared.compare_exchange::<Try<M>>(token, 0, 0, 1) == 0 {
                 return;
             }
-            self.look_out();
+            yield_now();
         }
         unreachable!()
-    }
-
-    // Looks for a while whether the turn is free. If it is not, lets other threads go on.
-    fn look_out(&self) {
-        for _ in 0..LOOKS {
-            if self.table.shared.peek(0) == 0 {
-                return;
-            }
-            spin_loop();
-        }
-        yield_now();
     }
 
     // Answers the request in the slot. A call that got a reply then stands at the end of the slot's history.

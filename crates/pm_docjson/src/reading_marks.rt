@@ -42,7 +42,8 @@ fn mark_list(
     Ok(marks)
 }
 
-/// The marks that the field `marks` gives, which are to be a set.
+/// The marks that the field `marks` gives, none where it is absent, or the first fault: `Shape` where the field is no array, the
+/// fault of its first mark that has one by `read_mark`, and `NotASet` where the marks are no set.
 #[tactic(auto, unfolding(crate::specs::Reading::marks_of))]
 pub fn marks_of(alloc: Global, schema: &Schema, json: &Json) -> Result<MarkSet<Attrs>, DocReadError>
     ensures { Gives (λ s. s) result (marks_of schema.now.spec (field (codes "marks") (view json.now))) }
