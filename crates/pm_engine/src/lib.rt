@@ -18,7 +18,8 @@ pub mod standing;
 // Values of attributes, and the kinds that an attribute may be kept to.
 pub use pm_value::{Kinds, Text, Value, ValueError};
 
-// Schemas, and reading one from its JSON value.
+// Schemas, and reading one from its JSON value, in any form of which a `JsonRef` tells.
+pub use pm_json::JsonRef;
 pub use pm_schema::{
     AttrError, AttrSpec, AttrSpecs, Attrs, MarkSpec, NodeSpec, Schema, SchemaError, SchemaSpec,
 };

@@ -1,5 +1,4 @@
 mod Ascii
-mod Fronts
 mod Unbuilt
 mod Refusing
 pub mod ReadFaults

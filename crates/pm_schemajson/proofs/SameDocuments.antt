@@ -1,5 +1,5 @@
 -- Two specs whose types one JSON writes are one schema to documents.
-use Rattle.std.proofs.Common.{◌≡◌, ℕ, zero, suc, true, false, ◌||◌, ◌&&◌, List, [], ◌∷◌, length, map, refl, ap, ◌∙◌, sym}
+use Rattle.std.proofs.Common.{◌≡◌, ℕ, zero, suc, true, false, ◌||◌, List, [], ◌∷◌, length, map, refl, ap, ◌∙◌, sym}
 use Rattle.std.specs.Prelude.{slice_index_or, codes, Option, Some, None, unwrap_or, nat_lt, if◌then◌else◌, replicate, slice_set}
 use Rattle.std.specs.List.{list_any}
 use Rattle.std.specs.Str.{bytes_eq}

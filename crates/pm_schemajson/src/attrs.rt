@@ -1,8 +1,9 @@
 //! The attributes that a type declares.
-ghost use Rattle.std.specs.Prelude.{◌≡◌, true, codes, option_map, IfOk};
+ghost use Rattle.std.specs.Prelude.{◌≡◌, true, codes, map, option_map, IfOk};
 ghost use Rattle.serde_json.specs.Find.{get};
-ghost use Rattle.serde_json.specs.View.{view, members_view};
 ghost use Rattle.pm_value.specs.Views.{plain};
+ghost use Rattle.pm_value.specs.Kept.{InOrder};
+ghost use Rattle.pm_json.specs.Members.{members_of};
 ghost use Rattle.pm_schema.specs.Defaults.{is_kind_of_default};
 ghost use Rattle.pm_schemajson.specs.Answers.{Gives};
 ghost use Rattle.pm_schemajson.specs.Fields.{field as field_of};
@@ -11,22 +12,22 @@ ghost use Rattle.pm_schemajson.specs.Versions.{is_kept};
 ghost use Rattle.pm_schemajson.specs.Views.{attribute, attributes};
 
 use crate::error::{Field, SchemaReadError};
-use crate::fields::{field, object};
+use crate::fields::{field, members, object};
 use crate::versions::validate_of;
+use pm_json::JsonRef;
 use pm_list::Listed;
 use pm_schema::{AttrSpec, AttrSpecs};
 use pm_value::{Kinds, Text, Value};
-use serde_json::{Map, Value as Json};
 use std::alloc::Global;
 
 /// The default in the entry of an attribute.
-fn default_of(alloc: Global, json: &Json) -> Result<Option<Value>, SchemaReadError>
-    ensures { Gives (λ v. option_map plain v) result (default_from_json (get (codes "default") (view json.now))) }
+fn default_of<'a, J: JsonRef<'a>>(alloc: Global, json: J) -> Result<Option<Value>, SchemaReadError>
+    ensures { Gives (λ v. option_map plain v) result (default_from_json (get (codes "default") (J.seen json))) }
 {
     match json.get("default") {
         None => Ok(None),
         Some(value) => {
-            let default = Value::from_json(alloc, value)?;
+            let default = value.value(alloc)?;
             Ok(Some(default))
         }
     }
@@ -45,14 +46,14 @@ fn is_kept(default: &Option<Value>, kinds: Option<Kinds>) -> bool
 
 /// The attribute of an entry, which has the place `attr` among those of its type.
 #[tactic(auto, unfolding(crate::specs::Reading::attr_of))]
-fn attr_of(
+fn attr_of<'a, J: JsonRef<'a>>(
     alloc: Global,
     version: u32,
     attr: usize,
     name: &str,
-    json: &Json,
+    json: J,
 ) -> Result<AttrSpec, SchemaReadError>
-    ensures read { Gives attribute result (attr_from version attr name.now (view json.now)) }
+    ensures read { Gives attribute result (attr_from version attr name.now (J.seen json)) }
     ensures name { IfOk result (λ a. a.name ≡ name.now) }
     ensures kind { IfOk result (λ a. is_kind_of_default a.validate a.default ≡ true) }
 {
@@ -71,16 +72,17 @@ fn attr_of(
 }
 
 #[tactic(auto, unfolding(crate::specs::Reading::attr_list))]
-fn attr_list(
+fn attr_list<'a, J: JsonRef<'a>>(
     alloc: Global,
     version: u32,
-    members: &Map<String, Json>,
+    members: &[(&'a str, J)],
 ) -> Result<AttrSpecs, SchemaReadError>
-    ensures { Gives attributes result (attr_list_of version 0 (members_view members.now.entries)) }
+    requires { InOrder (map (λ m. m.0.now) members.now) }
+    ensures { Gives attributes result (attr_list_of version 0 (members_of (map (λ m. (m.0.now, J.seen m.1)) members.now))) }
 {
     let mut attrs = Listed::from_vec(Vec::with_capacity(alloc, members.len())?);
-    for (name, value) in members.iter() {
-        let attr = attr_of(alloc, version, attrs.len(), name.as_str(), value)?;
+    for &(name, value) in members {
+        let attr = attr_of(alloc, version, attrs.len(), name, value)?;
         attrs.push(attr)?;
     }
     Ok(AttrSpecs::from_list(attrs))
@@ -88,18 +90,18 @@ fn attr_list(
 
 /// The field `attrs` of a type.
 #[tactic(auto, unfolding(crate::specs::Reading::attrs_of))]
-pub(crate) fn attrs_of(
+pub(crate) fn attrs_of<'a, J: JsonRef<'a>>(
     alloc: Global,
     version: u32,
-    json: &Json,
+    json: J,
 ) -> Result<AttrSpecs, SchemaReadError>
-    ensures { Gives attributes result (attrs_from version (field_of (codes "attrs") (view json.now))) }
+    ensures { Gives attributes result (attrs_from version (field_of (codes "attrs") (J.seen json))) }
 {
     match field(json, "attrs") {
         None => Ok(AttrSpecs::new(alloc)),
         Some(value) => {
-            let members = object(value, Field::Attrs)?;
-            attr_list(alloc, version, members)
+            let members = members(alloc, value, Field::Attrs)?;
+            attr_list(alloc, version, members.as_slice())
         }
     }
 }

@@ -1,18 +1,20 @@
 //! The fields of a JSON object.
-ghost use Rattle.std.specs.Prelude.{◌≡◌, option_map};
-ghost use Rattle.serde_json.specs.View.{view, items_view, members_view};
+ghost use Rattle.std.specs.Prelude.{◌≡◌, map, option_map, IfOk};
+ghost use Rattle.serde_json.specs.View.{items_of};
 ghost use Rattle.serde_json.specs.Find.{as_array, as_object};
+ghost use Rattle.pm_value.specs.Kept.{InOrder};
+ghost use Rattle.pm_json.specs.Members.{members_of};
 ghost use Rattle.pm_schemajson.specs.Answers.{Gives};
 ghost use Rattle.pm_schemajson.specs.Fields.{field as field_of, text_if as text_of, text_or as text_or_of, truth_or as truth_of, of_kind};
 
 use crate::error::{Field, SchemaReadError};
+use pm_json::JsonRef;
 use pm_value::Text;
-use serde_json::{Map, Value};
 use std::alloc::Global;
 
 /// A field that may be absent, which null stands for too.
-pub(crate) fn field<'a>(json: &'a Value, key: &str) -> Option<&'a Value>
-    ensures { option_map (λ v. view v.now) result ≡ field_of key.now (view json.now) }
+pub(crate) fn field<'a, J: JsonRef<'a>>(json: J, key: &str) -> Option<J>
+    ensures { option_map J.seen result ≡ field_of key.now (J.seen json) }
 {
     match json.get(key) {
         Some(value) => if value.is_null() { None } else { Some(value) },
@@ -21,13 +23,13 @@ pub(crate) fn field<'a>(json: &'a Value, key: &str) -> Option<&'a Value>
 }
 
 /// A text that may be absent.
-pub(crate) fn text_if(
+pub(crate) fn text_if<'a, J: JsonRef<'a>>(
     alloc: Global,
-    json: &Value,
+    json: J,
     key: &str,
     name: Field,
 ) -> Result<Option<Text>, SchemaReadError>
-    ensures { Gives (λ t. t) result (text_of name (field_of key.now (view json.now))) }
+    ensures { Gives (λ t. t) result (text_of name (field_of key.now (J.seen json))) }
 {
     match field(json, key) {
         None => Ok(None),
@@ -39,14 +41,14 @@ pub(crate) fn text_if(
 }
 
 /// A text that may be absent, and then is this one.
-pub(crate) fn text_or(
+pub(crate) fn text_or<'a, J: JsonRef<'a>>(
     alloc: Global,
-    json: &Value,
+    json: J,
     key: &str,
     name: Field,
     absent: &str,
 ) -> Result<Text, SchemaReadError>
-    ensures { Gives (λ t. t) result (text_or_of absent.now name (field_of key.now (view json.now))) }
+    ensures { Gives (λ t. t) result (text_or_of absent.now name (field_of key.now (J.seen json))) }
 {
     match field(json, key) {
         None => Ok(Text::from_str(alloc, absent)?),
@@ -58,13 +60,13 @@ pub(crate) fn text_or(
 }
 
 /// A truth value, and what it is where it is absent.
-pub(crate) fn truth_or(
-    json: &Value,
+pub(crate) fn truth_or<'a, J: JsonRef<'a>>(
+    json: J,
     key: &str,
     name: Field,
     absent: bool,
 ) -> Result<bool, SchemaReadError>
-    ensures { Gives (λ b. b) result (truth_of absent name (field_of key.now (view json.now))) }
+    ensures { Gives (λ b. b) result (truth_of absent name (field_of key.now (J.seen json))) }
 {
     match field(json, key) {
         None => Ok(absent),
@@ -76,23 +78,40 @@ pub(crate) fn truth_or(
 }
 
 /// The entries of a list.
-pub(crate) fn array<'a>(value: &'a Value, name: Field) -> Result<&'a [Value], SchemaReadError>
-    ensures { Gives (λ v. items_view v.now) result (of_kind name (as_array (view value.now))) }
+pub(crate) fn array<'a, J: JsonRef<'a>>(
+    alloc: Global,
+    value: J,
+    name: Field,
+) -> Result<Vec<J>, SchemaReadError>
+    ensures { Gives (λ v. items_of (map J.seen v.items)) result (of_kind name (as_array (J.seen value))) }
 {
-    match value.as_array() {
-        Some(items) => Ok(items.as_slice()),
+    match value.items(alloc)? {
+        Some(items) => Ok(items),
         None => Err(SchemaReadError::Shape { field: name }),
     }
 }
 
-/// The members of an object.
-pub(crate) fn object<'a>(
-    value: &'a Value,
-    name: Field,
-) -> Result<&'a Map<String, Value>, SchemaReadError>
-    ensures { Gives (λ m. members_view m.now.entries) result (of_kind name (as_object (view value.now))) }
+/// A fault of the field where the value is no object.
+pub(crate) fn object<'a, J: JsonRef<'a>>(value: J, name: Field) -> Result<(), SchemaReadError>
+    ensures { Gives (λ u. u) result (of_kind name (option_map (λ m. tt) (as_object (J.seen value)))) }
 {
-    match value.as_object() {
+    if value.is_object() {
+        Ok(())
+    } else {
+        Err(SchemaReadError::Shape { field: name })
+    }
+}
+
+/// The members of an object, in byte order of their keys.
+pub(crate) fn members<'a, J: JsonRef<'a>>(
+    alloc: Global,
+    value: J,
+    name: Field,
+) -> Result<Vec<(&'a str, J)>, SchemaReadError>
+    ensures read { Gives (λ v. members_of (map (λ m. (m.0.now, J.seen m.1)) v.items)) result (of_kind name (as_object (J.seen value))) }
+    ensures ordered { IfOk result (λ v. InOrder (map (λ m. m.0.now) v.items)) }
+{
+    match value.members(alloc)? {
         Some(members) => Ok(members),
         None => Err(SchemaReadError::Shape { field: name }),
     }

@@ -1,6 +1,6 @@
 //! Mark types.
-ghost use Rattle.std.specs.Prelude.{◌≡◌, codes};
-ghost use Rattle.serde_json.specs.View.{view, items_view};
+ghost use Rattle.std.specs.Prelude.{◌≡◌, codes, map};
+ghost use Rattle.serde_json.specs.View.{items_of};
 ghost use Rattle.pm_schemajson.specs.Answers.{Gives};
 ghost use Rattle.pm_schemajson.specs.Fields.{field as field_of};
 ghost use Rattle.pm_schemajson.specs.Reading.{mark_fields as fields_of_mark, mark_list as list_of_marks, marks_of as marks_from};
@@ -10,14 +10,18 @@ use crate::attrs::attrs_of;
 use crate::error::{Field, SchemaReadError};
 use crate::fields::{array, field, object, text_if, truth_or};
 use crate::named::{groups_of, name_of};
+use pm_json::JsonRef;
 use pm_list::Listed;
 use pm_schema::MarkSpec;
-use serde_json::Value;
 use std::alloc::Global;
 
 #[tactic(auto, unfolding(crate::specs::Reading::mark_fields))]
-fn mark_fields(alloc: Global, version: u32, json: &Value) -> Result<MarkSpec, SchemaReadError>
-    ensures { Gives mark_type result (fields_of_mark version (view json.now)) }
+fn mark_fields<'a, J: JsonRef<'a>>(
+    alloc: Global,
+    version: u32,
+    json: J,
+) -> Result<MarkSpec, SchemaReadError>
+    ensures { Gives mark_type result (fields_of_mark version (J.seen json)) }
 {
     let name = name_of(alloc, json)?;
     let attrs = attrs_of(alloc, version, json)?;
@@ -34,15 +38,15 @@ fn mark_fields(alloc: Global, version: u32, json: &Value) -> Result<MarkSpec, Sc
 }
 
 #[tactic(auto, unfolding(crate::specs::Reading::mark_list))]
-fn mark_list(
+fn mark_list<'a, J: JsonRef<'a>>(
     alloc: Global,
     version: u32,
-    items: &[Value],
+    items: &[J],
 ) -> Result<Listed<MarkSpec>, SchemaReadError>
-    ensures { Gives mark_types result (list_of_marks version (items_view items.now)) }
+    ensures { Gives mark_types result (list_of_marks version (items_of (map J.seen items.now))) }
 {
     let mut marks = Listed::new(alloc);
-    for item in items {
+    for &item in items {
         object(item, Field::Marks)?;
         marks.push(mark_fields(alloc, version, item)?)?;
     }
@@ -51,18 +55,18 @@ fn mark_list(
 
 /// The field `marks` of a schema.
 #[tactic(auto, unfolding(crate::specs::Reading::marks_of))]
-pub(crate) fn marks_of(
+pub(crate) fn marks_of<'a, J: JsonRef<'a>>(
     alloc: Global,
     version: u32,
-    json: &Value,
+    json: J,
 ) -> Result<Listed<MarkSpec>, SchemaReadError>
-    ensures { Gives mark_types result (marks_from version (field_of (codes "marks") (view json.now))) }
+    ensures { Gives mark_types result (marks_from version (field_of (codes "marks") (J.seen json))) }
 {
     match field(json, "marks") {
         None => Ok(Listed::new(alloc)),
         Some(value) => {
-            let items = array(value, Field::Marks)?;
-            mark_list(alloc, version, items)
+            let items = array(alloc, value, Field::Marks)?;
+            mark_list(alloc, version, items.as_slice())
         }
     }
 }

@@ -1,21 +1,20 @@
 //! The name and the groups of a type.
 ghost use Rattle.std.specs.Prelude.{◌≡◌};
-ghost use Rattle.serde_json.specs.View.{view};
 ghost use Rattle.pm_schemajson.specs.Answers.{Gives};
 ghost use Rattle.pm_schemajson.specs.Reading.{name_of as name_from, groups_of as groups_from};
 
 use crate::error::{Field, SchemaReadError};
 use crate::fields::text_or;
 use crate::words::{is_name, names};
+use pm_json::JsonRef;
 use pm_list::Listed;
 use pm_value::Text;
-use serde_json::Value;
 use std::alloc::Global;
 
 /// The field `name`.
 #[tactic(auto, unfolding(crate::specs::Reading::name_of))]
-pub(crate) fn name_of(alloc: Global, json: &Value) -> Result<Text, SchemaReadError>
-    ensures { Gives (λ t. t) result (name_from (view json.now)) }
+pub(crate) fn name_of<'a, J: JsonRef<'a>>(alloc: Global, json: J) -> Result<Text, SchemaReadError>
+    ensures { Gives (λ t. t) result (name_from (J.seen json)) }
 {
     match json.get("name") {
         Some(value) => match value.as_str() {
@@ -32,8 +31,11 @@ pub(crate) fn name_of(alloc: Global, json: &Value) -> Result<Text, SchemaReadErr
 
 /// The field `group`.
 #[tactic(auto, unfolding(crate::specs::Reading::groups_of))]
-pub(crate) fn groups_of(alloc: Global, json: &Value) -> Result<Listed<Text>, SchemaReadError>
-    ensures { Gives (λ l. l) result (groups_from (view json.now)) }
+pub(crate) fn groups_of<'a, J: JsonRef<'a>>(
+    alloc: Global,
+    json: J,
+) -> Result<Listed<Text>, SchemaReadError>
+    ensures { Gives (λ l. l) result (groups_from (J.seen json)) }
 {
     let text = text_or(alloc, json, "group", Field::Group, "")?;
     match names(alloc, text.as_str())? {

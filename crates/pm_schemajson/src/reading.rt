@@ -1,6 +1,5 @@
 //! Reading a schema.
 ghost use Rattle.std.specs.Prelude.{◌≡◌, Ok, IfOk, IfErr};
-ghost use Rattle.serde_json.specs.View.{view};
 ghost use Rattle.pm_schema.specs.Defaults.{HasShallowDefaults};
 ghost use Rattle.pm_schemajson.specs.Answers.{Gives};
 ghost use Rattle.pm_schemajson.specs.Contents.{schema_of};
@@ -12,8 +11,8 @@ use crate::fields::{array, text_or};
 use crate::marks::marks_of;
 use crate::nodes::node_list;
 use crate::versions::version_of;
+use pm_json::JsonRef;
 use pm_schema::{Schema, SchemaSpec};
-use serde_json::Value;
 use std::alloc::Global;
 
 /// The schema that a JSON object writes: `version`, the whole number 1 or 2, 1 where it is absent; `nodes`, a list of node types; `marks`, a list of mark types, none where it is
@@ -28,10 +27,10 @@ use std::alloc::Global;
 /// a field is absent or of another kind, `Name` at an ill-formed name in `name` or `group`, `Attr` at a default that is no
 /// value, and `BadDefault` at one of no kind that its attribute names. Then `Expr` at the first node type whose content is no expression. Then `Schema`, where the types make no schema.
 /// Each default nests at most four levels deep (`shallow`).
-pub fn read_schema(alloc: Global, json: &Value) -> Result<Schema, SchemaReadError>
-    ensures built { IfOk result (IsSchemaOf (view json.now)) }
+pub fn read_schema<'a, J: JsonRef<'a>>(alloc: Global, json: J) -> Result<Schema, SchemaReadError>
+    ensures built { IfOk result (IsSchemaOf (J.seen json)) }
     ensures shallow { IfOk result (λ s. HasShallowDefaults s.spec) }
-    ensures fault { IfErr result (IsFault (view json.now)) }
+    ensures fault { IfErr result (IsFault (J.seen json)) }
 {
     let spec = read_spec(alloc, json)?;
     let schema = Schema::build(alloc, spec)?;
@@ -39,15 +38,15 @@ pub fn read_schema(alloc: Global, json: &Value) -> Result<Schema, SchemaReadErro
 }
 
 #[tactic(auto, unfolding(crate::specs::Contents::schema_of, crate::specs::Reading::types_of))]
-fn read_spec(alloc: Global, json: &Value) -> Result<SchemaSpec, SchemaReadError>
-    ensures { Gives types_of_spec result (schema_of (view json.now)) }
+fn read_spec<'a, J: JsonRef<'a>>(alloc: Global, json: J) -> Result<SchemaSpec, SchemaReadError>
+    ensures { Gives types_of_spec result (schema_of (J.seen json)) }
 {
     let version = version_of(json)?;
     let value = json.get("nodes").ok_or(SchemaReadError::Shape {
         field: Field::Nodes,
     })?;
-    let items = array(value, Field::Nodes)?;
-    let texts = node_list(alloc, version, items)?;
+    let items = array(alloc, value, Field::Nodes)?;
+    let texts = node_list(alloc, version, items.as_slice())?;
     let marks = marks_of(alloc, version, json)?;
     let top = text_or(alloc, json, "topNode", Field::TopNode, "doc")?;
     let nodes = contents(alloc, texts)?;

@@ -1,20 +1,19 @@
 //! The version of a schema, and the kinds of values that an attribute names.
 ghost use Rattle.std.specs.Prelude.{◌≡◌, map, codes, IfOk};
 ghost use Rattle.std.specs.List.{list_all, slice_split};
-ghost use Rattle.serde_json.specs.View.{view};
 ghost use Rattle.pm_schemajson.specs.Answers.{Gives};
 ghost use Rattle.pm_schemajson.specs.Fields.{field as field_of};
 ghost use Rattle.pm_schemajson.specs.Versions.{version_of as version_from, is_bar, is_kind as kind_of, is_among as among, kinds_in as kinds_from, validate_of as validate_from};
 
 use crate::error::{Field, SchemaReadError};
 use crate::fields::field;
+use pm_json::JsonRef;
 use pm_value::Kinds;
-use serde_json::Value;
 use std::alloc::{AllocError, Global};
 
 /// The field `version`, 1 where it is absent.
-pub(crate) fn version_of(json: &Value) -> Result<u32, SchemaReadError>
-    ensures { Gives (λ v. v) result (version_from (field_of (codes "version") (view json.now))) }
+pub(crate) fn version_of<'a, J: JsonRef<'a>>(json: J) -> Result<u32, SchemaReadError>
+    ensures { Gives (λ v. v) result (version_from (field_of (codes "version") (J.seen json))) }
 {
     match field(json, "version") {
         None => Ok(1),
@@ -86,12 +85,12 @@ fn kinds_in(alloc: Global, text: &str) -> Result<Option<Kinds>, AllocError>
 }
 
 /// The field `validate` of an attribute's entry, at which version 1 does not look.
-pub(crate) fn validate_of(
+pub(crate) fn validate_of<'a, J: JsonRef<'a>>(
     alloc: Global,
     version: u32,
-    json: &Value,
+    json: J,
 ) -> Result<Option<Kinds>, SchemaReadError>
-    ensures { Gives (λ k. k) result (validate_from version (field_of (codes "validate") (view json.now))) }
+    ensures { Gives (λ k. k) result (validate_from version (field_of (codes "validate") (J.seen json))) }
 {
     if version == 1 {
         return Ok(None);

@@ -1,9 +1,10 @@
-use Rattle.std.proofs.Common.{◌≡◌, drop}
-use Rattle.serde_json.specs.View.{items_view}
+use Rattle.std.proofs.Common.{◌≡◌, drop, map}
+use Rattle.serde_json.specs.View.{items_of}
 use Rattle.pm_list.specs.Readings.{with_front}
 use Rattle.pm_schemajson.specs.Reading.{mark_list}
 use Rattle.pm_schemajson.specs.Views.{mark_types}
 use Rattle.pm_schemajson.proofs.marks.mark_list.Given as goal
 
 abbrev pub invariant-loop-item : goal.invariant-loop-item
-invariant-loop-item l = with_front (mark_types l.marks) (mark_list l.version (items_view (drop l.item-index l.items))) ≡ mark_list l.version (items_view l.items)
+invariant-loop-item g l =
+    with_front (mark_types l.marks) (mark_list l.version (items_of (map g.J.JsonRef.seen (drop l.item-index l.items)))) ≡ mark_list l.version (items_of (map g.J.JsonRef.seen l.items))
