@@ -48,15 +48,16 @@ doc-of-node s bytes o n r writes is h =
     let w = subst (λ p. IfSome p (WritesNode s bytes)) is writes in
     subst (λ v. Finds (OfValue (DocIs s) v) r) (sym w.1) (from-node s w.0 n r w.2 h)
 
-line-read : (bytes : List ℕ) (d : Data) → (MAX_LINE < length bytes → ⊥) → IsUtf8 bytes → read bytes ≡ Some d → json_line bytes ≡ Ok d
+-- what the text of a line that is short enough writes is the line's value
+pub line-read : (bytes text : List ℕ) → (MAX_LINE < length bytes → ⊥) → IsUtf8 bytes → text ≡ bytes → (d : Data) → read text ≡ Some d → json_line bytes ≡ Ok d
 unfolding json_line
-line-read bytes d short utf e =
+line-read bytes text short utf same d e =
     let fits : nat_lt MAX_LINE (length bytes) ≡ false = grind (arith, nat_tests) in
-    rw fits (ap (or_fault NotJson) (json_of-some bytes d utf e))
+    rw fits (ap (or_fault NotJson) (json_of-some bytes d utf (ap read (sym same) ∙ e)))
 
--- what a text writes, the line writes whose bytes it has
-pub writes-line : (s : Schema) (bytes text : List ℕ) (r : Result (Option Node) AllocError) → (MAX_LINE < length bytes → ⊥) → IsUtf8 bytes → text ≡ bytes
+-- the node of a line's text
+pub writes-line : (s : Schema) (bytes text : List ℕ) (r : Result (Option Node) AllocError) → ((d : Data) → read text ≡ Some d → json_line bytes ≡ Ok d)
     → IfOk r (λ o. IfSome o (Writes s.spec text)) → IfOk r (λ o. IfSome o (WritesNode s bytes))
-writes-line s bytes text (Ok (Some n)) short utf same w = (w.0, line-read bytes w.0 short utf (ap read (sym same) ∙ w.1), w.2)
-writes-line s bytes text (Ok None) short utf same w = tt
-writes-line s bytes text (Err e) short utf same w = tt
+writes-line s bytes text (Ok (Some n)) line w = (w.0, line w.0 w.1, w.2)
+writes-line s bytes text (Ok None) line w = tt
+writes-line s bytes text (Err e) line w = tt

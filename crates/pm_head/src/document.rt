@@ -9,7 +9,7 @@ ghost use Rattle.pm_head.specs.Documents.{FilledTop, TopNode, DocFrom, DocIs, Do
 use crate::code::Code;
 use crate::codes::{fill_code, node_code};
 use crate::fault::LineError;
-use crate::lines::{MAX_LINE, json_line};
+use crate::lines::{json_line, line_text};
 use pm_auto::TypeId;
 use pm_docjson::read_node;
 use pm_doctree::node_in;
@@ -17,7 +17,6 @@ use pm_node::{CheckError, Document, Node, make_filled};
 use pm_schema::Schema;
 use serde_json::Value;
 use std::alloc::{AllocError, Global};
-use std::str;
 
 /// The first document: the one that line 2 writes, or the top type filled where it is null. An error says the code of its
 /// first fault, or that there was no memory.
@@ -36,12 +35,9 @@ pub fn doc_line(alloc: Global, schema: &Schema, line: &[u8]) -> Result<Document,
 fn node_at_once(alloc: Global, schema: &Schema, line: &[u8]) -> Result<Option<Node>, AllocError>
     ensures { IfOk result (λ o. IfSome o (WritesNode schema.now line.now)) }
 {
-    if line.len() > MAX_LINE {
-        return Ok(None);
-    }
-    match str::from_utf8(line) {
-        Ok(text) => node_in(alloc, schema, text),
-        Err(_) => Ok(None),
+    match line_text(line) {
+        Some(text) => node_in(alloc, schema, text),
+        None => Ok(None),
     }
 }
 

@@ -1,5 +1,7 @@
 //! The lines of an input, and the JSON value of a line.
-ghost use Rattle.std.specs.Prelude.{◌≡◌, ◌<◌, [], ◌∷◌, ◌==◌, length, position, option_map, MatchOption, IfOk};
+ghost use Rattle.std.specs.Prelude.{◌≡◌, ◌<◌, [], ◌∷◌, ◌==◌, length, position, option_map, MatchOption, IfOk, IfSome, Some, Ok};
+ghost use Rattle.serde_json.specs.Data.{Data};
+ghost use Rattle.serde_json.specs.Read.{read};
 ghost use Rattle.serde_json.specs.View.{view};
 ghost use Rattle.pm_head.specs.Answers.{Gives};
 ghost use Rattle.pm_head.specs.Lines.{lines_of, json_of, json_line};
@@ -8,9 +10,10 @@ use crate::code::Code;
 use crate::fault::LineError;
 use serde_json::Value;
 use std::alloc::{AllocError, Global};
+use std::str;
 
 /// The greatest number of bytes of a line, its LF not counted.
-pub(crate) const MAX_LINE: usize = 1_048_576;
+const MAX_LINE: usize = 1_048_576;
 
 const LF: u8 = b'\n';
 
@@ -60,5 +63,18 @@ pub fn json_line(alloc: Global, line: &[u8]) -> Result<Value, LineError>
     match json_of(alloc, line)? {
         Some(value) => Ok(value),
         None => Err(LineError::Code(Code::NotJson)),
+    }
+}
+
+/// The text of a line that is short enough and UTF-8. A value that the text writes is the line's.
+pub(crate) fn line_text(line: &[u8]) -> Option<&str>
+    ensures { IfSome result (λ t. (d : Data) → read t.now ≡ Some d → json_line line.now ≡ Ok d) }
+{
+    if line.len() > MAX_LINE {
+        return None;
+    }
+    match str::from_utf8(line) {
+        Ok(text) => Some(text),
+        Err(_) => None,
     }
 }
