@@ -1,4 +1,14 @@
-//! Steps as changes of documents, a file for each kind: what a step makes of a document, and the steps that take it back.
+//! Steps as changes of documents, a file for each kind: what a step makes of a document, and the steps that take it
+//! back. ProseMirror: `Step.apply`, `Step.invert`.
+//!
+//! The main type is `DocChange`, with `apply`, `inverse`, `step_map` and `carry`.
+//!
+//! Proved: `apply` answers the outcome of the step, for all eight kinds and with the reasons in order. `inverse`
+//! answers the steps that take it back: for a mark step its opposite where that restores, else those of its runs.
+//! `DocChange` keeps every law of a change. The inverse of an `attr` or `docAttr` step always applies right after it,
+//! and so do those of both replaces (pm_replace).
+//!
+//! Tests are in tests_replacing.
 #![tactic(auto)]
 
 mod apply;

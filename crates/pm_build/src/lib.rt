@@ -1,4 +1,12 @@
-//! Contents built from left to right, out of whole nodes and of parts of other contents, and what stands at a position.
+//! Contents built from left to right, out of whole nodes and of parts of other contents, and what is at a position.
+//!
+//! The main calls are `Builder::open`, `push`, `feed`, `close` and `finish`.
+//!
+//! Proved: a builder holds the tokens that it was given. `feed` appends the tokens from..to of a content, each close
+//! with its owner, and is refused exactly where a close meets no open node of a compatible type. `OpenTypes::cross`
+//! answers the same without building. `depth_at`, `unit_at` and `parts_pair` answer what is at a position.
+//!
+//! Not proved: that whole nodes are shared and not copied. Tests are in tests_places.
 #![tactic(auto)]
 
 mod builder;

@@ -1,4 +1,15 @@
-//! A client of the authority: what the authority has of it, what is pending, and what it shows.
+//! A client of the authority: what the authority has of it, what is pending, and what it shows. ProseMirror:
+//! prosemirror-collab; `compose` is sendableSteps, `take` is receiveTransaction, the rebase is rebaseSteps.
+//!
+//! The main calls are `edit`, `compose`, `take`, `undo`, `redo` and `undo_event` of `Client`.
+//!
+//! Proved: each call is a function of the client's record. `take` reports Stale, Confirmed, Rebased or Refused exactly
+//! by their causes. In a rebase the pending steps are carried over the maps back, the others' maps and the kept steps'
+//! maps, paired. An undo is the same as over the client's whole timeline, and with nothing changed since gives the
+//! document before the event, under loose rules or where the stored inverses apply. A cursor with side `After` stays
+//! before its token, where no step on the way has ranges that touch.
+//!
+//! Not promised: that a dropped step could not have been kept by another rule. Tests are in tests_clients.
 #![tactic(auto)]
 
 pub mod answers;

@@ -1,4 +1,13 @@
-//! The edits of an editor: each gives one step, or tells why there is none.
+//! The edits of an editor: each gives one step, or reports why there is none. ProseMirror: the methods of `Transform`.
+//!
+//! The main call is `edit_for`, over the ops of pm_ops. Each of the thirteen edits is a call of its own too:
+//! `insert_text`, `paste`, `split`, `lift`, `wrap`, `add_mark` and so on. `steps_for` has the same step as a list.
+//!
+//! Proved: each edit answers exactly the step that the definition of edits gives, or the first of `Range`, `NotThere`,
+//! `NoFit`. The document that comes with a step is what the step makes of the one that was lent.
+//!
+//! Not promised: that a step without a document applies. Tests are sessions of tests/, with steps that were worked out
+//! by hand.
 #![tactic(auto)]
 
 mod attributes;

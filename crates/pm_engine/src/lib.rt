@@ -1,7 +1,7 @@
 //! The front door: what an editor's server or a review tool calls, from one crate.
 //!
-//! Each item stands in a crate of its own, with its contract; this crate names them again, and adds `standing`, the calls
-//! of a client whose authority is in the same program. A position counts tokens: one for each open, each close, each leaf
+//! Each item has a crate of its own, with its contract; this crate names them again, and adds `standing`, the calls of
+//! a client whose authority is in the same program. A position counts tokens: one for each open, each close, each leaf
 //! and each UTF-16 unit of text. What allocates is lent an allocator. The shortest example:
 //!
 //! ```text
@@ -11,6 +11,11 @@
 //! let step = read_step(alloc, &schema, &Json::from_str(alloc, step_text)?)?;
 //! let after = DocChange::new(alloc, step)?.apply(alloc, &schema, &before);
 //! ```
+//!
+//! Proved: `standing::edit` and `standing::undo` make what `Client::edit` and `Client::undo` make, and the client goes
+//! on standing to the authority's log. `standing::exchange` presents the client's message and lets it take the answer.
+//!
+//! Whole callers are in tests_engine and in docs/embed/LIBRARY.md.
 #![tactic(auto)]
 
 pub mod standing;

@@ -1,4 +1,13 @@
 //! A session made from a number: its bytes, and the summary of what came of it.
+//!
+//! The main calls are `generate`, `summary` and `asked_of`.
+//!
+//! Proved: `generate` gives exactly the text that two counts and a number make (`generated`), `summary` exactly the
+//! five lines, and `asked_of` reads the three words, one to twenty digits each and within the limits. That the text is
+//! a session is the law of pm_gen_laws.
+//!
+//! Its tests compare two sessions with those that a program of its own made: one of two clients, and one of 10,000
+//! lines.
 #![tactic(auto)]
 
 mod asking;

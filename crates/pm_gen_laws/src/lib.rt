@@ -1,4 +1,7 @@
-//! The law that a generated session is a session.
+//! The law that a generated session is a session: `generated_is_session`.
+//!
+//! Proved: within the limits of pm_gen, whatever the number, the file is a session, and no line of it is refused, so
+//! `read_session` answers the session or out of memory. No code but the law.
 #![tactic(auto)]
 
 ghost use Rattle.pm_gen.specs.Bounds.{InBounds};

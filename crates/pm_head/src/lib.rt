@@ -1,5 +1,13 @@
-//! The first three lines of a session file: the schema, the first document and the clients. And the line that lists the rooms of a
-//! file of many.
+//! The first three lines of a session file: the schema, the first document and the clients. And the line that lists the
+//! rooms of a file of many.
+//!
+//! The main calls are `read_head` and `rooms_line`; `schema_line`, `doc_line` and `json_line` read one line each.
+//!
+//! Proved: the three lines are this schema, this document and these clients, or the least faulty of them has this code.
+//! The document is valid, and the lines after the three are given back. A head and a fault exclude each other, and two
+//! heads of one text have equal types, documents and clients (`head_means_one`).
+//!
+//! Not proved: that every text is one or the other. Tests are in tests_nodes.
 #![tactic(auto)]
 
 mod clients;

@@ -1,4 +1,13 @@
-//! JSON values in whichever form they were read: as values of `serde_json`, or as trees of `json`, which borrow their text.
+//! What a reader asks of a JSON value, in whichever form it is held: as a value of `serde_json`, or as a tree of
+//! `json`, which borrows its text.
+//!
+//! The trait is `JsonRef`. `tree_in` reads a text as a tree.
+//!
+//! Proved: each call of `JsonRef` answers what the value is that serde_json's reading of the text gives: the value
+//! under a key (of a key that comes twice, the last one), the items of an array, the keys of an object in byte order. A
+//! tree that `tree_in` answers is the one that the text writes.
+//!
+//! Not proved: that each JSON text is read as a tree. Tests are in tests_schemas.
 #![tactic(auto)]
 
 mod any;

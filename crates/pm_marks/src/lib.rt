@@ -1,4 +1,11 @@
-//! Marks and sets of marks, over any attributes that can be compared and copied.
+//! Marks and sets of marks, over any attributes that can be compared and copied. ProseMirror: `Mark`, `Mark.addToSet`,
+//! `Mark.removeFromSet`.
+//!
+//! The main calls are `MarkSet::add`, `remove` and `has`.
+//!
+//! Proved: `add` is the manual's rule over lists, adding twice is adding once, and a set stays a set. In a set no two
+//! marks exclude each other and none comes before one of lower rank. `NotASet` comes exactly where adding one by one
+//! does not give the list back. Tests are in tests_values.
 #![tactic(auto)]
 
 mod fault;

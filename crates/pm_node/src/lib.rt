@@ -1,4 +1,15 @@
-//! Documents as trees, which contracts see as lists of tokens.
+//! Documents as trees, which contracts see as lists of tokens. ProseMirror: `Node`, `Fragment`, `Node.check`,
+//! `createAndFill`.
+//!
+//! The main calls are `Document::new`, `Document::check`, `Children::find` and `make_filled`.
+//!
+//! Proved: a tree is its token list in normal form. `check` answers the first fault, and Ok only for a valid document.
+//! `find` answers how many children end at or before a position, and `find_counted` the same in a bounded number of
+//! steps. `make_filled` gives the node that is filled by the shortest list of types, filled in turn, and is refused
+//! exactly by its causes. `stays_valid_around` answers true only where a change leaves no new fault.
+//!
+//! Not proved: which chunks two documents share, and when `stays_valid_around` answers false. Out of memory may come in
+//! place of any answer. Tests are in tests_nodes and tests_places.
 #![tactic(auto)]
 
 mod around;

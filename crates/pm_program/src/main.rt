@@ -1,4 +1,9 @@
 //! Plays a session of ProseMirror documents that is read from standard input, and writes its report.
+//!
+//! `main` calls `run` of pm_call and ends with the number of its status.
+//!
+//! Proved: nothing but that `main` is safe and, where the top call returns, ends. That the program ends with the number
+//! is in no clause. The tests of pm_call, pm_session, pm_script and pm_report are here, as rows of sessions.
 #![tactic(auto)]
 
 #[cfg(test)]

@@ -1,4 +1,12 @@
-//! Replacing a range of a document by a slice.
+//! Replacing a range of a document by a slice. ProseMirror: `Node.replace`.
+//!
+//! The main call is `replace`.
+//!
+//! Proved: it answers the spliced document, or the first reason in the order Range, Depth, Pair, Join, Large, Deep,
+//! Content, NotInSchema. Laws in src/laws.rt: the result keeps what was before and after the range, it is valid, a
+//! replace by the cut of the same range gives the document back, and what was cut out can be put back.
+//!
+//! Not proved: how much of the document is looked at again. Tests are in tests_replacing.
 #![tactic(auto)]
 
 mod checking;

@@ -1,4 +1,14 @@
-//! Schemas: the types of nodes and marks, what may stand in what, and which attributes they have.
+//! Schemas: the types of nodes and marks, what may stand in what, and which attributes they have. ProseMirror:
+//! `Schema`, `NodeType`, `MarkType`.
+//!
+//! The main calls are `Schema::build`, `attrs_for` and the look-ups of types.
+//!
+//! Proved: each refusal of `build` has its cause, in order. A schema that `build` answers has well named types, the
+//! automata of their expressions, the least table of generatable types, and no type with a dead end. `attrs_for`
+//! answers the given attributes or the defaults, or the first fault. Each look-up is exact. The test of content that
+//! definitions use decides the expression's language (`content_decides`).
+//!
+//! A `Schema` made by hand in another way than by `build` carries none of this. Tests are in tests_schemas.
 #![tactic(auto)]
 
 mod attrs;

@@ -1,4 +1,14 @@
 //! Session files: a schema, a first document, clients, and what the clients do, line by line.
+//!
+//! The main calls are `read_session`, `read_late` and `read_rooms`.
+//!
+//! Proved: what is answered is the session that the input is, or its least faulty line with its code (`SessionIs`). A
+//! session and a refusal exclude each other, the refusal is one, and two sessions of one input have equal types,
+//! documents, clients and op lines (`input_means_one`). Of a file of many rooms each room is the session of its own
+//! lines.
+//!
+//! Not proved: that every input is a session or a refusal; out of memory may come for any. Tests are in pm_program and
+//! in the sessions of tests/.
 #![tactic(auto)]
 
 mod acts;

@@ -1,4 +1,13 @@
-//! A session: an authority, the members at it, and the lines that they play there.
+//! A session: an authority, the members at it (editors and raw clients), and the lines that they play there.
+//!
+//! The main calls are `Room::play_all` and `Room::settle`; `act` is one line of a member at any host.
+//!
+//! Proved: outcomes and room are the events of specs/Events and specs/Sessions. A room stays sound whatever raw clients
+//! forge. No two entries of the log have one name, and no message of an editor is refused for a step. A settled room
+//! has every editor at the authority's document. An undo with nothing changed since gives the document before the
+//! event. Out of memory leaves whole lines done, and of the next its first parts.
+//!
+//! Tests are in pm_program and in the sessions of tests/.
 #![tactic(auto)]
 
 mod acting;

@@ -1,5 +1,6 @@
-//! A small document: a list of numbers, where one may be put in or taken out. It keeps all laws of a change, and the crates
-//! that know nothing of documents are tested over it.
+//! A small document: a list of numbers, where one may be put in or taken out. It keeps all laws of a change.
+//!
+//! The tests of pm_history are here, as rows of undo and of events.
 #![tactic(auto)]
 
 ghost use Rattle.std.specs.Prelude.{◌≡◌, IfOk, ◌++◌, insert, remove, length, ◌≤◌, ◌<◌};

@@ -1,4 +1,14 @@
-//! Steps as JSON values, a file for each kind: how it is read, and how it is written.
+//! Steps as JSON values, a file for each kind: how it is read, and how it is written. ProseMirror: `Step.toJSON`,
+//! `Step.fromJSON`.
+//!
+//! The main calls are `read_step`, `write_step` and `step_text`.
+//!
+//! Proved: a JSON value is this step or its first fault, `stepType` first and then the fields of the kind in order.
+//! Every step is written, and where it can be stored it is read back as the same step. Under a schema whose defaults
+//! nest at most four levels deep, each step that is read can be stored, and so can each step that applies to a valid
+//! document.
+//!
+//! Tests are in tests_json.
 #![tactic(auto)]
 
 mod around;

@@ -1,4 +1,12 @@
 //! Values of attributes, and their JSON.
+//!
+//! The main calls are `Value::from_json` and `Value::to_json`.
+//!
+//! Proved: `from_json` answers the value, at most four levels deep and with names in byte order, or the first fault
+//! depth first. `to_json` writes it, and what was written is read back as the same value. `==` is equality. `Kinds`
+//! answers whether a value is of a kind that a schema names.
+//!
+//! Only tested (tests_values): that of repeated names the last value stays.
 #![tactic(auto)]
 
 mod copying;

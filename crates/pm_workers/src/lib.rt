@@ -1,4 +1,13 @@
 //! A session whose clients run on threads of their own, at one desk: `play_on_threads` plays it whole.
+//!
+//! `run_lines` plays the lines of each client, `merge` gives the order that a history of calls makes, and `open_desk`
+//! and `close_room` begin and end it.
+//!
+//! Proved, where it returns: there is an order in which each line stands once and each client's lines in theirs;
+//! outcomes and room are those of the session on one thread in that order; the order is what the calls of its own
+//! presenting lines make of the clients' lines (`IsOrderly`). Which order comes, no clause says.
+//!
+//! Tests are in tests_rooms and in pm_program.
 #![tactic(auto)]
 
 mod apart;

@@ -1,4 +1,4 @@
-//! Tests of the authority, of its clients and of the versions of its log.
+//! Tests of the authority, of its clients and of the versions of its log: pm_authority, pm_client and pm_versions.
 #![tactic(auto)]
 
 #[cfg(test)]

@@ -1,5 +1,8 @@
-//! Tests of cutting, replacing, fitting and applying, of steps that are carried and steps that are taken back, on documents that are
-//! written as short texts. Each is a row of a table, and what it wants was worked out by hand from the rules.
+//! Tests of cutting, viewing, replacing, fitting and applying, of steps that are carried and steps that are taken back:
+//! pm_slice, pm_view, pm_replace, pm_fit, pm_step and pm_apply.
+//!
+//! Documents are written as short texts. Each test is a row of a table, and what it wants was worked out by hand from
+//! the rules.
 #![tactic(auto)]
 
 #[cfg(test)]

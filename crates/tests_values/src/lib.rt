@@ -1,4 +1,4 @@
-//! Tests of values, marks, maps, and bytes in and out.
+//! Tests of values, marks, maps, and bytes in and out: pm_value, pm_marks, pm_map and pm_io.
 #![tactic(auto)]
 
 #[cfg(test)]
