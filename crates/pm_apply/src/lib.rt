@@ -7,8 +7,6 @@
 //! answers the steps that take it back: for a mark step its opposite where that restores, else those of its runs.
 //! `DocChange` keeps every law of a change. The inverse of an `attr` or `docAttr` step always applies right after it,
 //! and so do those of both replaces (pm_replace).
-//!
-//! Tests are in tests_replacing.
 #![tactic(auto)]
 
 mod apply;

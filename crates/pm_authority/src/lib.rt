@@ -6,8 +6,6 @@
 //! Proved: `WrongVersion` comes exactly where the message's version is not the log's length, `StepRefused` exactly at
 //! the first step that does not apply, else `Accepted`. Accepted appends exactly the message's steps; any other answer
 //! changes nothing. The document is always the first one after the log. It is a `Machine` too, for a desk of threads.
-//!
-//! Tests are in tests_clients.
 #![tactic(auto)]
 
 pub mod authority;

@@ -7,8 +7,8 @@
 //! first in the order of edges. `finishing` marks exactly the states from which a valid end can be reached by the given
 //! types.
 //!
-//! Not proved: that the work for a state does not grow with the number of types. Tests are in tests_content, beside a
-//! plain search of all lists up to length 4. What a state means by the places of the expression is in pm_places.
+//! Not proved: that the work for a state does not grow with the number of types. What a state means by the places of
+//! the expression is in pm_places.
 #![tactic(auto)]
 
 pub mod auto;

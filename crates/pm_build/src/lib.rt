@@ -6,7 +6,7 @@
 //! with its owner, and is refused exactly where a close meets no open node of a compatible type. `OpenTypes::cross`
 //! answers the same without building. `depth_at`, `unit_at` and `parts_pair` answer what is at a position.
 //!
-//! Not proved: that whole nodes are shared and not copied. Tests are in tests_places.
+//! Not proved: that whole nodes are shared and not copied.
 #![tactic(auto)]
 
 mod builder;

@@ -9,7 +9,7 @@
 //! document before the event, under loose rules or where the stored inverses apply. A cursor with side `After` stays
 //! before its token, where no step on the way has ranges that touch.
 //!
-//! Not promised: that a dropped step could not have been kept by another rule. Tests are in tests_clients.
+//! Not promised: that a dropped step could not have been kept by another rule.
 #![tactic(auto)]
 
 pub mod answers;

@@ -7,8 +7,7 @@
 //! which has the calls of the first and each joined seat and no others. Out of memory gives the request back, and the
 //! call is in no history.
 //!
-//! Each holds where the call returns: nothing is claimed of waiting, progress, fairness or who comes first. Tests are
-//! in this crate and in tests_engine.
+//! Each holds where the call returns: nothing is claimed of waiting, progress, fairness or who comes first.
 #![tactic(auto)]
 
 pub mod desk;

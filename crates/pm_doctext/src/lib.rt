@@ -5,7 +5,7 @@
 //! Proved: what it appends is the compact text of the document's JSON value, the bytes that `document_text` of
 //! pm_docjson gives, and what the text held before stays.
 //!
-//! Not proved: that no node is copied. The reports of pm_program's tests show the texts.
+//! Not proved: that no node is copied.
 #![tactic(auto)]
 
 mod attrs;

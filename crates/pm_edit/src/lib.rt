@@ -6,8 +6,7 @@
 //! Proved: each edit answers exactly the step that the definition of edits gives, or the first of `Range`, `NotThere`,
 //! `NoFit`. The document that comes with a step is what the step makes of the one that was lent.
 //!
-//! Not promised: that a step without a document applies. Tests are sessions of tests/, with steps that were worked out
-//! by hand.
+//! Not promised: that a step without a document applies.
 #![tactic(auto)]
 
 mod attributes;

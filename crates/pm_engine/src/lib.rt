@@ -15,7 +15,7 @@
 //! Proved: `standing::edit` and `standing::undo` make what `Client::edit` and `Client::undo` make, and the client goes
 //! on standing to the authority's log. `standing::exchange` presents the client's message and lets it take the answer.
 //!
-//! Whole callers are in tests_engine and in docs/embed/LIBRARY.md.
+//! Whole callers are in docs/embed/LIBRARY.md.
 #![tactic(auto)]
 
 pub mod standing;

@@ -3,8 +3,7 @@
 //! Proved: `parse` answers the reading that the grammar gives, which is the only one, or the first fault from the left.
 //! `Deep` comes exactly at the first token by which an item has more than 500 levels.
 //!
-//! Out of memory may come in place of any answer. Tests are in tests_content: the guide's expressions, 27 faults, and
-//! 10,000 nested brackets.
+//! Out of memory may come in place of any answer.
 #![tactic(auto)]
 
 pub mod error;

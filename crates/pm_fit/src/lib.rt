@@ -7,7 +7,7 @@
 //! None exactly where there is none. The candidates are listed by a definition, in the order of the rule. The wrapping
 //! is the shortest list of types, and of the shortest the first in the order of edges (`wrapping_is_least`).
 //!
-//! The rule is not ProseMirror's in every case. Tests are in tests_replacing.
+//! The rule is not ProseMirror's in every case.
 #![tactic(auto)]
 
 mod closing;

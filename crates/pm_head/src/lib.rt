@@ -7,7 +7,7 @@
 //! The document is valid, and the lines after the three are given back. A head and a fault exclude each other, and two
 //! heads of one text have equal types, documents and clients (`head_means_one`).
 //!
-//! Not proved: that every text is one or the other. Tests are in tests_nodes.
+//! Not proved: that every text is one or the other.
 #![tactic(auto)]
 
 mod clients;

@@ -12,7 +12,7 @@
 //! stored inverses apply (`restores`). Events are joined by number, dropped and undone exactly, and a trimming drops
 //! nothing that an undo needs (`trimming_keeps`).
 //!
-//! Not proved: how much memory is held, and how long a trimming takes. Tests are in pm_sheet.
+//! Not proved: how much memory is held, and how long a trimming takes.
 #![tactic(auto)]
 
 mod branch;

@@ -7,8 +7,7 @@
 //! that rose in the call, and it takes at most one byte more than its limit. `write_all` writes all, or a front and
 //! reports a fault that rose. The sources and sinks in memory fail exactly at the calls that were listed for them.
 //!
-//! Not proved: that standard input and output pass the real bytes, and that a write is flushed. Tests are in
-//! tests_values.
+//! Not proved: that standard input and output pass the real bytes, and that a write is flushed.
 #![tactic(auto)]
 
 mod front;

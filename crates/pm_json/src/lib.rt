@@ -7,7 +7,7 @@
 //! under a key (of a key that comes twice, the last one), the items of an array, the keys of an object in byte order. A
 //! tree that `tree_in` answers is the one that the text writes.
 //!
-//! Not proved: that each JSON text is read as a tree. Tests are in tests_schemas.
+//! Not proved: that each JSON text is read as a tree.
 #![tactic(auto)]
 
 mod any;

@@ -3,8 +3,7 @@
 //! The one call is `is_loose`.
 //!
 //! Proved: it answers true only for loose schemas, and false only where in some automaton a further text after a text
-//! leads elsewhere or nowhere. Not proved: that it answers true for each loose schema. Tests are in tests_schemas: the
-//! schema of the examples and ProseMirror's basic schema are loose.
+//! leads elsewhere or nowhere. Not proved: that it answers true for each loose schema.
 #![tactic(auto)]
 
 mod loose;

@@ -6,8 +6,6 @@
 //! Proved: `map` sends a position where the first range that holds it decides, with all four flags and the recover
 //! value, and a mapping does so over its maps and mirrors. Laws in src/laws.rt: a map inverts twice to itself and keeps
 //! the order of positions, a position outside comes back, a map and its mirror move nothing but `after` at a start.
-//!
-//! Tests are in tests_values: ProseMirror's own cases of mapping.
 #![tactic(auto)]
 
 pub mod laws;

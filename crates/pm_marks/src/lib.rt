@@ -5,7 +5,7 @@
 //!
 //! Proved: `add` is the manual's rule over lists, adding twice is adding once, and a set stays a set. In a set no two
 //! marks exclude each other and none comes before one of lower rank. `NotASet` comes exactly where adding one by one
-//! does not give the list back. Tests are in tests_values.
+//! does not give the list back.
 #![tactic(auto)]
 
 mod fault;

@@ -9,7 +9,7 @@
 //! exactly by its causes. `stays_valid_around` answers true only where a change leaves no new fault.
 //!
 //! Not proved: which chunks two documents share, and when `stays_valid_around` answers false. Out of memory may come in
-//! place of any answer. Tests are in tests_nodes and tests_places.
+//! place of any answer.
 #![tactic(auto)]
 
 mod around;

@@ -3,7 +3,7 @@
 //! `main` calls `run` of pm_call and ends with the number of its status.
 //!
 //! Proved: nothing but that `main` is safe and, where the top call returns, ends. That the program ends with the number
-//! is in no clause. The tests of pm_call, pm_session, pm_script and pm_report are here, as rows of sessions.
+//! is in no clause.
 #![tactic(auto)]
 
 #[cfg(test)]

@@ -6,7 +6,7 @@
 //! Content, NotInSchema. Laws in src/laws.rt: the result keeps what was before and after the range, it is valid, a
 //! replace by the cut of the same range gives the document back, and what was cut out can be put back.
 //!
-//! Not proved: how much of the document is looked at again. Tests are in tests_replacing.
+//! Not proved: how much of the document is looked at again.
 #![tactic(auto)]
 
 mod checking;

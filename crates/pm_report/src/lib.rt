@@ -4,8 +4,6 @@
 //!
 //! Proved: the report's bytes, as a function of the numbered outcomes and the room. Each step of the log of an
 //! authority can be written, and its text is read back as this step (the law `log_can_be_written`).
-//!
-//! Tests are in pm_program and in the sessions of tests/.
 #![tactic(auto)]
 
 mod laws;

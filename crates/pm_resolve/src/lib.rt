@@ -6,8 +6,6 @@
 //! Proved: `OutOfRange` comes exactly where the position passes the content. Each answer of a `Place` is read off the
 //! document's tokens by an exact clause. `resolve_counted` answers as `resolve`, and where it answers Ok it takes at
 //! most the sum of the bounds of `find_counted` over the nodes around the position.
-//!
-//! Tests are in tests_places.
 #![tactic(auto)]
 
 mod fault;

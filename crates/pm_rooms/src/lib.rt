@@ -8,7 +8,7 @@
 //! every other room is as before. On threads the same holds of each room as pm_workers says it of one.
 //!
 //! Not proved: anything of the gate but that a host counts the calls that were answered, and that a person plays its
-//! lines in the order of their numbers. Tests are in tests_rooms.
+//! lines in the order of their numbers.
 #![tactic(auto)]
 
 mod ending;

@@ -8,7 +8,7 @@
 //! answers the given attributes or the defaults, or the first fault. Each look-up is exact. The test of content that
 //! definitions use decides the expression's language (`content_decides`).
 //!
-//! A `Schema` made by hand in another way than by `build` carries none of this. Tests are in tests_schemas.
+//! A `Schema` made by hand in another way than by `build` carries none of this.
 #![tactic(auto)]
 
 mod attrs;

@@ -3,8 +3,6 @@
 //! Proved: the schema is the one that the value writes, of which all holds that building promises, or the fault is its
 //! first one: fields in order, then expressions, then building. Each default nests at most four levels deep, which
 //! pm_docjson, pm_slicejson and pm_stepjson ask of a schema.
-//!
-//! Tests are in tests_schemas: 102 faulty schemas, and that ProseMirror's basic schema with lists is accepted.
 #![tactic(auto)]
 
 mod attrs;

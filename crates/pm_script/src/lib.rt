@@ -7,8 +7,7 @@
 //! documents, clients and op lines (`input_means_one`). Of a file of many rooms each room is the session of its own
 //! lines.
 //!
-//! Not proved: that every input is a session or a refusal; out of memory may come for any. Tests are in pm_program and
-//! in the sessions of tests/.
+//! Not proved: that every input is a session or a refusal; out of memory may come for any.
 #![tactic(auto)]
 
 mod acts;

@@ -6,8 +6,6 @@
 //! forge. No two entries of the log have one name, and no message of an editor is refused for a step. A settled room
 //! has every editor at the authority's document. An undo with nothing changed since gives the document before the
 //! event. Out of memory leaves whole lines done, and of the next its first parts.
-//!
-//! Tests are in pm_program and in the sessions of tests/.
 #![tactic(auto)]
 
 mod acting;

@@ -8,7 +8,7 @@
 //! which may have appended the first items of the run.
 //!
 //! Not proved: which chunks and parts are shared, how many allocations a call takes, and that no body finds the place
-//! without reading a start. Tests are in tests_places.
+//! without reading a start.
 #![tactic(auto)]
 
 pub mod append;

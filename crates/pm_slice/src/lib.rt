@@ -5,8 +5,6 @@
 //! Proved: `Slice::new` gives the content back exactly where a side is deeper than its first or last nodes, and a slice
 //! of no tokens is the empty one. `cut` is the part from..to, with the nodes open that are around one end and not
 //! around both. `Range` comes exactly where not from <= to <= size.
-//!
-//! Tests are in tests_json and tests_replacing.
 #![tactic(auto)]
 
 mod clipping;

@@ -5,8 +5,6 @@
 //! Proved: a JSON value is this slice or its first fault, in the order content, openStart, openEnd, and last a side
 //! that is deeper than the content. Every slice is written, and where its content can be written it is read back as the
 //! same slice. Under a schema whose defaults nest at most four levels deep, each slice that is read can be written.
-//!
-//! Tests are in tests_json.
 #![tactic(auto)]
 
 pub mod laws;

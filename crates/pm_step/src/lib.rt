@@ -5,8 +5,6 @@
 //!
 //! Proved: the map of a step, and where a mapping carries the step, None exactly where it is lost, as the definitions
 //! of pm_meaning say. A copy is equal. What a step does to a document is in pm_apply.
-//!
-//! Tests are in tests_places and tests_replacing.
 #![tactic(auto)]
 
 mod around;

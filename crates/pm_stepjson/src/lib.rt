@@ -7,8 +7,6 @@
 //! Every step is written, and where it can be stored it is read back as the same step. Under a schema whose defaults
 //! nest at most four levels deep, each step that is read can be stored, and so can each step that applies to a valid
 //! document.
-//!
-//! Tests are in tests_json.
 #![tactic(auto)]
 
 mod around;

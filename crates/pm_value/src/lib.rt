@@ -6,7 +6,7 @@
 //! depth first. `to_json` writes it, and what was written is read back as the same value. `==` is equality. `Kinds`
 //! answers whether a value is of a kind that a schema names.
 //!
-//! Only tested (tests_values): that of repeated names the last value stays.
+//! Only tested: that of repeated names the last value stays.
 #![tactic(auto)]
 
 mod copying;

@@ -8,8 +8,7 @@
 //! Proved: `at` gives the document after the first n steps, in n mod 64 counted steps, and `Past` comes exactly where n
 //! passes the log. A client that came late is as one that was there from the first and pulled instead (`AllAsPulled`).
 //!
-//! Not proved: that nothing is applied but by the counted call. Tests are in tests_clients and in the sessions of
-//! tests/.
+//! Not proved: that nothing is applied but by the counted call.
 #![tactic(auto)]
 
 mod at;

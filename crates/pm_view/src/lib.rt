@@ -6,7 +6,7 @@
 //! and `Range` comes exactly where not from <= to <= size. It takes no memory. `tokens` gives the parts in order: no
 //! text run is empty, and no two neighbouring runs have equal marks. `slice` is the slice that `cut` of pm_slice gives.
 //!
-//! Not proved: that nothing is copied. Tests are in tests_replacing.
+//! Not proved: that nothing is copied.
 #![tactic(auto)]
 
 mod around;

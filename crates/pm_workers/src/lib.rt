@@ -6,8 +6,6 @@
 //! Proved, where it returns: there is an order in which each line stands once and each client's lines in theirs;
 //! outcomes and room are those of the session on one thread in that order; the order is what the calls of its own
 //! presenting lines make of the clients' lines (`IsOrderly`). Which order comes, no clause says.
-//!
-//! Tests are in tests_rooms and in pm_program.
 #![tactic(auto)]
 
 mod apart;
