@@ -1,16 +1,19 @@
 #!/usr/bin/env python3
 """Builds a program where it is not built, and runs it with the given words: pm_live for the word `live`, else pm_program.
+Or builds the C library of pm_c and bindings/c.
 
-Each crate is proved in a room of its own: a copy of the crates that it stands on, under out/ at the top. Commands of
+Each crate is proved in a room of its own: a copy of the crates that it stands on, under out/rooms at the top. Commands of
 rt in one tree would wait for each other, and in rooms they run side by side. What rt makes of a crate comes back to
 the crate's own out/ however its proof ends, so an interrupted build goes on where it stopped.
 """
-import fcntl, os, re, shutil, signal, subprocess, sys, time
+import fcntl, glob, os, re, shutil, signal, subprocess, sys, tempfile, time
 
 TOP = os.path.dirname(os.path.abspath(__file__))
-ROOMS = f"{TOP}/out"
+ROOMS = f"{TOP}/out/rooms"
 # Each program, and how it ends, and what it says, where it is run with no words and no input.
 PROGRAMS = {"pm_program": (2, "^usage: "), "pm_live": (1, r'^\{"fault":2,"line":1\}$')}
+# The static library, whose calls bindings/c gives their names in C.
+LIBRARY = "pm_c"
 PARTS = ("src", "specs", "proofs")
 # The memory, in bytes, that one more check is likely to take.
 EACH = 3_000_000_000
@@ -18,6 +21,10 @@ HELP = """usage: ./pm WORDS < SESSION      builds the program if it is missing o
        ./pm live                 builds the live authority if it is missing or old, and runs it
        ./pm build [live]         builds the one or the other, and tells how far the build is
        ./pm try WORDS < SESSION  runs the words at once, with nothing proved; so does ./pm try live
+       ./pm lib                  builds the C library below out/: lib/libgezhufet.a, lib/libgezhufet.so, include/gezhufet.h
+       ./pm lib --prefix DIR     builds it, and installs it below DIR with a file for pkg-config
+       ./pm wasm                 builds the engine as a WebAssembly module, out/gezhufet.wasm, with Debian's binaryen;
+                                 ./pm try wasm does it with nothing proved. bindings/js is the JavaScript package over it
 
 words
   check       write how many op lines the session has and how large its first document is
@@ -43,13 +50,14 @@ statuses
   4  a write failed; a front of the output was written
   5  no memory; nothing was written
   Of live: 0 all lines were answered, to the end of input; 1 line 1 or 2 is faulty or missing, which the line written
-  last says; 3 and 4 a read or a write failed, behind the answers written; 5 no memory to begin with.
-  70 the program could not be built
+  last says; 3 and 4 a read or a write failed, after the answers written; 5 no memory to begin with.
+  70 the program or the library could not be built
   127 the toolchain is missing
 
-A build proves the crates that the program stands on, as many side by side as there are processors and memory: it
-takes some 25 minutes on four processors the first time. PM_JOBS=N does N at a time. `try` takes about a minute.
-The session file and the report are described in docs/FORMATS.md, the lines of live in docs/LIVE.md, and examples/ has
+A build proves the crates that the program stands on, as many side by side as there are processors and memory. The
+first time that takes half an hour or more on four processors; the bar tells how many minutes are left. PM_JOBS=N
+does N at a time. `try` takes about a minute.
+The session file and the report are described in docs/use/FORMATS.md, the lines of live in docs/use/LIVE.md, and examples/ has
 sessions to try.
 Other options: --help, --version."""
 
@@ -65,7 +73,8 @@ def need_toolchain():
 
 
 def made(program):
-    return f"{TOP}/crates/{program}/out/{program}"
+    file = f"lib{program}.a" if program == LIBRARY else program
+    return f"{TOP}/crates/{program}/out/{file}"
 
 
 def crates_below(program):
@@ -92,8 +101,12 @@ def sources(name):
             yield from (f"{folder}/{it}" for it in files)
 
 
+def is_made(program):
+    return os.access(made(program), os.R_OK if program == LIBRARY else os.X_OK)
+
+
 def is_fresh(program):
-    if not os.access(made(program), os.X_OK):
+    if not is_made(program):
         return False
     files = [f"{TOP}/crates.txt", *(file for name in crates_below(program) for file in sources(name))]
     return max(map(os.path.getmtime, files)) < os.path.getmtime(made(program))
@@ -130,12 +143,41 @@ def leave(name):
     shutil.rmtree(f"{ROOMS}/{name}", ignore_errors=True)
 
 
+def loop_seconds():
+    """The processor seconds that a fixed loop takes here, the least of three runs. It is that of tools/gate-cost."""
+    took = []
+    for _ in range(3):
+        start, number = time.process_time(), 0
+        for it in range(2_000_000):
+            number = (number * 31 + it) % 1_000_003
+        took.append(time.process_time() - start)
+    return min(took)
+
+
+def costs(sizes):
+    """Returns the processor minutes that each crate is likely to take here, by the table of GATE.md and its loop.
+
+    A crate without a row is taken by its size. Without a table each byte of a source counts alike.
+    """
+    text = ""
+    for page in glob.glob(f"{TOP}/docs/**/GATE.md", recursive=True):
+        with open(page, encoding="utf-8") as file:
+            text = file.read()
+    rows = re.findall(r"^\| (\w+) \| ([\d.]+)\*? \|", text, re.M)
+    told = {name: float(minutes) for name, minutes in rows if name in sizes}
+    loop = re.search(r"^The loop takes ([\d.]+) s", text, re.M)
+    speed = loop_seconds() / float(loop[1]) if loop else 1
+    each = sum(told.values()) / sum(sizes[it] for it in told) if told else 1e-4
+    return {it: speed * told.get(it, each * size) for it, size in sizes.items()}
+
+
 class Build:
     def __init__(self, program, below):
         self.program = program
         self.below, self.left, self.done, self.running, self.failed = below, [*below], [], {}, []
-        self.size = {it: sum(map(os.path.getsize, sources(it))) for it in below}
+        self.cost = costs({it: sum(map(os.path.getsize, sources(it))) for it in below})
         self.start, self.lanes = time.time(), self.width()
+        self.begun, self.spent, self.planned = {}, 0, 0
         self.is_bar = sys.stderr.isatty()
 
     def width(self):
@@ -145,38 +187,61 @@ class Build:
             free = 1024 * int(re.search(r"MemAvailable:\s+(\d+)", file.read())[1])
         return int(given) if given.isdigit() else max(min(len(os.sched_getaffinity(0)), free // EACH), 1)
 
-    def chain(self, name):
-        """Returns the work of the longest chain of crates that begins with this one."""
-        above = [self.chain(it) for it in self.left if it != name and name in self.below[it]]
-        return self.size[name] + max(above, default=0)
+    def chains(self):
+        """Returns for each crate that is not done the minutes of the longest chain of crates that begins with it."""
+        found = {}
+        # `below` has the lowest crates first, so that from its end on those above are known.
+        for name in reversed([it for it in self.below if it in self.left or it in self.running]):
+            above = [found[it] for it in found if name in self.below[it]]
+            found[name] = self.cost[name] + max(above, default=0)
+        return found
+
+    def minutes_left(self):
+        """Returns how many minutes the build has to go: as long as the longest chain, or as the work for all its lanes.
+
+        What was planned for the crates that were proved in this build, and what they took, corrects the plan.
+        """
+        done = {it: (time.time() - self.begun[it]) * jobs / 60 for it, (_, _, jobs) in self.running.items()}
+        pace = self.spent / self.planned if self.planned > 5 else 1
+        done = {it: min(took / pace, 0.9 * self.cost[it]) for it, took in done.items()}
+        work = sum(self.cost[it] - done.get(it, 0) for it in [*self.left, *self.running])
+        chain = max((length - done.get(it, 0) for it, length in self.chains().items()), default=0)
+        # The crates of the longest chain have two lanes where there are more.
+        return pace * max(chain / min(2, max(self.lanes - 1, 1)), work / self.lanes)
 
     def begin(self):
         """Starts what can start, first the crates with the longest chain above them. A crate gets the processors that no other waits for."""
         ready = [it for it in self.left if all(dep == it or dep in self.done for dep in self.below[it])]
-        ready.sort(key=self.chain, reverse=True)
+        chains = self.chains()
+        ready.sort(key=chains.get, reverse=True)
         for at, name in enumerate(ready):
             idle = self.lanes - sum(jobs for _, _, jobs in self.running.values())
             if idle < 1 or self.failed:
                 return
             jobs = min(4, max(1, idle // (len(ready) - at)))
             # The longest chain decides when the build ends, so its crate gets two at least.
-            if self.lanes > 2 and all(self.chain(name) >= self.chain(it) for it in self.running):
+            if self.lanes > 2 and all(chains[name] >= chains[it] for it in self.running):
                 jobs = max(jobs, 2)
             inside = enter(name, self.below[name])
-            verb = "run" if name == self.program else "lib"
+            verb = "run" if name in PROGRAMS else "lib"
             log = open(f"{ROOMS}/{name}/log", "w+", encoding="utf-8", errors="replace")
             how = {"cwd": inside, "stdin": subprocess.DEVNULL, "stdout": log, "stderr": log}
             self.left.remove(name)
+            self.begun[name] = time.time()
             self.running[name] = subprocess.Popen(["rt", verb, "--jobs", str(jobs)], **how), log, jobs
 
     def end(self, name):
-        ran, log, _ = self.running.pop(name)
+        ran, log, jobs = self.running.pop(name)
+        took = (time.time() - self.begun[name]) * jobs / 60
+        # What was proved before goes fast, and tells nothing of the pace.
+        if took > self.cost[name] / 10:
+            self.spent, self.planned = self.spent + took, self.planned + self.cost[name]
         log.seek(0)
         said = log.read().replace(f"{ROOMS}/{name}", TOP)
         log.close()
         leave(name)
         status, text = PROGRAMS.get(name, (0, ""))
-        has_run = ran.returncode == status and os.access(made(name), os.X_OK) and re.search(text, said, re.M)
+        has_run = ran.returncode == status and is_made(name) and re.search(text, said, re.M)
         if has_run if name == self.program else ran.returncode == 0:
             self.done.append(name)
             self.show(name)
@@ -194,6 +259,8 @@ class Build:
     def show(self, proved=None):
         done, to_go, took = len(self.done), len(self.left) + len(self.running), int(time.time() - self.start)
         far = f"{done} of {len(self.below)} crates done, {to_go} to go, {took // 60} min {took % 60:02} s"
+        if to_go:
+            far += f", some {max(round(self.minutes_left()), 1)} min left"
         if self.is_bar:
             full = 24 * done // len(self.below)
             wide = shutil.get_terminal_size().columns - 1
@@ -237,7 +304,7 @@ def build(program):
     work = Build(program, below)
     say(f"proving {len(below)} crates, {work.lanes} at a time; what is proved already goes fast")
     if not work.run():
-        say("the program could not be built")
+        say("the library could not be built" if program == LIBRARY else "the program could not be built")
         sys.exit(70)
     os.utime(made(program))
     took = int(time.time() - work.start)
@@ -250,14 +317,68 @@ def chosen(words):
     return ("pm_live", words[1:]) if words[:1] == ["live"] else ("pm_program", words)
 
 
+def run_tool(*words, cwd=None):
+    """Runs a tool of the C compiler's, and ends where it is missing or fails."""
+    if not shutil.which(words[0]):
+        say(f"{words[0]} is missing, which the library is linked with")
+        sys.exit(70)
+    if subprocess.run(words, cwd=cwd, check=False).returncode:
+        say("the library could not be linked")
+        sys.exit(70)
+
+
+def heap():
+    """Returns the toolchain's library by which Rattle's code calls malloc and free."""
+    page = subprocess.run(["rt", "doc"], check=True, capture_output=True, text=True).stdout.strip()
+    return f"{os.path.dirname(page)}/c/liblibc_c.a"
+
+
+def link(prefix):
+    """Links the static library, the C file over it and the heap into the libraries below the prefix."""
+    c, version = f"{TOP}/bindings/c", version_of_tree()
+    lib, include = f"{prefix}/lib", f"{prefix}/include"
+    os.makedirs(f"{lib}/pkgconfig", exist_ok=True)
+    os.makedirs(include, exist_ok=True)
+    shutil.copy(f"{c}/include/gezhufet.h", include)
+    compiler = os.environ.get("CC", "cc")
+    with tempfile.TemporaryDirectory() as room:
+        run_tool(compiler, "-std=c99", "-O2", "-fPIC", "-I", include, "-c", f"{c}/gezhufet.c", "-o", f"{room}/gezhufet.o")
+        for at, archive in enumerate((made(LIBRARY), heap())):
+            os.mkdir(f"{room}/{at}")
+            run_tool("ar", "x", os.path.realpath(archive), cwd=f"{room}/{at}")
+        objects = [f"{folder}/{it}" for folder, _, files in os.walk(room) for it in sorted(files)]
+        static = f"{room}/libgezhufet.a"
+        run_tool("ar", "rcs", static, *objects)
+        shared = f"{room}/libgezhufet.so.{version}"
+        names = f"-Wl,--version-script={c}/gezhufet.map"
+        run_tool(compiler, "-shared", "-Wl,-soname,libgezhufet.so", names, "-o", shared, *objects)
+        shutil.copy(static, lib)
+        shutil.copy(shared, f"{lib}/libgezhufet.so.{version}")
+    with open(f"{c}/gezhufet.pc.in", encoding="utf-8") as file:
+        text = file.read().replace("@PREFIX@", os.path.abspath(prefix)).replace("@VERSION@", version)
+    with open(f"{lib}/pkgconfig/gezhufet.pc", "w", encoding="utf-8") as file:
+        file.write(text)
+    if os.path.lexists(f"{lib}/libgezhufet.so"):
+        os.remove(f"{lib}/libgezhufet.so")
+    os.symlink(f"libgezhufet.so.{version}", f"{lib}/libgezhufet.so")
+    say(f"the library is below {prefix}")
+
+
+def version_of_tree():
+    with open(f"{TOP}/VERSION", encoding="utf-8") as file:
+        return file.read().strip()
+
+
 def main(words):
     if words == ["--help"]:
         print(HELP)
     elif words == ["--version"]:
         need_toolchain()
-        with open(f"{TOP}/VERSION", encoding="utf-8") as file:
-            print(f"gezhufet {file.read().strip()}", flush=True)
+        print(f"gezhufet {version_of_tree()}", flush=True)
         subprocess.run(["rt", "version"], check=False)
+    elif words in (["wasm"], ["try", "wasm"]):
+        need_toolchain()
+        os.execv(f"{TOP}/tools/wasm/build", ["build", *["--try"] * (words[0] == "try")])
     elif words[:1] == ["try"]:
         need_toolchain()
         program, given = chosen(words[1:])
@@ -267,6 +388,11 @@ def main(words):
     elif words in (["build"], ["build", "live"]):
         program, _ = chosen(words[1:])
         say("the program is built") if is_fresh(program) else build(program)
+    elif words[:1] == ["lib"] and (len(words) == 1 or len(words) == 3 and words[1] == "--prefix"):
+        need_toolchain()
+        if not is_fresh(LIBRARY):
+            build(LIBRARY)
+        link(words[2] if len(words) == 3 else f"{TOP}/out")
     else:
         program, given = chosen(words)
         if not is_fresh(program):

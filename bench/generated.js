@@ -1,5 +1,5 @@
 // Times the word `gen`, beside a plain loop that does the same with ProseMirror. The turns are drawn by the same numbers
-// (docs/FORMATS.md). An edit makes its steps by Transform; a pull rebases the pending steps as rebaseSteps of prosemirror-collab
+// (docs/use/FORMATS.md). An edit makes its steps by Transform; a pull rebases the pending steps as rebaseSteps of prosemirror-collab
 // does; a push that is answered in vain pulls; what a lost answer told comes with the next pull. An undo maps the inverses of the
 // client's last event over all that came since, where a step that was rebased is the mirror of its inverse, as in
 // prosemirror-history. Where an edit fits, and what a client drops, the two may differ in single steps: the row tells the lengths

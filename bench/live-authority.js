@@ -1,4 +1,4 @@
-// An authority like the live one (docs/LIVE.md), over ProseMirror's `step.apply`, for bench/live.js: it reads the same lines and
+// An authority like the live one (docs/use/LIVE.md), over ProseMirror's `step.apply`, for bench/live.js: it reads the same lines and
 // writes the same answers. It checks less: what is no line of the protocol ends it.
 // usage: node bench/live-authority.js      as a process; as a module, `new NodeAuthority().answer(line)`
 
@@ -17,7 +17,7 @@ class NodeAuthority {
     this.clientIDs = []
   }
 
-  /// The answer to a line, both as texts; null behind the first one.
+  /// The answer to a line, both as texts; null after the first one.
   answer(text) {
     const line = JSON.parse(text)
     if (!this.schema) return this.openSchema(line)

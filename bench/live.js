@@ -177,7 +177,8 @@ async function measure(tokens, count) {
   const [ours, theirs, inside] = await inTurn(SIDES, words => speed(words, tokens, count))
   if ([ours, theirs, inside].flat().some(({doc}) => doc != ours[0].doc)) throw new Error("the sides differ")
   const note = `in process: ${middle(of(inside, "speed")).toFixed(0)}`
-  row(`${tokens} tokens, ${count} editor${count > 1 ? "s" : ""}, letters a second`, of(ours, "speed"), of(theirs, "speed"), {isSpeed: true, note})
+  const label = `${tokens} tokens, ${count} editor${count > 1 ? "s" : ""}, letters a second`
+  row(label, of(ours, "speed"), of(theirs, "speed"), {isSpeed: true, note})
   row("  the processor's microseconds for a letter", of(ours, "micros"), of(theirs, "micros"))
 }
 

@@ -1,6 +1,6 @@
 // What the benchmarks share: runs of a program, the median of several figures with their spread, and the lines of the table.
-//   RUNS=N                                        how often each side of a row is taken, 7 unless told
-//   PROGRAM, PM_LIVE, PM_BENCH, PM_BENCH_DOCS     other builds than those in crates/NAME/out
+//   RUNS=N               how often each side of a row is taken, 7 unless told
+//   PROGRAM, PM_LIVE     other builds than those in crates/NAME/out
 
 "use strict"
 
@@ -13,8 +13,6 @@ const RUNS = Number(process.env.RUNS || 7)
 const built = (variable, name) => process.env[variable] || path.join(__dirname, "..", "crates", name, "out", name)
 const PROGRAM = built("PROGRAM", "pm_program")
 const LIVE = built("PM_LIVE", "pm_live")
-const BENCH = built("PM_BENCH", "pm_bench")
-const BENCH_DOCS = built("PM_BENCH_DOCS", "pm_bench_docs")
 
 // ---- runs
 
@@ -102,4 +100,4 @@ function row(what, ours, beside = [], {isSpeed = false, note = ""} = {}) {
   console.log(`${what.padEnd(54)}${spread(ours)}   ${others}${ratio.padStart(8)}  ${note}`.trimEnd())
 }
 
-module.exports = {RUNS, PROGRAM, LIVE, BENCH, BENCH_DOCS, fileOf, ensure, timed, run, weighed, play, written, inTurn, middle, title, row}
+module.exports = {RUNS, PROGRAM, LIVE, fileOf, ensure, timed, run, weighed, play, written, inTurn, middle, title, row}

@@ -1,5 +1,5 @@
 // Times the word `replay` on a session in which one client has many pending steps when it takes the steps of another: ann types
-// letters one behind another, bob edits elsewhere and around and pushes, and ann pulls. Ours is a whole run of the program. Beside
+// letters one after another, bob edits elsewhere and around and pushes, and ann pulls. Ours is a whole run of the program. Beside
 // it a plain loop makes the same steps with ProseMirror and rebases them as rebaseSteps of prosemirror-collab does.
 // usage: node bench/rebases.js [PENDING FOREIGN PLACES]..     PLACES: in how many places ann types by turns
 
@@ -14,7 +14,7 @@ const letters = 400
 const types = {nodes: [{name: "doc", content: "paragraph+"}, {name: "paragraph", content: "text*"}, {name: "text"}]}
 const first = {type: "doc", content: [{type: "paragraph", content: [{type: "text", text: "abcdefghij".repeat(letters / 10)}]}]}
 
-// Where ann types letter number i: behind the last letter of its place, which the letters of the places before it push on.
+// Where ann types letter number i: after the last letter of its place, which the letters of the places before it push on.
 function typed(i, places) {
   const place = i % places, round = Math.floor(i / places), at = 1 + Math.floor(place * letters / places) + place * (round + 1) + round
   return {from: at, to: at, text: "x"}

@@ -18,7 +18,7 @@ const count = 2000, run = 20, text = "abcdefghij".repeat(5).slice(0, 44)
 const types = {nodes: [{name: "doc", content: "paragraph+"}, {name: "paragraph", content: "text*"}, {name: "text"}]}
 const first = {type: "doc", content: Array(count).fill({type: "paragraph", content: [{type: "text", text}]})}
 
-// The acts: a client types letters one behind another at an offset of a paragraph, pulls and pushes. A session's lines tell
+// The acts: a client types letters one after another at an offset of a paragraph, pulls and pushes. A session's lines tell
 // positions, so the acts are made by playing them once with ProseMirror.
 function actsOf(lines) {
   const side = new ProseMirror, acts = []

@@ -1,5 +1,5 @@
-// Tells the processor's time of the word `at` on a session whose log has some 100,000 steps, for versions at, before and behind
-// checkpoints (docs/GROWTH.md). Beside them stands the word `late` of the same session, which reads and plays it and writes its
+// Tells the processor's time of the word `at` on a session whose log has some 100,000 steps, for versions at, before and after
+// checkpoints (docs/change/GROWTH.md). Beside them stands the word `late` of the same session, which reads and plays it and writes its
 // report: what `at` takes is reading and playing, and then at most 63 steps, whatever the version. One client puts a letter in and
 // takes it out again, so that the document keeps its size, and pushes at the end.
 // usage: node bench/versions.js [STEPS]      99998 unless told; at most 99,999, an op line for each and one for the push

@@ -1,19 +1,21 @@
-// The live authority as a process: a line in, a line out, in order. docs/LIVE.md describes the lines.
+// The live authority, as a process or in this one (bindings/js): a line in, a line out, in order. docs/use/LIVE.md describes the lines.
 
 "use strict"
 
 const path = require("path")
 const {spawn} = require("child_process")
-const {schemaLine, documentLine} = require("../tools/schema-line")
 
+const ENGINES = ["wasm", "addon"]
 const PROGRAM = [path.join(__dirname, "..", "pm"), "live"]
 
-/// The program and its words: what the variable PM_LIVE has, else `./pm live`, which builds the program where it is not built.
+/// The program and its words: what the variable PM_LIVE has, else `./pm live`, which builds the program where it is not built. The
+/// words `wasm` and `addon` are no programs: they are the engines in this process.
 function command() {
   const given = (process.env.PM_LIVE || "").split(" ").filter(word => word)
   return given.length ? given : PROGRAM
 }
 
+// The process.
 class Authority {
   constructor([program, ...words]) {
     this.process = spawn(program, words, {stdio: ["pipe", "pipe", "inherit"]})
@@ -63,13 +65,46 @@ class Authority {
   }
 }
 
-/// Starts the process on a schema and a first document, or without one on the top type filled. An error where it refuses them.
+// The same calls on an authority in this process.
+class Inside {
+  constructor(authority) {
+    this.authority = authority
+    this.ended = new Promise(resolve => { this.end = resolve })
+  }
+
+  async askLine(line) { return this.authority.tell(line) }
+
+  async ask(message) { return JSON.parse(await this.askLine(JSON.stringify(message))) }
+
+  close() {
+    this.authority.close()
+    this.end(0)
+    return this.ended
+  }
+}
+
+const refusal = ({line, fault}) => new Error(`the authority refused line ${line} with code ${fault}`)
+
+async function startInside(schema, doc, kind) {
+  const {openAuthority} = await import("../bindings/js/src/index.js")
+  try {
+    return new Inside(await openAuthority(schema, doc, {kind}))
+  } catch (error) {
+    throw error.line === undefined ? error : refusal({line: error.line, fault: error.code})
+  }
+}
+
+/// Starts an authority on a schema and a first document, or without one on the top type filled. It is the process that the words
+/// name, or where they are `wasm` or `addon` that engine in this process. An error where it refuses them.
 async function startAuthority(schema, doc = null, words = command()) {
-  const authority = new Authority(words)
+  const [kind] = [words].flat()
+  if (ENGINES.includes(kind)) return startInside(schema, doc, kind)
+  const {schemaLine, documentLine} = await import("../bindings/js/src/lines.js")
+  const authority = new Authority([words].flat())
   // The answer comes behind the second line.
   const opened = authority.askLine(`${schemaLine(schema)}\n${doc ? documentLine(doc) : "null"}`)
   const answer = JSON.parse(await opened)
-  if (answer.fault !== undefined) throw new Error(`the authority refused line ${answer.line} with code ${answer.fault}`)
+  if (answer.fault !== undefined) throw refusal(answer)
   return authority
 }
 

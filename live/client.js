@@ -1,7 +1,7 @@
-// A client of the live authority: an editor (editor.js) whose lines go to the process (authority.js).
+// A client of the live authority: an editor (editor.js) whose lines go to the process, or to an engine in this one (authority.js).
 //
 //   const {startAuthority, join} = require("./live/client")
-//   const authority = await startAuthority(schema, doc)
+//   const authority = await startAuthority(schema, doc)      // or startAuthority(schema, doc, "wasm")
 //   const ann = await join(authority, {schema, clientID: "ann"})
 //   ann.dispatch(ann.state.tr.insertText("Hello ", 1))
 //   await ann.sync()

@@ -93,7 +93,7 @@ function rebase(state, {version, confirmed, from, over, without}) {
     .setMeta("addToHistory", false)
 }
 
-/// A transaction that takes over `steps`, the log's entries behind the state's version, whose clients `clientIDs` tells. Own steps
+/// A transaction that takes over `steps`, the log's entries after the state's version, whose clients `clientIDs` tells. Own steps
 /// at the front confirm as many unconfirmed ones; the others are applied, and what is still unconfirmed is rebased over them.
 function receiveTransaction(state, steps, clientIDs) {
   const {version, unconfirmed} = collabKey.getState(state)
@@ -104,7 +104,7 @@ function receiveTransaction(state, steps, clientIDs) {
   return rebase(state, {version: version + steps.length, confirmed, from: confirmed, over: steps.slice(confirmed), without: null})
 }
 
-/// A transaction without the unconfirmed step of this number, counted from 0. Those behind it are rebased, and those of them that
+/// A transaction without the unconfirmed step of this number, counted from 0. Those after it are rebased, and those of them that
 /// need it go too.
 function dropTransaction(state, index) {
   const {version, unconfirmed} = collabKey.getState(state)

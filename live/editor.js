@@ -56,7 +56,7 @@ class Editor {
     this.onChange(this.state, tr)
   }
 
-  /// What the editor sends next: its unconfirmed steps, or else the question for the log behind its version.
+  /// What the editor sends next: its unconfirmed steps, or else the question for the log after its version.
   compose() {
     const sendable = this.isBehind ? null : sendableSteps(this.state)
     return sendable ? submission(sendable, this.mostSteps) : this.ask()

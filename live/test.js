@@ -1,7 +1,7 @@
 // Drives editors of ProseMirror's own libraries over the live authority. They make random transactions of the basic schema with
 // lists, and undo and redo; messages come late, answers come late, twice or never. At the end each editor has to hold the
 // authority's document, and so has ProseMirror where it applies the log. A step that the authority refuses, and that ProseMirror
-// applied, is counted by its kind, which has to be one that docs/PROSEMIRROR.md names. The last line is `N passed, M failed`.
+// applied, is counted by its kind, which has to be one that docs/embed/PROSEMIRROR.md names. The last line is `N passed, M failed`.
 // usage: node live/test.js [STEPS [SEED]]      until the log has so many steps, 10,000 unless told
 
 "use strict"
@@ -50,9 +50,9 @@ function noteRefusal(step, answer) {
   refusals.set(kind, steps)
 }
 
-// The reasons and codes that docs/PROSEMIRROR.md names: `reason 9`, `reasons 7 and 8`, `code 12`.
+// The reasons and codes that docs/embed/PROSEMIRROR.md names: `reason 9`, `reasons 7 and 8`, `code 12`.
 function namedKinds() {
-  const page = fs.readFileSync(path.join(__dirname, "..", "docs", "PROSEMIRROR.md"), "utf8")
+  const page = fs.readFileSync(path.join(__dirname, "..", "docs", "embed", "PROSEMIRROR.md"), "utf8")
   const named = new Set()
   for (const [, word, numbers] of page.matchAll(/\b(reason|code)s? (\d+(?:(?:,| and) \d+)*)/g))
     for (const number of numbers.match(/\d+/g)) named.add(`${word} ${number}`)
@@ -197,7 +197,7 @@ async function main() {
   const named = namedKinds()
   for (const [kind, steps] of [...refusals].sort()) {
     console.log(`refused for ${kind}: ${Object.entries(steps).map(([name, count]) => `${count} ${name}`).join(", ")}`)
-    judge(named.has(kind), `docs/PROSEMIRROR.md does not name ${kind}`)
+    judge(named.has(kind), `docs/embed/PROSEMIRROR.md does not name ${kind}`)
   }
   console.log(`${version} steps of ${EDITORS} editors, seed ${SEED}; a document of ${doc.content.size} tokens`)
   console.log(JSON.stringify(counts), JSON.stringify(came))

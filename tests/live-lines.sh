@@ -1,5 +1,5 @@
 #!/bin/sh
-# Tests what the live authority writes for lines, and the status with which it ends (docs/LIVE.md).
+# Tests what the live authority writes for lines, and the status with which it ends (docs/use/LIVE.md).
 # The last line is `N passed, M failed`.
 # usage: tests/live-lines.sh PROGRAM
 

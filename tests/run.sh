@@ -1,5 +1,5 @@
 #!/bin/sh
-# Plays the sessions of tests/ and examples/ by the built program, and compares report and status.
+# Plays the sessions of tests/sessions/ and examples/ by the built program, and compares report and status.
 #
 #   tests/run.sh [PROGRAM]
 #
@@ -25,7 +25,7 @@ judge() {
   diff "$4" "$got" | head -n 4 | cut -c 1-160
 }
 
-for session in "$top"/tests/*/*.session "$top"/examples/*.session; do
+for session in "$top"/tests/sessions/*/*.session "$top"/examples/*.session; do
   name=${session%.session}
   words=replay
   [ -f "$name.words" ] && words=$(cat "$name.words")

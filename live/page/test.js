@@ -25,7 +25,7 @@ const pause = milliseconds => new Promise(resolve => setTimeout(resolve, millise
 class User {
   constructor(browser) { this.browser = browser }
 
-  // Puts the cursor behind a text in a pane. What the cursor is in has the focus, as after a click.
+  // Puts the cursor after a text in a pane. What the cursor is in has the focus, as after a click.
   place(pane, text) {
     return this.browser.value(`(() => {
       const {view} = panes[${pane}]

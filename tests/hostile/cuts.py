@@ -3,7 +3,7 @@
 usage: cuts.py [--short]
 
 A session is cut after each of its bytes. A cut inside line N leaves a line that is no JSON: `refused N 5`, but where an
-earlier line has a fault already. A cut behind none, one or two lines: line 1, 2 or 3 is missing. Every other cut is a
+earlier line has a fault already. A cut after none, one or two lines: line 1, 2 or 3 is missing. Every other cut is a
 session with fewer lines, and the same with and without its last line end. WORDS names the words that are tried. With
 --short examples/plan.session alone is cut, and no words are played that make 100,000 lines.
 """
@@ -117,9 +117,9 @@ def tasks():
     for at, (_, _, wants) in enumerate(limits()):
         for word in WORDS:
             # The outcome of a line under `run` is that under `replay` in these inputs. Where no first line is given, the
-            # status of `check` and a report of some kind are wanted.
+            # status of `check`, or 0, and a report of some kind are wanted.
             told = wants.get("replay") if word == "run" else wants.get(word)
-            status, first = wants.get("any") or told or (wants["check"][0], None)
+            status, first = wants.get("any") or told or (wants.get("check", (0,))[0], None)
             yield "limit", at, word, status, first
 
 

@@ -11,16 +11,34 @@ sys.path.insert(0, os.path.dirname(os.path.abspath(__file__)))
 from playing import *
 
 LIBRARY, SHORT = os.path.abspath(sys.argv[1]), "--short" in sys.argv
-# Twenty sessions of tests/ that show each kind of line, steps of each kind, raw clients and refusals.
-CHOSEN = """a-forger-among-editors/04 bytes/no-line-end-at-the-end check/1012 check/1015 codes/001 documents-nest-up-to-a-limit/01
-each-client-undoes-its-own/01 edits/1001 edits/1072 events-are-undone-and-redone/01 faults/1003 late-lost-and-repeated-answers/01
-messages-and-answers-come-late-or-never/01 path/1062 raw-clients-present-what-the-file-writes/01 steps/1000 steps/1062
-texts-and-deletions-of-three-clients-meet/01 whole/1002 whole/1076""".split()
+# Twenty sessions of tests/sessions/ that show each kind of line, steps of each kind, raw clients and refusals.
+CHOSEN = """
+a-forger-among-editors/04
+an-input-is-split-at-line-feeds-and-read-as-utf8/no-line-end-at-the-end
+the-first-three-lines-are-read-and-counted/1012
+the-first-three-lines-are-read-and-counted/1015
+each-fault-has-its-code/001
+documents-nest-up-to-a-limit/01
+each-client-undoes-its-own/01
+edits-under-many-schemas-make-their-steps/1001
+edits-under-many-schemas-make-their-steps/1072
+events-are-undone-and-redone/01
+one-fault-in-a-file-is-told-with-its-line/1003
+late-lost-and-repeated-answers/01
+messages-and-answers-come-late-or-never/01
+one-client-steps-and-pushes-in-a-paragraph/1062
+raw-clients-present-what-the-file-writes/01
+steps-under-many-schemas-apply-or-are-refused/1000
+steps-under-many-schemas-apply-or-are-refused/1062
+texts-and-deletions-of-three-clients-meet/01
+edits-undo-and-redo-of-several-clients-meet/1002
+edits-undo-and-redo-of-several-clients-meet/1076
+""".split()
 
 
 def chosen():
     have = [it for it in sessions() if "/examples/" in it]
-    have += [it for it in (f"{TOP}/tests/{it}.session" for it in CHOSEN)]
+    have += [it for it in (f"{TOP}/tests/sessions/{it}.session" for it in CHOSEN)]
     return [it for it in have if not SHORT or it.endswith(("first.session", "plan.session", "refusals.session", "rooms.session"))]
 
 

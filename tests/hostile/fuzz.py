@@ -1,8 +1,8 @@
-"""Plays session files with random changes, and looks for a run that ends otherwise than docs/FORMATS.md says.
+"""Plays session files with random changes, and looks for a run that ends otherwise than docs/use/FORMATS.md says.
 
 usage: fuzz.py SECONDS [WORD..]
 
-Each input is a session of tests/ or examples/, or one that an earlier change made, with one to six changes of its bytes,
+Each input is a session of tests/sessions/ or examples/, or one that an earlier change made, with one to six changes of its bytes,
 lines or JSON values. Under each word (WORDS, `late` and `at 2` where none is given) it has to end in time with a status of the
 table and an output that the status allows, and the words have to agree on what they refuse. `late` and `at` play files that
 clients may enter late, and agree with the other words on files that none does. What `run` writes has to be what `replay`
@@ -21,9 +21,76 @@ SECONDS = float(sys.argv[1])
 NAMED = sys.argv[2:] or [*WORDS, "late", "at 2"]
 SEED = int(os.environ.get("SEED", random.randrange(2**32)))
 FINDS = os.environ.get("FINDS") or tempfile.mkdtemp(prefix="fuzz-")
-NUMBERS = [0, 1, 2, 3, 4, 5, 7, 8, 63, 64, 65, 127, 128, 255, 256, 65535, 65536, 2**31, 2**32 - 1, 2**32, 2**53, 2**63 - 1, 2**63, 2**64, -1, -2]
-TEXTS = ["", "x", "_", "a b", "é", "\U0001f600", "\u0000", "\ufeff", "doc", "text", "paragraph", "em", "block+", "inline*", "(a|b){2,3}", "x" * 300]
-TOKENS = [b"{", b"}", b"[", b"]", b",", b":", b'"', b"\\", b"\n", b"\r", b" ", b"\t", b"\x00", b"\xff", b"\xc3", b"null", b"true", b"1e400", b"-0", b"\\ud83d", b"\\u0000", b"[[[[[[[["]
+NUMBERS = [
+    0,
+    1,
+    2,
+    3,
+    4,
+    5,
+    7,
+    8,
+    63,
+    64,
+    65,
+    127,
+    128,
+    255,
+    256,
+    65535,
+    65536,
+    2**31,
+    2**32 - 1,
+    2**32,
+    2**53,
+    2**63 - 1,
+    2**63,
+    2**64,
+    -1,
+    -2,
+]
+TEXTS = [
+    "",
+    "x",
+    "_",
+    "a b",
+    "é",
+    "\U0001f600",
+    "\u0000",
+    "\ufeff",
+    "doc",
+    "text",
+    "paragraph",
+    "em",
+    "block+",
+    "inline*",
+    "(a|b){2,3}",
+    "x" * 300,
+]
+TOKENS = [
+    b"{",
+    b"}",
+    b"[",
+    b"]",
+    b",",
+    b":",
+    b'"',
+    b"\\",
+    b"\n",
+    b"\r",
+    b" ",
+    b"\t",
+    b"\x00",
+    b"\xff",
+    b"\xc3",
+    b"null",
+    b"true",
+    b"1e400",
+    b"-0",
+    b"\\ud83d",
+    b"\\u0000",
+    b"[[[[[[[[",
+]
 
 
 def places(value, found=None, holder=None, key=None):
@@ -80,7 +147,7 @@ class Changer:
             lost = self.random.choice((b"", b"", b',"lost":true')) if what.startswith(b"pu") else b""
             tail[to:to] = [b'{"c":%s,"op":"%s"%s}' % (name[1], what, lost)]
         else:
-            numbers = [*re.finditer(rb'(?<=[:,\[])\d{1,9}(?=[,}\]])', tail[at])]
+            numbers = [*re.finditer(rb"(?<=[:,\[])\d{1,9}(?=[,}\]])", tail[at])]
             chosen = self.random.sample(numbers, min(len(numbers), self.random.choice((1, 1, 2, 3))))
             for it in sorted(chosen, key=lambda it: -it.start()):
                 number = max(0, int(it[0]) + self.random.choice((-3, -2, -1, -1, 1, 1, 2, 3, 8)))
@@ -176,7 +243,9 @@ class Changer:
             it = self.random.choice(list(value))
             value[self.random.choice((self.random.choice(TEXTS), *value))] = value.pop(it)
         else:
-            holder[key] = self.random.choice((None, True, False, [], {}, [[[[0]]]], 1.5, self.random.choice(NUMBERS), self.random.choice(TEXTS)))
+            holder[key] = self.random.choice(
+                (None, True, False, [], {}, [[[[0]]]], 1.5, self.random.choice(NUMBERS), self.random.choice(TEXTS))
+            )
 
 
 def shown(data, fault):

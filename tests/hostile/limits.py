@@ -1,4 +1,4 @@
-"""The inputs and the words at each limit of docs/FORMATS.md: one below, at it, and one above, with the first line that each gives.
+"""The inputs and the words at each limit of docs/use/FORMATS.md: one below, at it, and one above, with the first line that each gives.
 
 No line is long enough for a list of 4,294,967,296 tokens, so that limit has no row.
 """
@@ -170,7 +170,9 @@ def documents():
         paste = op(op="paste", **{"from": 0, "to": 0, "slice": {"content": [{"type": "z"}]}})
         made = lambda count=count, around=around, it=paste: session(nodes(f"(p|t{count - 1})+", around), None, None, [it])
         yield row(f"a wrapping of {count} types", made, **ok(1, 2, first))
-    schema = {"nodes": [{"name": "doc", "content": "p+"}, {"name": "p", "content": "text*", "attrs": {"k": {"default": None}}}, {"name": "text"}]}
+    schema = {
+        "nodes": [{"name": "doc", "content": "p+"}, {"name": "p", "content": "text*", "attrs": {"k": {"default": None}}}, {"name": "text"}]
+    }
     for value, code in (
         (lists(3), None),
         (lists(4), None),
@@ -194,6 +196,38 @@ def documents():
         yield row(f"the attribute {value[:24]} in an op", lambda line=line: session(schema, None, None, [line]), **told)
         line = f'{{"c":"a","op":"attr","pos":0,"attr":"k","value":{value}}}'
         yield row(f"the attribute {value[:24]} alone", lambda line=line: session(schema, None, None, [line]), **told)
+
+
+def large_steps():
+    """Steps with whose result a document is full or too large, and where another reason comes first."""
+    blocks = [*QUOTES[:3], {"name": "l", "content": "i+", "group": "block"}, {"name": "i", "content": "p block*"}, QUOTES[3]]
+    full, text, empty = letters(499_998), {"content": letters(499_998)["content"][0]["content"]}, {"type": "p"}
+    apart = {
+        "type": "doc",
+        "content": [nested(1, letters(1)["content"][0]), {"type": "l", "content": [{"type": "i", "content": letters(1)["content"]}]}],
+    }
+    around = {
+        "stepType": "replaceAround",
+        "from": 0,
+        "to": 500_000,
+        "gapFrom": 0,
+        "gapTo": 500_000,
+        "insert": 1,
+        "slice": {"content": [{"type": "q"}]},
+    }
+    replace = {"stepType": "replace"}
+    split = {**replace, "from": 1, "to": 1, "slice": {"content": [empty, empty], "openStart": 1, "openEnd": 1}, "structure": True}
+    for name, doc, step, first in (
+        ("a split of 499,998 letters", full, split, "4 refused 0 7"),
+        ("a quote around 499,998 letters", full, around, "4 refused 0 7"),
+        ("a quote around them, as structure", full, {**around, "structure": True}, "4 refused 0 7"),
+        ("499,998 letters in place of two", letters(2), {**replace, "from": 1, "to": 3, "slice": text}, "4 made 1"),
+        ("499,998 letters between two", letters(2), {**replace, "from": 2, "to": 2, "slice": text}, "4 refused 0 7"),
+        ("499,998 letters in place of one of two", letters(2), {**replace, "from": 2, "to": 3, "slice": text}, "4 refused 0 7"),
+        ("499,998 letters between a quote and a list", apart, {**replace, "from": 4, "to": 11, "slice": text}, "4 refused 0 6"),
+    ):
+        made = lambda doc=doc, step=step: session({"nodes": blocks}, doc, None, [op(op="step", step=step)])
+        yield row(name, made, replay=(0, first))
 
 
 def clients():
@@ -220,7 +254,17 @@ def clients():
 
 def numbers():
     """Whole numbers of 32 bits in each field that has one, and sides."""
-    for number, is_well in (("0", True), ("4294967294", True), ("4294967295", True), ("4294967296", False), ("-1", False), ("1.0", False), ("1e0", False), ("18446744073709551616", False), ('"1"', False)):
+    for number, is_well in (
+        ("0", True),
+        ("4294967294", True),
+        ("4294967295", True),
+        ("4294967296", False),
+        ("-1", False),
+        ("1.0", False),
+        ("1e0", False),
+        ("18446744073709551616", False),
+        ('"1"', False),
+    ):
         for fields in (
             f'"op":"text","from":{number},"to":0,"text":""',
             f'"op":"text","from":0,"to":{number},"text":""',
@@ -245,7 +289,9 @@ def numbers():
 
 def words():
     """Words of `gen` at each of its limits, and of other forms: the words, the status, and the first line."""
-    yield from (([*it.split(" ")], 0, f"gen {' '.join(it.split(' ')[1:])}") for it in ("gen 1 1 1", "gen 31 1 1", "gen 32 1 1", "gen 1 0 0"))
+    yield from (
+        ([*it.split(" ")], 0, f"gen {' '.join(it.split(' ')[1:])}") for it in ("gen 1 1 1", "gen 31 1 1", "gen 32 1 1", "gen 1 0 0")
+    )
     yield from (([*it.split(" ")], 2, "") for it in ("gen 0 1 1", "gen 33 1 1", "gen 1 100001 1", "gen 2 50001 1", "gen 32 3126 1"))
     yield from (([*f"gen 1 1 {it}".split(" ")], 0, f"gen 1 1 {it}") for it in (0, 2**64 - 2, 2**64 - 1))
     yield from (([*f"gen 1 1 {it}".split(" ")], 2, "") for it in (2**64, 10**20 - 1))
@@ -259,7 +305,22 @@ def words():
             numbers = ["1", "1", "1"]
             numbers[at] = text
             yield ["gen", *numbers], 2, ""
-    yield from ((it, 2, "") for it in ([], [""], ["gen"], ["gen", "1", "1"], ["gen", "1", "1", "1", "1"], ["check", ""], ["replay", "run"], ["run", "run"], ["Check"], ["check "], ["--help"]))
+    yield from (
+        (it, 2, "")
+        for it in (
+            [],
+            [""],
+            ["gen"],
+            ["gen", "1", "1"],
+            ["gen", "1", "1", "1", "1"],
+            ["check", ""],
+            ["replay", "run"],
+            ["run", "run"],
+            ["Check"],
+            ["check "],
+            ["--help"],
+        )
+    )
 
 
 def long_words():
@@ -273,5 +334,5 @@ ROWS = []
 def limits():
     """All rows: name, what makes the input, and for each word (or `any`) status and first line."""
     if not ROWS:
-        ROWS.extend([*inputs(), *schemas(), *documents(), *clients(), *numbers()])
+        ROWS.extend([*inputs(), *schemas(), *documents(), *large_steps(), *clients(), *numbers()])
     return ROWS

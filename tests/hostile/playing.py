@@ -1,4 +1,4 @@
-"""Plays session files by the built program, and judges what comes back by the tables of docs/FORMATS.md."""
+"""Plays session files by the built program, and judges what comes back by the tables of docs/use/FORMATS.md."""
 import collections, glob, json, multiprocessing, os, re, subprocess, sys, time
 
 TOP = os.path.dirname(os.path.dirname(os.path.dirname(os.path.abspath(__file__))))
@@ -35,8 +35,8 @@ def play(words, session, variables=None, longest=LONGEST, program=None):
 
 
 def sessions():
-    """Returns the paths of all sessions of tests/ and examples/."""
-    return sorted(glob.glob(f"{TOP}/tests/*/*.session")) + sorted(glob.glob(f"{TOP}/examples/*.session"))
+    """Returns the paths of all sessions of tests/sessions/ and examples/."""
+    return sorted(glob.glob(f"{TOP}/tests/sessions/*/*.session")) + sorted(glob.glob(f"{TOP}/examples/*.session"))
 
 
 def wanted(path):
@@ -117,7 +117,7 @@ def fault_of_report(text, first=4):
 
 
 def fault_of_rooms(text):
-    """What is wrong with the form of the reports of many rooms, each behind the line with its name."""
+    """What is wrong with the form of the reports of many rooms, each after the line with its name."""
     before, *parts = re.split(r"^room ([a-z0-9]{1,16})\n", text, flags=re.M)
     if before or not 1 <= len(parts) // 2 <= 16:
         return "the rooms are told in no form"

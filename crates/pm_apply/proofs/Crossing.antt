@@ -10,7 +10,7 @@ use Rattle.pm_marks.proofs.rules.MarkRules.TheSendSync as MarkRules
 use Rattle.pm_auto.proofs.expr.Expr.TheLaws.TheKnot as Exprs
 use Rattle.pm_auto.proofs.auto.Auto.TheSendSync as Auto
 use Rattle.pm_schema.proofs.names.Names.TheSendSync as Names
-use Rattle.pm_node.proofs.units.Units.TheSendSync as Units
+use Rattle.pm_units.proofs.units.Units.TheSendSync as Units
 use Rattle.pm_node.proofs.node.Fragment.TheLaws.TheKnot as Nodes
 use Rattle.pm_attrs.specs.contracts.attrs.Attrs as attrs
 use Rattle.pm_schema.specs.contracts.spec.AttrSpec as attr_spec

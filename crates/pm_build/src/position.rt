@@ -62,14 +62,7 @@ fn unit_in(node: &Node, pos: usize) -> Option<u16>
     ensures { result ≡ unit_at (node_tokens node.now) pos }
 {
     match &node.body {
-        Body::Text(units) => {
-            let units = units.as_slice();
-            if pos < units.len() {
-                Some(units[pos])
-            } else {
-                None
-            }
-        }
+        Body::Text(units) => units.unit(pos),
         Body::Leaf => None,
         Body::Children(inner) => {
             let size = inner.size();

@@ -6,7 +6,7 @@ use Rattle.std.proofs.Crossing.{crosses}
 use Rattle.pm_value.proofs.text.Text.TheSendSync as Text
 use Rattle.pm_value.proofs.value.Fields.TheLaws.TheKnot as Values
 use Rattle.pm_marks.proofs.set.MarkSet.TheSendSync as MarkSet
-use Rattle.pm_node.proofs.units.Units.TheSendSync as Units
+use Rattle.pm_units.proofs.units.Units.TheSendSync as Units
 use Rattle.pm_apply.proofs.Crossing.{attrs_send, attrs_sync, fragment_send, fragment_sync, slice_send, slice_sync}
 use Rattle.pm_ops.specs.contracts.op.Op as op
 

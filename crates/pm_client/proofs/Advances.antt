@@ -15,6 +15,7 @@ use Rattle.pm_authority.specs.Runs.{run, changes_of, AllApply}
 use Rattle.pm_authority.proofs.RunFolds.{changes-append, fold-run, run-fold}
 use Rattle.pm_client.specs.declared.client.Client.{Client}
 use Rattle.pm_client.proofs.Takings.{rest-of}
+use Rattle.pm_client.specs.Kins.{AnswerStands, Kin}
 use Rattle.pm_client.specs.Plans.{Meets, MayConfirm, Fits}
 use Rattle.pm_client.proofs.Prefixes.{front-applies}
 use Rattle.pm_client.specs.Clients.{own_run}
@@ -36,10 +37,13 @@ module _ {Rules Doc Reason C : Type 0} (m : Meaning Rules Doc Reason C) (rules :
   never-refused doc ns e r h is a = no-refusal doc ns r h (subst (λ (x : Failed (Refusal Reason)). Answers (run m rules doc 0 ns) (Err x)) is a)
 
   -- the first pending steps apply to the base
-  pub confirm-applies : (c : Client C Rules Doc Reason) (own : ℕ) → MayConfirm m rules c own → (end : Doc) × AllApply m rules c.base (take own c.pending) end
-  confirm-applies c own h =
+  pub first-apply : (c : Client C Rules Doc Reason) (own : ℕ) → AllApply m rules c.base c.pending c.doc → (end : Doc) × AllApply m rules c.base (take own c.pending) end
+  first-apply c own applies =
       front-applies m rules c.base c.doc (take own c.pending) (drop own c.pending)
-      (ap (λ l. fold m rules c.base (changes_of l)) (take-append-drop own c.pending) ∙ h.applies)
+      (ap (λ l. fold m rules c.base (changes_of l)) (take-append-drop own c.pending) ∙ applies)
+
+  pub confirm-applies : (c : Client C Rules Doc Reason) (own : ℕ) → MayConfirm m rules c own → (end : Doc) × AllApply m rules c.base (take own c.pending) end
+  confirm-applies c own h = first-apply c own h.applies
 
   -- an accepted submission that ends past the version may be confirmed
   pub accepted-may : Laws m → (c : Client C Rules Doc Reason) (from count : ℕ) → Meets m rules c (Accepted from count) → c.version - from < count
@@ -86,6 +90,27 @@ module _ {Rules Doc Reason C : Type 0} (m : Meaning Rules Doc Reason C) (rules :
     over-of : CanRebaseOver m rules base (drop own rest) (drop own c.pending) c.doc
     over-of = rw (front_is, later_is) (can-over m rules laws parting.at base c.doc front later parting.at_good parting.left_applies parting.right_applies)
 
+  -- the entries past the version apply to the base
+  module _ (c : Client C Rules Doc Reason) (first : Doc) (log : List (Named C)) (kin : Kin m rules first log c) (since : ℕ) (entries : List (Named C))
+      (h : AnswerStands {Rules = Rules} {Doc = Doc} {Reason = Reason} {C = C} log c.version kin.standing (Entries since entries)) (past : c.version < since + length entries) where
+    -- the log past the version begins with them
+    past-begins : kin.past ≡ drop (c.version - since) entries ++ (rest-of m rules first log c kin since entries h past).after
+    past-begins =
+        let s = kin.stands in
+        let r = rest-of m rules first log c kin since entries h past in
+        s.past_is ∙ ap (λ l. s.standing ++ l) r.foreign_is ∙ sym (append_assoc s.standing r.front r.after) ∙ ap (λ l. l ++ r.after) (sym r.rest_is)
+
+    pub rest-applies : (end : Doc) × AllApply m rules c.base (drop (c.version - since) entries) end
+    rest-applies =
+        let r = rest-of m rules first log c kin since entries h past in
+        let all : fold m rules first (changes_of (kin.before ++ kin.past)) ≡ Some kin.log_applies.0 =
+        ap (λ l. fold m rules first (changes_of l)) (sym kin.log_is) ∙ kin.log_applies.1 in
+        let after_base : fold m rules c.base (changes_of kin.past) ≡ Some kin.log_applies.0 =
+        sym (fold-append m rules first c.base (changes_of kin.before) (changes_of kin.past) kin.base_is)
+        ∙ ap (fold m rules first) (sym (changes-append kin.before kin.past)) ∙ all in
+        front-applies m rules c.base kin.log_applies.0 (drop (c.version - since) entries) r.after
+        (ap (λ l. fold m rules c.base (changes_of l)) (sym past-begins) ∙ after_base)
+
   -- the entries past the version fit
   pub entries-fit : Laws m → (c : Client C Rules Doc Reason) (since : ℕ) (entries : List (Named C)) → Meets m rules c (Entries since entries)
       → c.version - since < length entries → Fits m rules c (drop (c.version - since) entries)
@@ -95,15 +120,10 @@ module _ {Rules Doc Reason C : Type 0} (m : Meaning Rules Doc Reason C) (rules :
       let s = kin.stands in
       let rest : List (Named C) = drop (c.version - since) entries in
       let low = h.stands.0 in
-      let r = rest-of m rules first h.log c kin since entries h.stands (omega (arith, low, past)) in
-      let whole : kin.past ≡ rest ++ r.after =
-      s.past_is ∙ ap (λ l. s.standing ++ l) r.foreign_is ∙ sym (append_assoc s.standing r.front r.after) ∙ ap (λ l. l ++ r.after) (sym r.rest_is) in
-      let all : fold m rules first (changes_of (kin.before ++ kin.past)) ≡ Some kin.log_applies.0 =
-      ap (λ l. fold m rules first (changes_of l)) (sym kin.log_is) ∙ kin.log_applies.1 in
-      let after_base : fold m rules c.base (changes_of kin.past) ≡ Some kin.log_applies.0 =
-      sym (fold-append m rules first c.base (changes_of kin.before) (changes_of kin.past) kin.base_is)
-      ∙ ap (fold m rules first) (sym (changes-append kin.before kin.past)) ∙ all in
-      let reaches = front-applies m rules c.base kin.log_applies.0 rest r.after (rw whole at after_base) in
+      let far : c.version < since + length entries = omega (arith, low, past) in
+      let r = rest-of m rules first h.log c kin since entries h.stands far in
+      let whole : kin.past ≡ rest ++ r.after = past-begins c first h.log kin since entries h.stands far in
+      let reaches = rest-applies c first h.log kin since entries h.stands far in
       let long : c.version + length rest < 2 ^ 64 =
       omega (arith, kin.version_is, ap length kin.log_is, length-append kin.before kin.past, ap length whole, length-append rest r.after, h.short) in
       record {

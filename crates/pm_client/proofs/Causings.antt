@@ -13,12 +13,11 @@ use Rattle.pm_client.specs.declared.client.Client.{Client}
 use Rattle.pm_client.specs.declared.taken.Taken.{Taken}
 use Rattle.pm_client.specs.declared.taken.Taken.TheVariants.{Confirmed, Rebased, Stale, Refused}
 use Rattle.pm_client.specs.Clients.{own_run, given, confirmed, brought, carried, confirmed_first, others_taken, rest_taken, taken, taken_if, taken_at, answer_at}
-use Rattle.pm_client.specs.Kins.{IsOwn, IsForeign, Stands}
+use Rattle.pm_client.specs.Kins.{IsOwn, IsForeign, AnswerStands, Kin, Stands}
 use Rattle.pm_client.proofs.Lists.{Each-front}
-use Rattle.pm_client.specs.Plans.{Meets}
 use Rattle.pm_client.proofs.Takings.{own_run-is, rest-of}
 use Rattle.pm_client.specs.Causes.{PastVersion, AreLost, IsTaken}
-use Rattle.pm_client.proofs.Advances.{confirm-applies, accepted-may, entries-fit}
+use Rattle.pm_client.proofs.Advances.{first-apply, rest-applies}
 use Rattle.pm_client.proofs.Plannings.{meets-found}
 
 module _ {Rules Doc Reason C : Type 0} (c : Client C Rules Doc Reason) (since : ℕ) (entries : List (Named C)) where
@@ -106,84 +105,79 @@ module _ {Rules Doc Reason C : Type 0} (m : Meaning Rules Doc Reason C) (rules :
   confirmed-told : (k : ℕ) → (end : Doc) × AllApply m rules c.base (take k c.pending) end → (confirmed_first m rules c k).0 ≡ Confirmed k
   confirmed-told k (end, h) = ap (λ o. (given c o (λ base. (Confirmed k, confirmed c k base))).0) h
 
-  accepted-right : Laws m → (from count : ℕ) → Meets m rules c (Accepted from count)
-      → IsTaken m rules c (Accepted from count) (taken m rules c (Accepted from count)).0
-  accepted-right laws from count meets = by-test (nat_le (from + count) c.version) refl
-    where
-      far : c.version < from + count → (from + count ≤ c.version) ⊎ ((from ≡ c.version) × (count ≡ meets.kin.standing)) → c.version - from < count
-      far past (inl l) = absurd (omega (arith, past, l))
-      far past (inr e) = omega (arith, past, e.0)
+  -- a client that stands to a log, with an answer that stands
+  module _ (first : Doc) (log : List (Named C)) (kin : Kin m rules first log c) where
+    accepted-right : (from count : ℕ) → IsTaken m rules c (Accepted from count) (taken m rules c (Accepted from count)).0
+    accepted-right from count = by-test (nat_le (from + count) c.version) refl
+      where
+        by-test : (b : Bool) → nat_le (from + count) c.version ≡ b
+            → IsTaken m rules c (Accepted from count) (if b then (Stale, c) else confirmed_first m rules c count).0
+        by-test true e = leb-true (from + count) c.version e
+        by-test false e =
+            subst (IsTaken m rules c (Accepted from count)) (sym (confirmed-told count (first-apply m rules c count kin.doc_is)))
+            (leb-false (from + count) c.version e, refl)
 
-      by-test : (b : Bool) → nat_le (from + count) c.version ≡ b
-          → IsTaken m rules c (Accepted from count) (if b then (Stale, c) else confirmed_first m rules c count).0
-      by-test true e = leb-true (from + count) c.version e
-      by-test false e =
-          let past : c.version < from + count = leb-false (from + count) c.version e in
-          let may = accepted-may m rules laws c from count meets (far past meets.stands) in
-          subst (IsTaken m rules c (Accepted from count)) (sym (confirmed-told count (confirm-applies m rules c count may))) (past, refl)
+    entries-right : (since : ℕ) (entries : List (Named C)) → AnswerStands {Rules = Rules} {Doc = Doc} {Reason = Reason} {C = C} log c.version kin.standing (Entries since entries)
+        → IsTaken m rules c (Entries since entries) (taken m rules c (Entries since entries)).0
+    entries-right since entries stood = by-test (nat_le (since + length entries) c.version) refl
+      where
+        rest : List (Named C)
+        rest = drop (c.version - since) entries
 
-  entries-right : Laws m → (since : ℕ) (entries : List (Named C)) → Meets m rules c (Entries since entries)
-      → IsTaken m rules c (Entries since entries) (taken m rules c (Entries since entries)).0
-  entries-right laws since entries meets = by-test (nat_le (since + length entries) c.version) refl
-    where
-      rest : List (Named C)
-      rest = drop (c.version - since) entries
+        own : ℕ
+        own = own_run c.name rest
 
-      own : ℕ
-      own = own_run c.name rest
+        parts : c.version < since + length entries → PastVersion c since entries
+        parts past =
+            let s = kin.stands in
+            let r = rest-of m rules first log c kin since entries stood past in
+            record {
+              passed = take (c.version - since) entries;
+              own = s.standing;
+              foreign = r.front;
+              passed_is = omega (arith, stood.0, length-take-le (c.version - since) entries (omega (arith, past)));
+              entries_are = sym (ap (λ l. take (c.version - since) entries ++ l) (sym r.rest_is) ∙ take-append-drop (c.version - since) entries);
+              are_own = Each-front (IsOwn c.name) s.standing s.later (rw s.pending_is at kin.own);
+              are_foreign = Each-front (IsForeign c.name) r.front r.after (rw r.foreign_is at s.are_foreign);
+            }
 
-      parts : c.version < since + length entries → PastVersion c since entries
-      parts past =
-          let s = meets.kin.stands in
-          let r = rest-of m rules meets.first meets.log c meets.kin since entries meets.stands past in
-          record {
-            passed = take (c.version - since) entries;
-            own = s.standing;
-            foreign = r.front;
-            passed_is = omega (arith, meets.stands.0, length-take-le (c.version - since) entries (omega (arith, past)));
-            entries_are = sym (ap (λ l. take (c.version - since) entries ++ l) (sym r.rest_is) ∙ take-append-drop (c.version - since) entries);
-            are_own = Each-front (IsOwn c.name) s.standing s.later (rw s.pending_is at meets.kin.own);
-            are_foreign = Each-front (IsForeign c.name) r.front r.after (rw r.foreign_is at s.are_foreign);
-          }
+        by-own : c.version < since + length entries → (b : Bool) → (own == length rest) ≡ b
+            → IsTaken m rules c (Entries since entries) (if b then confirmed_first m rules c own else others_taken m rules c rest own).0
+        by-own past true e =
+            let p = parts past in
+            let all : own ≡ length rest = eqb-true own (length rest) e in
+            let is : own ≡ length p.own = sym (past-own c since entries p) in
+            let parted : length rest ≡ length p.own + length p.foreign = ap length (past-rest c since entries p) ∙ length-append p.own p.foreign in
+            let long = past-long c since entries p in
+            let none : length p.foreign ≡ 0 = omega (arith, all, is, parted) in
+            subst (IsTaken m rules c (Entries since entries)) (sym (confirmed-told own (first-apply m rules c own kin.doc_is)))
+            (p, omega (arith, past, long, none), none, is)
+        by-own past false e =
+            let p = parts past in
+            let reached = rest-applies m rules c first log kin since entries stood past in
+            let base : Doc = reached.0 in
+            let other : own ≡ length rest → ⊥ = eqb-false own (length rest) e in
+            let is : own ≡ length p.own = sym (past-own c since entries p) in
+            let parted : length rest ≡ length p.own + length p.foreign = ap length (past-rest c since entries p) ∙ length-append p.own p.foreign in
+            let told : (others_taken m rules c rest own).0 ≡ Rebased own (length rest - own) (length (carried m rules c own (drop own rest) base).dropped) =
+            ap (λ o. (given c o (λ base. (Rebased own (length rest - own) (length (carried m rules c own (drop own rest) base).dropped), brought m rules c own (drop own rest) base (carried m rules c own (drop own rest) base)))).0) reached.1 in
+            let applies : AllApply m rules c.base (p.own ++ p.foreign) base = ap (λ l. fold m rules c.base (changes_of l)) (sym (past-rest c since entries p)) ∙ reached.1 in
+            let lost : length (carried m rules c own (drop own rest) base).dropped ≡ length (carried m rules c (length p.own) p.foreign base).dropped =
+            ap (λ l. length (carried m rules c own l base).dropped) (sym (past-foreign c since entries p)) ∙ ap (λ k. length (carried m rules c k p.foreign base).dropped) is in
+            subst (IsTaken m rules c (Entries since entries)) (sym told)
+            (p, omega (arith, other, is, parted), is, omega (arith, is, parted), (base, applies, lost))
 
-      by-own : c.version < since + length entries → (b : Bool) → (own == length rest) ≡ b
-          → IsTaken m rules c (Entries since entries) (if b then confirmed_first m rules c own else others_taken m rules c rest own).0
-      by-own past true e =
-          let p = parts past in
-          let fit = entries-fit m rules laws c since entries meets (omega (arith, past, meets.stands.0)) in
-          let all : own ≡ length rest = eqb-true own (length rest) e in
-          let is : own ≡ length p.own = sym (past-own c since entries p) in
-          let parted : length rest ≡ length p.own + length p.foreign = ap length (past-rest c since entries p) ∙ length-append p.own p.foreign in
-          let long = past-long c since entries p in
-          let none : length p.foreign ≡ 0 = omega (arith, all, is, parted) in
-          subst (IsTaken m rules c (Entries since entries)) (sym (confirmed-told own (confirm-applies m rules c own fit.leading)))
-          (p, omega (arith, past, long, none), none, is)
-      by-own past false e =
-          let p = parts past in
-          let fit = entries-fit m rules laws c since entries meets (omega (arith, past, meets.stands.0)) in
-          let base : Doc = fit.applies.0 in
-          let other : own ≡ length rest → ⊥ = eqb-false own (length rest) e in
-          let is : own ≡ length p.own = sym (past-own c since entries p) in
-          let parted : length rest ≡ length p.own + length p.foreign = ap length (past-rest c since entries p) ∙ length-append p.own p.foreign in
-          let told : (others_taken m rules c rest own).0 ≡ Rebased own (length rest - own) (length (carried m rules c own (drop own rest) base).dropped) =
-          ap (λ o. (given c o (λ base. (Rebased own (length rest - own) (length (carried m rules c own (drop own rest) base).dropped), brought m rules c own (drop own rest) base (carried m rules c own (drop own rest) base)))).0) fit.applies.1 in
-          let applies : AllApply m rules c.base (p.own ++ p.foreign) base = ap (λ l. fold m rules c.base (changes_of l)) (sym (past-rest c since entries p)) ∙ fit.applies.1 in
-          let lost : length (carried m rules c own (drop own rest) base).dropped ≡ length (carried m rules c (length p.own) p.foreign base).dropped =
-          ap (λ l. length (carried m rules c own l base).dropped) (sym (past-foreign c since entries p)) ∙ ap (λ k. length (carried m rules c k p.foreign base).dropped) is in
-          subst (IsTaken m rules c (Entries since entries)) (sym told)
-          (p, omega (arith, other, is, parted), is, omega (arith, is, parted), (base, applies, lost))
+        by-test : (b : Bool) → nat_le (since + length entries) c.version ≡ b
+            → IsTaken m rules c (Entries since entries) (if b then (Stale, c) else rest_taken m rules c rest own).0
+        by-test true e = leb-true (since + length entries) c.version e
+        by-test false e = by-own (leb-false (since + length entries) c.version e) (own == length rest) refl
 
-      by-test : (b : Bool) → nat_le (since + length entries) c.version ≡ b
-          → IsTaken m rules c (Entries since entries) (if b then (Stale, c) else rest_taken m rules c rest own).0
-      by-test true e = leb-true (since + length entries) c.version e
-      by-test false e = by-own (leb-false (since + length entries) c.version e) (own == length rest) refl
-
-  -- what is told has its cause
-  taken-right : Laws m → (a : Answer C Rules Doc Reason) → Meets m rules c a → IsTaken m rules c a (taken m rules c a).0
-  taken-right laws (Accepted from count) meets = accepted-right laws from count meets
-  taken-right laws (WrongVersion size) meets = refl
-  taken-right laws (StepRefused index reason) meets = refl
-  taken-right laws (Entries since entries) meets = entries-right laws since entries meets
+    -- what is told has its cause
+    pub taken-right : (a : Answer C Rules Doc Reason) → AnswerStands log c.version kin.standing a → IsTaken m rules c a (taken m rules c a).0
+    taken-right (Accepted from count) stood = accepted-right from count
+    taken-right (WrongVersion size) stood = refl
+    taken-right (StepRefused index reason) stood = refl
+    taken-right (Entries since entries) stood = entries-right since entries stood
 
   -- what is told comes exactly where its cause holds
   pub take-causes : {E : Type 0} → Laws m → (r : Result Taken E) (next : Client C Rules Doc Reason) (i : ℕ) → Stands m rules c
@@ -191,6 +185,7 @@ module _ {Rules Doc Reason C : Type 0} (m : Meaning Rules Doc Reason C) (rules :
       → IfOk r (λ t. (t ≡ x) ↔ IsTaken m rules c a x)
   take-causes laws (Ok t) next i stands takes a x found =
       let told : t ≡ (taken m rules c a).0 = ap (λ y. y.0) takes ∙ ap (λ o. (taken_if m rules c o).0) found in
-      let right : IsTaken m rules c a t = subst (IsTaken m rules c a) (sym told) (taken-right laws a (meets-found m rules c i a stands found)) in
+      let meets = meets-found m rules c i a stands found in
+      let right : IsTaken m rules c a t = subst (IsTaken m rules c a) (sym told) (taken-right meets.first meets.log meets.kin a meets.stands) in
       (λ same. subst (IsTaken m rules c a) same right, λ cause. taken-once a t x right cause)
   take-causes laws (Err e) next i stands takes a x found = tt

@@ -16,7 +16,7 @@ mod Names
 mod Advances
 mod Handed
 mod Plannings
-mod Causings
+pub mod Causings
 mod Rebasings
 mod Rebasers
 mod Pushings
@@ -30,3 +30,4 @@ pub mod TokenKeeps
 pub mod Turns
 pub mod Makings
 mod Edits
+pub mod Tyings

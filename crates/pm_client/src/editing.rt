@@ -1,5 +1,5 @@
 //! Making steps.
-ghost use Rattle.std.specs.Prelude.{◌≡◌, List, length, Some, Ok, IfOk, IfErr, IfSome, OnOk, OnErr};
+ghost use Rattle.std.specs.Prelude.{◌≡◌, ◌<◌, List, length, Some, Ok, IfOk, IfErr, IfSome, OnOk, OnErr};
 ghost use Rattle.pm_change.specs.Changes.{fold};
 ghost use Rattle.pm_authority.specs.declared.named.Named.{Named};
 ghost use Rattle.pm_client.specs.Clients.{edited, IsRefusal};
@@ -25,8 +25,8 @@ impl<C: Change> Client<C> {
     /// them does not apply, and names the first. Then, and for want of memory, the client is as it was. There is no serial
     /// past 2^64 - 1: asked for one, the client answers `NoMemory`.
     ///
-    /// The client's document must be good under these rules, and its cursors within it, as they are where it stands to a
-    /// log.
+    /// There must be at least one step. The client's document must be good under these rules, and its cursors within it, as
+    /// they are where it stands to a log.
     pub fn edit(
         &mut self,
         alloc: Global,
@@ -34,6 +34,7 @@ impl<C: Change> Client<C> {
         steps: Vec<C>,
         event: Option<u32>,
     ) -> Result<u64, EditError<C::Reason>>
+        requires some { 0 < length steps.items }
         requires good { C.means.is_good rules.now self.old.doc }
         requires cursors { AreWithin (C.means.size self.old.doc) self.old.cursors }
         ensures count { IfOk result (λ n. n ≡ length steps.items) }
@@ -56,7 +57,7 @@ impl<C: Change> Client<C> {
     /// Makes these steps, as `edit` does, where the document is in hand that they lead to. Where it is one step, it is not
     /// applied a second time.
     ///
-    /// Applied to the client's document, one after another, the steps must give `end`.
+    /// There must be at least one step. Applied to the client's document, one after another, the steps must give `end`.
     pub fn edit_to(
         &mut self,
         alloc: Global,
@@ -65,6 +66,7 @@ impl<C: Change> Client<C> {
         end: C::Doc,
         event: Option<u32>,
     ) -> Result<u64, EditError<C::Reason>>
+        requires some { 0 < length steps.items }
         requires good { C.means.is_good rules.now self.old.doc }
         requires cursors { AreWithin (C.means.size self.old.doc) self.old.cursors }
         requires leads { fold C.means rules.now self.old.doc steps.items ≡ Some end }

@@ -13,7 +13,7 @@ ghost use Rattle.pm_client.specs.Kins.{Kin, Stands};
 ghost use Rattle.pm_client.specs.Rebases.{maps_of};
 ghost use Rattle.pm_client.specs.Rebasables.{NamedHasMap};
 ghost use Rattle.pm_client.specs.TokenNames.{KeepsTokens};
-ghost use Rattle.pm_client.specs.Undoings.{GivesBack, TurnsOver};
+ghost use Rattle.pm_client.specs.Undoings.{GivesBack, TiesLast, TurnsOver};
 
 use crate::client::Client;
 use crate::cursors::move_all;
@@ -51,6 +51,9 @@ impl<C: Change> Client<C> {
         // It is the undo of the event over the client's whole timeline.
         ensures whole { IfOk result (λ n. (first : C.Doc) (log : List (Named C)) (kin : Kin C.means rules.now first log self.old)
             → TurnsOver C.means rules.now Undo self.old first kin.timeline n self.new) }
+        // Its steps, the last ones of the client's timeline, are tied to those of the event.
+        ensures tied { IfOk result (λ n. (first : C.Doc) (log : List (Named C)) (kin : Kin C.means rules.now first log self.new)
+            → TiesLast Undo self.old n kin.timeline) }
         // A cursor with side `After` that stood before a token stands before it, where that is still there.
         ensures tokens { OnOk result ((first : C.Doc) (log : List (Named C)) → Kin C.means rules.now first log self.old
             → KeepsTokens C.means log self.old self.new (C.means.size self.old.base)) }
@@ -74,6 +77,9 @@ impl<C: Change> Client<C> {
         // It is the undo of the event over the client's whole timeline.
         ensures whole { IfOk result (λ n. (first : C.Doc) (log : List (Named C)) (kin : Kin C.means rules.now first log self.old)
             → TurnsOver C.means rules.now Redo self.old first kin.timeline n self.new) }
+        // Its steps, the last ones of the client's timeline, are tied to those of the event.
+        ensures tied { IfOk result (λ n. (first : C.Doc) (log : List (Named C)) (kin : Kin C.means rules.now first log self.new)
+            → TiesLast Redo self.old n kin.timeline) }
         // A cursor with side `After` that stood before a token stands before it, where that is still there.
         ensures tokens { OnOk result ((first : C.Doc) (log : List (Named C)) → Kin C.means rules.now first log self.old
             → KeepsTokens C.means log self.old self.new (C.means.size self.old.base)) }
@@ -103,6 +109,9 @@ impl<C: Change> Client<C> {
         // It is the undo of the event over the client's whole timeline.
         ensures whole { IfOk result (λ n. (first : C.Doc) (log : List (Named C)) (kin : Kin C.means rules.now first log self.old)
             → TurnsOver C.means rules.now (UndoEvent number) self.old first kin.timeline n self.new) }
+        // Its steps, the last ones of the client's timeline, are tied to those of the event.
+        ensures tied { IfOk result (λ n. (first : C.Doc) (log : List (Named C)) (kin : Kin C.means rules.now first log self.new)
+            → TiesLast (UndoEvent number) self.old n kin.timeline) }
         // A cursor with side `After` that stood before a token stands before it, where that is still there.
         ensures tokens { OnOk result ((first : C.Doc) (log : List (Named C)) → Kin C.means rules.now first log self.old
             → KeepsTokens C.means log self.old self.new (C.means.size self.old.base)) }

@@ -13,8 +13,6 @@
 pub mod desk;
 pub mod history;
 mod plays;
-#[cfg(test)]
-mod tests;
 mod turn;
 
 pub use desk::{Desk, Seat};

@@ -1,13 +1,13 @@
 -- What nodes hold, and how many tokens.
-use Rattle.std.proofs.Common.{◌≡◌, ℕ, ◌==◌, ◌<◌, ◌≤◌, List, [], ◌∷◌, length, min, refl, true, false, nat_lt, arith}
+use Rattle.std.proofs.Common.{◌≡◌, ℕ, ◌==◌, ◌<◌, ◌≤◌, List, [], ◌∷◌, length, map, min, refl, true, false, nat_lt, arith}
 use Rattle.std.proofs.lemmas.Bool.Decides.{nat_tests}
 use Rattle.std.specs.Prelude.{Ok, Err}
 use Rattle.pm_schema.specs.declared.spec.SchemaSpec.{SchemaSpec}
 use Rattle.pm_schema.specs.Documents.{documents_of}
 use Rattle.pm_tokens.specs.Tokens.{Token}
 use Rattle.pm_node.specs.declared.node.Body.TheVariants.{Leaf, Children}
-use Rattle.serde_json.specs.View.{items_view}
-use Rattle.serde_json.specs.declared.value.Value.{Value}
+use Rattle.serde_json.specs.Data.{Data}
+use Rattle.serde_json.specs.View.{items_of}
 use Rattle.pm_docjson.specs.declared.fault.DocReadError.TheVariants.{Shape, Large}
 use Rattle.pm_docjson.specs.Reading.{no_nodes, body_of, bounded}
 
@@ -38,13 +38,13 @@ bounded-small ts h = rw (small_enough (length ts) h) refl
 pub small : (n : ℕ) → min n 18446744073709551615 ≤ 4294967295 → n < 4294967296
 small n h = omega arith
 
-pub no_nodes-filled : (vs : List Value) → 0 < length vs → no_nodes (items_view vs) ≡ Err Shape
-no_nodes-filled [] h = absurd (omega arith)
-no_nodes-filled (v ∷ vs) h = refl
+pub no_nodes-filled : {X : Type 0} (seen : X → Data) (xs : List X) → 0 < length xs → no_nodes (items_of (map seen xs)) ≡ Err Shape
+no_nodes-filled seen [] h = absurd (omega arith)
+no_nodes-filled seen (x ∷ xs) h = refl
 
-pub no_nodes-none : (vs : List Value) → length vs ≤ 0 → no_nodes (items_view vs) ≡ Ok []
-no_nodes-none [] h = refl
-no_nodes-none (v ∷ vs) h = absurd (omega arith)
+pub no_nodes-none : {X : Type 0} (seen : X → Data) (xs : List X) → length xs ≤ 0 → no_nodes (items_of (map seen xs)) ≡ Ok []
+no_nodes-none seen [] h = refl
+no_nodes-none seen (x ∷ xs) h = absurd (omega arith)
 
 pub ruleset bodies = (filled_body, leaf_body, empty_body, bounded-large, bounded-small, small, no_nodes-filled, no_nodes-none)
 

@@ -1,5 +1,5 @@
 -- What is found in a value is less deep.
-use Rattle.std.proofs.Common.{◌≡◌, ◌≤◌, ◌<◌, ℕ, suc, zero, max, List, [], ◌∷◌, length, get_or, arith, subst, ap, ◌+◌, ◌*◌}
+use Rattle.std.proofs.Common.{◌≡◌, ◌≤◌, ◌<◌, ℕ, suc, zero, max, List, [], ◌∷◌, length, map, get_or, arith, subst, sym, ap, ◌+◌, ◌*◌}
 use Rattle.std.specs.Prelude.{Option, Some, None, option_and_then, Bool, true, false, cond}
 use Rattle.std.specs.Ordering.{nat_cmp, match_ordering}
 use Rattle.std.specs.Cmp.Lexicographic.{slice_cmp}
@@ -7,8 +7,7 @@ use Rattle.std.specs.declared.cmp.Ordering.{Ordering}
 use Rattle.std.specs.declared.cmp.Ordering.TheVariants.{Less, Equal, Greater}
 use Rattle.serde_json.specs.Data.{Data, null, boolean, number, string, array, object, Items, Members, no_members, member, depth, items_depth, members_depth}
 use Rattle.serde_json.specs.Find.{get, get_member, as_array}
-use Rattle.serde_json.specs.View.{view, items_view}
-use Rattle.serde_json.specs.declared.value.Value.{Value}
+use Rattle.serde_json.specs.View.{items_of}
 use Rattle.pm_docjson.specs.Fields.{non_null, field}
 
 pick : (o : Ordering) (d : Data) (rest : Option Data) (n m : ℕ) (e : Data) → (rest ≡ Some e → depth e ≤ m) → match_ordering o rest (Some d) rest ≡ Some e → depth e ≤ max (depth d) m
@@ -47,13 +46,14 @@ array-depth (string s) xs is = absurd (cc)
 array-depth (array ds) xs is = let same : ds ≡ xs = cc in ap (λ x. suc (items_depth x)) same
 array-depth (object ms) xs is = absurd (cc)
 
-pub item-depth : (vs : List Value) (i : ℕ) (d : Value) → i < length vs → depth (view (get_or vs i d)) ≤ items_depth (items_view vs)
-item-depth [] i d h = absurd (omega arith)
-item-depth (v ∷ vs) zero d h = omega arith
-item-depth (v ∷ vs) (suc i) d h = omega (arith, item-depth vs i d (omega arith))
+module _ {X : Type 0} (seen : X → Data) where
+  item-depth : (xs : List X) (i : ℕ) (x : X) → i < length xs → depth (seen (get_or xs i x)) ≤ items_depth (items_of (map seen xs))
+  item-depth [] i x h = absurd (omega arith)
+  item-depth (y ∷ xs) zero x h = omega arith
+  item-depth (y ∷ xs) (suc i) x h = omega (arith, item-depth xs i x (omega arith))
 
-pub content-falls : (k : List ℕ) (d e : Data) (vs ws : List Value) → field k d ≡ Some e → as_array e ≡ Some (items_view ws) → vs ≡ ws → 5 * items_depth (items_view vs) + 5 < 5 * depth d + 1
-content-falls k d e vs ws h g same = rw same (omega (arith, field-depth k d e h, array-depth e (items_view ws) g))
+  pub item-falls : (xs : List X) (i : ℕ) (x : X) → i < length xs → x ≡ get_or xs i x → 5 * depth (seen x) + 4 < 5 * items_depth (items_of (map seen xs)) + 5
+  item-falls xs i x h is = omega (arith, subst (λ y. depth (seen y) ≤ items_depth (items_of (map seen xs))) (sym is) (item-depth xs i x h))
 
-pub item-falls : (vs : List Value) (i : ℕ) (v : Value) → i < length vs → v ≡ get_or vs i v → 5 * depth (view v) + 4 < 5 * items_depth (items_view vs) + 5
-item-falls vs i v h is = rw is (omega (arith, item-depth vs i v h))
+pub content-falls : (k : List ℕ) (d e : Data) (xs : Items) → field k d ≡ Some e → as_array e ≡ Some xs → 5 * items_depth xs + 5 < 5 * depth d + 1
+content-falls k d e xs h g = omega (arith, field-depth k d e h, array-depth e xs g)

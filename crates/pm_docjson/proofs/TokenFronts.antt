@@ -1,11 +1,10 @@
 -- Nodes that are read one by one: the tokens of those that were read, and then of the rest.
-use Rattle.std.proofs.Common.{◌≡◌, ℕ, suc, ◌+◌, ◌<◌, List, [], ◌∷◌, ◌++◌, length, take, drop, drop-cons, get_or, refl, ap, sym, ◌∙◌, append_assoc, add-one, length-append}
+use Rattle.std.proofs.Common.{◌≡◌, ℕ, suc, ◌+◌, ◌<◌, List, [], ◌∷◌, ◌++◌, length, map, take, drop, drop-cons, get_or, refl, ap, sym, ◌∙◌, append_assoc, add-one, length-append}
 use Rattle.std.proofs.Math.Seq.{take-suc}
 use Rattle.std.proofs.lemmas.List.{append-nil}
 use Rattle.std.specs.Prelude.{Result, Ok, Err}
 use Rattle.serde_json.specs.Data.{Data, Items, item}
-use Rattle.serde_json.specs.View.{view, items_view}
-use Rattle.serde_json.specs.declared.value.Value.{Value}
+use Rattle.serde_json.specs.View.{items_of}
 use Rattle.pm_list.specs.Readings.{◌>>=◌}
 use Rattle.pm_schema.specs.declared.spec.SchemaSpec.{SchemaSpec}
 use Rattle.pm_tokens.specs.Tokens.{Token}
@@ -58,11 +57,11 @@ tokens-more ns i n within is =
     let taken : take (i + 1) ns ≡ take i ns ++ n ∷ [] = rw add-one (take-suc ns i n within ∙ ap (λ x. take i ns ++ x ∷ []) (sym is)) in
     ap (λ xs. length (nodes_tokens xs)) taken ∙ ap length (nodes_tokens-last (take i ns) n) ∙ length-append (nodes_tokens (take i ns)) (node_tokens n)
 
-pub node_list-step : (s : SchemaSpec) (l : LeafContent) (ns ms : List Node) (n : Node) (vs : List Value) (i : ℕ) (v : Value) (whole : Result (List Token) DocReadError) → i < length vs → v ≡ get_or vs i v → node_of s l (view v) ≡ Ok n → ms ≡ ns ++ n ∷ []
-    → with_tokens (nodes_tokens ns) (node_list s l (items_view (drop i vs))) ≡ whole → with_tokens (nodes_tokens ms) (node_list s l (items_view (drop (i + 1) vs))) ≡ whole
-node_list-step s l ns ms n vs i v whole within is read more h =
-    let split : drop i vs ≡ v ∷ drop (i + 1) vs = rw add-one (drop-cons vs i v within ∙ ap (λ x. x ∷ drop (suc i) vs) (sym is)) in
-    ap (λ xs. with_tokens (nodes_tokens xs) (node_list s l (items_view (drop (i + 1) vs)))) more
-    ∙ node_list-more s l ns n (view v) (items_view (drop (i + 1) vs)) read
-    ∙ ap (λ xs. with_tokens (nodes_tokens ns) (node_list s l (items_view xs))) (sym split)
+pub node_list-step : {X : Type 0} (seen : X → Data) (s : SchemaSpec) (l : LeafContent) (ns ms : List Node) (n : Node) (xs : List X) (i : ℕ) (x : X) (whole : Result (List Token) DocReadError) → i < length xs → x ≡ get_or xs i x → node_of s l (seen x) ≡ Ok n → ms ≡ ns ++ n ∷ []
+    → with_tokens (nodes_tokens ns) (node_list s l (items_of (map seen (drop i xs)))) ≡ whole → with_tokens (nodes_tokens ms) (node_list s l (items_of (map seen (drop (i + 1) xs)))) ≡ whole
+node_list-step seen s l ns ms n xs i x whole within is read more h =
+    let split : drop i xs ≡ x ∷ drop (i + 1) xs = rw add-one (drop-cons xs i x within ∙ ap (λ y. y ∷ drop (suc i) xs) (sym is)) in
+    ap (λ ys. with_tokens (nodes_tokens ys) (node_list s l (items_of (map seen (drop (i + 1) xs))))) more
+    ∙ node_list-more s l ns n (seen x) (items_of (map seen (drop (i + 1) xs))) read
+    ∙ ap (λ ys. with_tokens (nodes_tokens ns) (node_list s l (items_of (map seen ys)))) (sym split)
     ∙ h

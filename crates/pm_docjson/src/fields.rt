@@ -1,15 +1,17 @@
 //! The fields of a JSON object.
-ghost use Rattle.std.specs.Prelude.{◌≡◌, option_map};
-ghost use Rattle.serde_json.specs.View.{view};
+ghost use Rattle.std.specs.Prelude.{◌≡◌, option_map, option_and_then};
+ghost use Rattle.serde_json.specs.Find.{as_str};
+ghost use Rattle.pm_list.specs.Readings.{or_fault};
+ghost use Rattle.pm_docjson.specs.declared.fault.DocReadError.TheVariants.{Shape};
 ghost use Rattle.pm_docjson.specs.Answers.{Gives};
-ghost use Rattle.pm_docjson.specs.Fields.{field, text_at};
+ghost use Rattle.pm_docjson.specs.Fields.{field};
 
 use crate::fault::DocReadError;
-use serde_json::Value;
+use pm_json::JsonRef;
 
 /// A field that may be absent, which null stands for too.
-pub fn field<'a>(json: &'a Value, key: &str) -> Option<&'a Value>
-    ensures { option_map (λ v. view v.now) result ≡ field key.now (view json.now) }
+pub fn field<J: JsonRef>(json: J, key: &str) -> Option<J>
+    ensures { option_map J.seen result ≡ field key.now (J.seen json) }
 {
     match json.get(key) {
         Some(value) => if value.is_null() { None } else { Some(value) },
@@ -17,11 +19,11 @@ pub fn field<'a>(json: &'a Value, key: &str) -> Option<&'a Value>
     }
 }
 
-/// A text that must be there.
-pub fn text_at<'a>(json: &'a Value, key: &str) -> Result<&'a str, DocReadError>
-    ensures { Gives (λ s. s.now) result (text_at key.now (view json.now)) }
+/// The text of a field that must be there.
+pub fn text_of<J: JsonRef>(field: &Option<J>) -> Result<&str, DocReadError>
+    ensures { Gives (λ s. s.now) result (or_fault Shape (option_and_then as_str (option_map J.seen field.now))) }
 {
-    match json.get(key) {
+    match field {
         Some(value) => match value.as_str() {
             Some(text) => Ok(text),
             None => Err(DocReadError::Shape),

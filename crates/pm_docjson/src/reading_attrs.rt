@@ -1,35 +1,35 @@
 //! JSON values as attributes.
-ghost use Rattle.std.specs.Prelude.{◌≡◌, ◌++◌, ◌∷◌, [], codes, OnOk};
-ghost use Rattle.serde_json.specs.View.{view, members_view};
+ghost use Rattle.std.specs.Prelude.{◌≡◌, ◌++◌, ◌∷◌, [], codes, map, OnOk};
 ghost use Rattle.pm_list.specs.Readings.{or_fault};
 ghost use Rattle.pm_value.specs.Views.{plain};
+ghost use Rattle.pm_value.specs.Reading.{value_of};
+ghost use Rattle.pm_json.specs.Members.{members_of};
 ghost use Rattle.pm_schema.specs.Attrs.{IsType, attrs_of, pairs_of};
 ghost use Rattle.pm_docjson.specs.declared.fault.DocReadError.TheVariants.{Attr};
 ghost use Rattle.pm_docjson.specs.Answers.{Gives};
 ghost use Rattle.pm_docjson.specs.Fields.{field};
 ghost use Rattle.pm_docjson.specs.Values.{values_for};
 ghost use Rattle.pm_docjson.specs.Reading.{as_attr, given_in, given_at, attrs_read};
-ghost use Rattle.pm_value.specs.Reading.{value_of};
 
 use crate::fault::DocReadError;
 use crate::fields::field;
+use pm_json::JsonRef;
 use pm_schema::{AnyType, AttrError, Attrs, Schema};
 use pm_value::{Value, ValueError};
-use serde_json::{Map, Value as Json};
 use std::alloc::{AllocError, Global};
 
 /// The attributes of a type, where the field `attrs` of the JSON value gives their values; without the field none is given. `Shape`
 /// comes where the field is no object; `Attr` where a value can't be read, is missing without a default, is of no attribute of
 /// the type, or of no kind that its attribute names.
 #[tactic(auto, unfolding(crate::specs::Reading::attrs_read))]
-pub fn read_attrs(
+pub fn read_attrs<J: JsonRef>(
     alloc: Global,
     schema: &Schema,
     kind: AnyType,
-    json: &Json,
+    json: J,
 ) -> Result<Attrs, DocReadError>
     requires { IsType schema.now.spec kind }
-    ensures { Gives (λ a. a) result (attrs_read (attrs_of schema.now.spec kind) (field (codes "attrs") (view json.now))) }
+    ensures { Gives (λ a. a) result (attrs_read (attrs_of schema.now.spec kind) (field (codes "attrs") (J.seen json))) }
 {
     let given = given_at(alloc, json)?;
     values_for(alloc, schema, kind, given)
@@ -56,38 +56,38 @@ fn values_for(
 
 /// The values that the field `attrs` gives, each under its name.
 #[tactic(auto, unfolding(crate::specs::Reading::given_at))]
-fn given_at(alloc: Global, json: &Json) -> Result<Vec<(String, Value)>, DocReadError>
-    ensures { Gives (λ v. pairs_of v.items) result (given_at (field (codes "attrs") (view json.now))) }
+fn given_at<J: JsonRef>(alloc: Global, json: J) -> Result<Vec<(String, Value)>, DocReadError>
+    ensures { Gives (λ v. pairs_of v.items) result (given_at (field (codes "attrs") (J.seen json))) }
 {
     match field(json, "attrs") {
         None => Ok(Vec::new(alloc)),
-        Some(value) => match value.as_object() {
-            Some(members) => given_in(alloc, members),
+        Some(value) => match value.members(alloc)? {
+            Some(members) => given_in(alloc, members.as_slice()),
             None => Err(DocReadError::Shape),
         },
     }
 }
 
 #[tactic(auto, using(crate::proofs::Fronts::given), unfolding(crate::specs::Reading::given_in))]
-fn given_in(
+fn given_in<J: JsonRef>(
     alloc: Global,
-    members: &Map<String, Json>,
+    members: &[(&str, J)],
 ) -> Result<Vec<(String, Value)>, DocReadError>
-    ensures { Gives (λ v. pairs_of v.items) result (given_in (members_view members.now.entries)) }
+    ensures { Gives (λ v. pairs_of v.items) result (given_in (members_of (map (λ m. (m.0.now, J.seen m.1)) members.now))) }
 {
-    let mut given = Vec::new(alloc);
-    for (name, json) in members.iter() {
+    let mut given = Vec::with_capacity(alloc, members.len())?;
+    for &(name, json) in members {
         let value = attr_value(alloc, json)?;
-        push_given(alloc, &mut given, name.as_str(), value)?;
+        push_given(alloc, &mut given, name, value)?;
     }
     Ok(given)
 }
 
 /// The value of an attribute.
-fn attr_value(alloc: Global, json: &Json) -> Result<Value, DocReadError>
-    ensures { Gives plain result (as_attr (value_of (view json.now))) }
+fn attr_value<J: JsonRef>(alloc: Global, json: J) -> Result<Value, DocReadError>
+    ensures { Gives plain result (as_attr (value_of (J.seen json))) }
 {
-    match Value::from_json(alloc, json) {
+    match json.value(alloc) {
         Ok(value) => Ok(value),
         Err(ValueError::NoMemory) => Err(DocReadError::NoMemory),
         Err(_) => Err(DocReadError::Attr),

@@ -24,7 +24,6 @@ use pm_auto::TypeId;
 use pm_marks::Mark;
 use pm_node::{Body, Children, Fragment, Node, Units};
 use pm_schema::{AnyType, Schema};
-use pm_text::{TextError, text_of};
 use serde_json::{Map, Value as Json, put};
 use std::alloc::{AllocError, Global};
 
@@ -120,19 +119,12 @@ pub(crate) fn text_json(
 }
 
 /// The text that the units spell, with U+FFFD for each unit of no pair.
-#[tactic(auto, unfolding(pm_text::specs::Units::utf8))]
 fn text_value(alloc: Global, units: &Units) -> Result<Json, AllocError>
     ensures written { IfOk result (λ j. view j ≡ string (utf8 units.now)) }
     ensures units { OnOk result (HasNoLone units.now → utf16 (utf8 units.now) ≡ units.now) }
 {
-    match text_of(alloc, units.as_slice()) {
-        Ok(text) => Ok(string_json(text)),
-        Err(TextError::NoMemory) => Err(AllocError),
-        Err(TextError::Lone { at: _ }) => {
-            let text = String::from_utf16_lossy(alloc, units.as_slice())?;
-            Ok(string_json(text))
-        }
-    }
+    let text = units.lossy_text(alloc)?;
+    Ok(string_json(text))
 }
 
 /// The JSON value of a text. It takes no memory.

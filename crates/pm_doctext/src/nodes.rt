@@ -1,5 +1,6 @@
 //! Nodes and texts, without what stands in them.
 ghost use Rattle.std.specs.Prelude.{◌≡◌, ◌++◌, codes, OnOk, string_bytes};
+ghost use Rattle.pm_tokens.specs.Scan.{part};
 ghost use Rattle.pm_doctext.specs.Texts.{front_text, back_text, run_text, start_text, end_text, part_text, opens};
 ghost use Rattle.pm_view.specs.Parts.{seen};
 
@@ -108,12 +109,12 @@ fn push_run(
     text: &mut String,
     run: TextRun<'_>,
 ) -> Result<(), AllocError>
-    ensures { OnOk result (string_bytes text.new ≡ string_bytes text.old ++ run_text schema.now.spec run.entry.units.now run.entry.marks.now) }
+    ensures { OnOk result (string_bytes text.new ≡ string_bytes text.old ++ run_text schema.now.spec (part run.entry.from run.entry.to run.entry.units.now) run.entry.marks.now) }
 {
     text.push_str("{")?;
     push_marks(alloc, schema, text, run.marks.marks())?;
     text.push_str("\"text\":")?;
-    push_units(alloc, text, run.units)?;
+    push_units(alloc, text, run.units, run.from, run.to)?;
     text.push_str(",")?;
     push_type(alloc, text, text_name(schema))
 }

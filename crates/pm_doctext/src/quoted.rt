@@ -2,8 +2,9 @@
 ghost use Rattle.std.specs.Prelude.{◌≡◌, [], ◌∷◌, ◌++◌, true, false, OnOk, string_bytes};
 ghost use Rattle.json.specs.Print.{escape, escape_byte, quoted};
 ghost use Rattle.pm_text.specs.Units.{utf8};
+ghost use Rattle.pm_tokens.specs.Scan.{part};
 
-use pm_text::{TextError, text_of};
+use pm_node::Units;
 use serde_json::Value as Json;
 use std::alloc::{AllocError, Global};
 
@@ -56,17 +57,16 @@ fn is_escaped(byte: u8) -> bool
     byte < 32 || byte == 34 || byte == 92
 }
 
-/// Puts the text that the units spell behind the text, as a string of JSON, with U+FFFD for each unit of no pair.
-#[tactic(auto, unfolding(pm_text::specs::Units::utf8))]
-pub(crate) fn push_units(alloc: Global, text: &mut String, units: &[u16]) -> Result<(), AllocError>
-    ensures { OnOk result (string_bytes text.new ≡ string_bytes text.old ++ quoted (utf8 units.now)) }
+/// Puts the text that the units from..to spell after the text, as a string of JSON, with U+FFFD for each unit of no pair.
+pub(crate) fn push_units(
+    alloc: Global,
+    text: &mut String,
+    units: &Units,
+    from: usize,
+    to: usize,
+) -> Result<(), AllocError>
+    ensures { OnOk result (string_bytes text.new ≡ string_bytes text.old ++ quoted (utf8 (part from to units.now))) }
 {
-    match text_of(alloc, units) {
-        Ok(word) => push_quoted(alloc, text, word.as_str()),
-        Err(TextError::NoMemory) => Err(AllocError),
-        Err(TextError::Lone { at: _ }) => {
-            let word = String::from_utf16_lossy(alloc, units)?;
-            push_quoted(alloc, text, word.as_str())
-        }
-    }
+    let word = units.part_text(alloc, from, to)?;
+    push_quoted(alloc, text, word.as_str())
 }

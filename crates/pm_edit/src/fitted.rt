@@ -19,7 +19,6 @@ use pm_node::{Document, Node, Units};
 use pm_schema::Schema;
 use pm_slice::Slice;
 use pm_step::Step;
-use pm_text::units_of;
 use std::alloc::Global;
 
 /// Puts a text in place of from..to, with the marks that stand at `from`; an empty text takes the range out. `Range` comes
@@ -100,7 +99,7 @@ pub fn text_edited(
     if !in_range(doc, from, to) {
         return Err(MakeError::NoStep(NoStep::Range));
     }
-    let units = Units::new(units_of(alloc, text)?);
+    let units = Units::of_text(alloc, text)?;
     if from == to && units.len() == 0 {
         return Err(MakeError::NoStep(NoStep::NotThere));
     }

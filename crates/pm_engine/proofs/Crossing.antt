@@ -13,6 +13,7 @@ use Rattle.pm_meaning.specs.contracts.reason.Reason as reason
 use Rattle.pm_schema.specs.contracts.schema.Schema as schema
 use Rattle.pm_authority.specs.contracts.message.Answer as answer
 pub use Rattle.pm_apply.proofs.Crossing.{change_send, schema_sync}
+pub use Rattle.pm_apply.specs.contracts.change.DocChangeChange.TheImpl.{ghosts as change_ghosts}
 pub use Rattle.pm_authority.specs.contracts.machine.AuthorityMachine.TheImpl.{ghosts as authority_ghosts, no_dict as no_dict}
 pub use Rattle.pm_desk.proofs.desk.Desk.TheSendSync.{the_sync as desk_sync}
 pub use Rattle.pm_desk.proofs.desk.Seat.TheSendSync.{the_send as seat_send}

@@ -23,8 +23,7 @@ pub mod standing;
 // Values of attributes, and the kinds that an attribute may be kept to.
 pub use pm_value::{Kinds, Text, Value, ValueError};
 
-// Schemas, and reading one from its JSON value, in any form of which a `JsonRef` tells.
-pub use pm_json::JsonRef;
+// Schemas, and reading one from its JSON value.
 pub use pm_schema::{
     AttrError, AttrSpec, AttrSpecs, Attrs, MarkSpec, NodeSpec, Schema, SchemaError, SchemaSpec,
 };
@@ -37,10 +36,11 @@ pub use pm_node::{
 };
 pub use pm_slice::{CutError, Slice, cut};
 
-// JSON: its values, what is read from them, and what is written to them and to texts.
+// JSON: its values, what is read from them in any form of which a `JsonRef` tells, and what is written to them and to texts.
 pub use pm_docjson::{
     DocReadError, document_text, node_text, read_mark, read_node, write_mark, write_node,
 };
+pub use pm_json::JsonRef;
 pub use pm_slicejson::{read_slice, write_slice};
 pub use pm_stepjson::{StepReadError, read_step, step_text, write_step};
 pub use serde_json::Value as Json;

@@ -1,13 +1,16 @@
 //! Calls of a client that stands to the log of an authority in the same program.
-ghost use Rattle.std.specs.Prelude.{◌≡◌, ◌↔◌, ◌<◌, ◌≤◌, [], false, Ok, Err, Some, None, IfOk, IfErr, OnErr, length};
+ghost use Rattle.std.specs.Prelude.{◌≡◌, ◌↔◌, ◌<◌, ◌≤◌, [], false, Ok, Err, Some, None, IfOk, IfErr, OnOk, OnErr, length};
 ghost use Rattle.pm_authority.specs.Kept.{IsKept};
 ghost use Rattle.pm_client.specs.Causes.{IsTaken};
 ghost use Rattle.pm_client.specs.Clients.{edited, undone_last, undone_event, answer_at, taken_at, IsRefusal};
 ghost use Rattle.pm_client.specs.Kins.{Kin};
+ghost use Rattle.pm_client.specs.TokenNames.{KeepsTokens};
+ghost use Rattle.pm_client.specs.Undoings.{GivesBack, TurnsOver};
 ghost use Rattle.pm_client.specs.declared.client.Client.{Client};
 ghost use Rattle.pm_client.specs.declared.failing.UndoError.TheVariants.{NothingToUndo};
 ghost use Rattle.pm_client.specs.declared.taken.Taken.{Taken};
 ghost use Rattle.pm_client.specs.declared.taken.Taken.TheVariants.{Refused};
+ghost use Rattle.pm_history.specs.declared.turn.Turn.TheVariants.{Undo, UndoEvent};
 ghost use Rattle.pm_history.specs.Turns.{any_numbered};
 ghost use Rattle.pm_session.specs.Hosts.{EndsWith};
 ghost use Rattle.pm_engine.specs.Exchanges.{answered, keeper, Exchanged, LeftExchanging, SubmitsOld};
@@ -18,8 +21,9 @@ use pm_client::{Client, EditError, MessageKind, Taken, UndoError};
 use std::alloc::{AllocError, Global};
 
 /// Makes these steps on the client's document, as `Client::edit` does, in an event of their own. The client must stand to
-/// the authority's log, and goes on standing to it. It tells the number of steps. `Refused` comes exactly where one of the
-/// steps does not apply, and names the first. Then, and for want of memory, the client is as it was.
+/// the authority's log, and goes on standing to it. There must be at least one step. It tells the number of steps. `Refused`
+/// comes exactly where one of the steps does not apply, and names the first. Then, and for want of memory, the client is as it
+/// was.
 pub fn edit<C: Change>(
     alloc: Global,
     rules: &C::Rules,
@@ -27,12 +31,15 @@ pub fn edit<C: Change>(
     client: &mut Client<C>,
     steps: Vec<C>,
 ) -> Result<u64, EditError<C::Reason>>
-    requires { Kin C.means rules.now authority.now.first authority.now.log client.old }
+    requires stands { Kin C.means rules.now authority.now.first authority.now.log client.old }
+    requires some { 0 < length steps.items }
     ensures count { IfOk result (λ n. n ≡ length steps.items) }
     ensures made { IfOk result (λ n. edited C.means rules.now client.old steps.items None ≡ Ok client.new) }
     ensures refused { IfErr result (IsRefusal C.means rules.now (edited C.means rules.now client.old steps.items None)) }
     ensures err { OnErr result (client.new ≡ client.old) }
     ensures stands { Kin C.means rules.now authority.now.first authority.now.log client.new }
+    // A cursor with side `After` that stood before a token stands before it, where that is still there.
+    ensures tokens { OnOk result (KeepsTokens C.means authority.now.log client.old client.new (C.means.size client.old.base)) }
     ensures name { client.new.name ≡ client.old.name }
 {
     let _ = authority.log();
@@ -53,6 +60,14 @@ pub fn undo<C: Change>(
     ensures nothing { (result ≡ Err NothingToUndo) ↔ (client.old.history.undo ≡ []) }
     ensures err { OnErr result (client.new ≡ client.old) }
     ensures stands { Kin C.means rules.now authority.now.first authority.now.log client.new }
+    // Where nothing has changed since the event, its earlier document is given back.
+    ensures restores { OnOk result ((kin : Kin C.means rules.now authority.now.first authority.now.log client.old)
+        → GivesBack C.means rules.now Undo client.old authority.now.first kin.timeline client.new.doc) }
+    // It is the undo of the event over the client's whole timeline.
+    ensures whole { IfOk result (λ n. (kin : Kin C.means rules.now authority.now.first authority.now.log client.old)
+        → TurnsOver C.means rules.now Undo client.old authority.now.first kin.timeline n client.new) }
+    // A cursor with side `After` that stood before a token stands before it, where that is still there.
+    ensures tokens { OnOk result (KeepsTokens C.means authority.now.log client.old client.new (C.means.size client.old.base)) }
     ensures name { client.new.name ≡ client.old.name }
 {
     // A log that is held has a length of 64 bits.
@@ -75,6 +90,14 @@ pub fn undo_event<C: Change>(
     ensures nothing { (result ≡ Err NothingToUndo) ↔ (any_numbered number client.old.history.undo ≡ false) }
     ensures err { OnErr result (client.new ≡ client.old) }
     ensures stands { Kin C.means rules.now authority.now.first authority.now.log client.new }
+    // Where nothing has changed since the event, its earlier document is given back.
+    ensures restores { OnOk result ((kin : Kin C.means rules.now authority.now.first authority.now.log client.old)
+        → GivesBack C.means rules.now (UndoEvent number) client.old authority.now.first kin.timeline client.new.doc) }
+    // It is the undo of the event over the client's whole timeline.
+    ensures whole { IfOk result (λ n. (kin : Kin C.means rules.now authority.now.first authority.now.log client.old)
+        → TurnsOver C.means rules.now (UndoEvent number) client.old authority.now.first kin.timeline n client.new) }
+    // A cursor with side `After` that stood before a token stands before it, where that is still there.
+    ensures tokens { OnOk result (KeepsTokens C.means authority.now.log client.old client.new (C.means.size client.old.base)) }
     ensures name { client.new.name ≡ client.old.name }
 {
     // A log that is held has a length of 64 bits.

@@ -5,9 +5,6 @@
 //! Proved: `generate` gives exactly the text that two counts and a number make (`generated`), `summary` exactly the
 //! five lines, and `asked_of` reads the three words, one to twenty digits each and within the limits. That the text is
 //! a session is the law of pm_gen_laws.
-//!
-//! Its tests compare two sessions with those that a program of its own made: one of two clients, and one of 10,000
-//! lines.
 #![tactic(auto)]
 
 mod asking;
@@ -16,8 +13,6 @@ mod drawing;
 mod lines;
 mod session;
 mod summing;
-#[cfg(test)]
-mod tests;
 mod turns;
 
 pub use asking::{Asked, asked_of, number_of};

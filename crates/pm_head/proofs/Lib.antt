@@ -1,7 +1,7 @@
 pub mod Split
 pub mod Counts
 pub mod Missing
-pub mod AtOnce
+pub mod LineTexts
 mod OneSchema
 mod TwinFills
 pub mod SameNodes

@@ -73,10 +73,6 @@ abbrev pub DocIs : Schema → Data → Result Doc Code → Type 0
 DocIs s d (Ok doc) = (n : Node) × TopNode s d (Ok n) × (may_be_first s n ≡ true) × (doc ≡ doc_of n)
 DocIs s d (Err code) = TopNode s d (Err code) ⊎ ((n : Node) × TopNode s d (Ok n) × (may_be_first s n ≡ false) × (code ≡ InvalidDocument))
 
--- the line is a JSON value that writes this node
-abbrev pub WritesNode : Schema → List ℕ → Node → Type 0
-WritesNode s line n = (d : Data) × (json_line line ≡ Ok d) × (node_of s.spec Kept d ≡ Ok n)
-
 -- line 2
 abbrev pub DocLine : Schema → List ℕ → Result Doc Code → Type 0
 DocLine s line r = OfValue (DocIs s) (json_line line) r

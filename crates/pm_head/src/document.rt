@@ -1,21 +1,23 @@
 //! Line 2: the first document.
-ghost use Rattle.std.specs.Prelude.{◌≡◌, ◌<◌, length, IfOk, IfSome};
-ghost use Rattle.serde_json.specs.View.{view};
+ghost use Rattle.std.specs.Prelude.{◌≡◌, ◌<◌, length, IfOk, IfSome, Some};
+ghost use Rattle.json.specs.Value.{value_view};
+ghost use Rattle.serde_json.specs.Data.{Data};
+ghost use Rattle.serde_json.specs.Read.{of_json};
 ghost use Rattle.pm_tokens.specs.Faults.{Valid};
 ghost use Rattle.pm_schema.specs.Documents.{documents_of};
 ghost use Rattle.pm_head.specs.Answers.{Finds};
-ghost use Rattle.pm_head.specs.Documents.{FilledTop, TopNode, DocFrom, DocIs, DocLine, WritesNode, top_of};
+ghost use Rattle.pm_head.specs.Documents.{FilledTop, TopNode, DocFrom, DocIs, DocLine, top_of};
 
 use crate::code::Code;
 use crate::codes::{fill_code, node_code};
 use crate::fault::LineError;
-use crate::lines::{json_line, line_text};
+use crate::lines::{json_line, tree_line};
+use json::{Scratch, Value as Tree};
 use pm_auto::TypeId;
 use pm_docjson::read_node;
-use pm_doctree::node_in;
+use pm_json::{JsonRef, TreeRef};
 use pm_node::{CheckError, Document, Node, make_filled};
 use pm_schema::Schema;
-use serde_json::Value;
 use std::alloc::{AllocError, Global};
 
 /// The first document: the one that line 2 writes, or the top type filled where it is null. An error says the code of its
@@ -24,25 +26,45 @@ pub fn doc_line(alloc: Global, schema: &Schema, line: &[u8]) -> Result<Document,
     ensures read { Finds (DocLine schema.now line.now) result }
     ensures valid { IfOk result (Valid (documents_of schema.now.spec)) }
 {
-    if let Some(node) = node_at_once(alloc, schema, line)? {
-        return doc_from(alloc, schema, node);
+    match doc_at_once(alloc, schema, line) {
+        Some(read) => read,
+        None => {
+            let json = json_line(alloc, line)?;
+            doc_of(alloc, schema, &json)
+        }
     }
-    let json = json_line(alloc, line)?;
-    doc_of(alloc, schema, &json)
 }
 
-/// The node that the line writes, where it is read without a value of the whole line.
-fn node_at_once(alloc: Global, schema: &Schema, line: &[u8]) -> Result<Option<Node>, AllocError>
-    ensures { IfOk result (λ o. IfSome o (WritesNode schema.now line.now)) }
+/// What is read of the line without a value of it. A line that is no JSON is left, and gets its code as a value.
+fn doc_at_once(alloc: Global, schema: &Schema, line: &[u8]) -> Option<Result<Document, LineError>>
+    ensures read { IfSome result (Finds (DocLine schema.now line.now)) }
+    ensures valid { IfSome result (λ r. IfOk r (Valid (documents_of schema.now.spec))) }
 {
-    match line_text(line) {
-        Some(text) => node_in(alloc, schema, text),
-        None => Ok(None),
+    let mut scratch = Scratch::new(alloc);
+    match tree_line(alloc, line, &mut scratch) {
+        Ok(Some(tree)) => doc_of_tree(alloc, schema, &tree),
+        Ok(None) => None,
+        Err(AllocError) => Some(Err(LineError::NoMemory)),
     }
 }
 
-fn doc_of(alloc: Global, schema: &Schema, json: &Value) -> Result<Document, LineError>
-    ensures read { Finds (DocIs schema.now (view json.now)) result }
+/// What is read of a tree, where each number in it is in the range of one.
+fn doc_of_tree(
+    alloc: Global,
+    schema: &Schema,
+    tree: &Tree<'_>,
+) -> Option<Result<Document, LineError>>
+    ensures read { IfSome result (λ r. (d : Data) × (of_json (value_view tree.now) ≡ Some d) × Finds (DocIs schema.now d) r) }
+    ensures valid { IfSome result (λ r. IfOk r (Valid (documents_of schema.now.spec))) }
+{
+    match TreeRef::new(tree) {
+        Some(json) => Some(doc_of(alloc, schema, json)),
+        None => None,
+    }
+}
+
+fn doc_of<J: JsonRef>(alloc: Global, schema: &Schema, json: J) -> Result<Document, LineError>
+    ensures read { Finds (DocIs schema.now (J.seen json)) result }
     ensures valid { IfOk result (Valid (documents_of schema.now.spec)) }
 {
     let node = top_node(alloc, schema, json)?;
@@ -74,8 +96,8 @@ fn top_type(schema: &Schema) -> TypeId
 }
 
 /// The top node of the first document.
-fn top_node(alloc: Global, schema: &Schema, json: &Value) -> Result<Node, LineError>
-    ensures { Finds (TopNode schema.now (view json.now)) result }
+fn top_node<J: JsonRef>(alloc: Global, schema: &Schema, json: J) -> Result<Node, LineError>
+    ensures { Finds (TopNode schema.now (J.seen json)) result }
 {
     if json.is_null() {
         return filled_top(alloc, schema);

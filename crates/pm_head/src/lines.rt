@@ -1,13 +1,16 @@
 //! The lines of an input, and the JSON value of a line.
 ghost use Rattle.std.specs.Prelude.{◌≡◌, ◌<◌, [], ◌∷◌, ◌==◌, length, position, option_map, MatchOption, IfOk, IfSome, Some, Ok};
+ghost use Rattle.json.specs.Value.{value_view};
 ghost use Rattle.serde_json.specs.Data.{Data};
-ghost use Rattle.serde_json.specs.Read.{read};
+ghost use Rattle.serde_json.specs.Read.{of_json, read};
 ghost use Rattle.serde_json.specs.View.{view};
 ghost use Rattle.pm_head.specs.Answers.{Gives};
 ghost use Rattle.pm_head.specs.Lines.{lines_of, json_of, json_line};
 
 use crate::code::Code;
 use crate::fault::LineError;
+use json::{Scratch, Value as Tree};
+use pm_json::tree_in;
 use serde_json::Value;
 use std::alloc::{AllocError, Global};
 use std::str;
@@ -66,8 +69,22 @@ pub fn json_line(alloc: Global, line: &[u8]) -> Result<Value, LineError>
     }
 }
 
+/// The tree that the line writes, where it is read without a value of the whole line.
+pub(crate) fn tree_line<'a>(
+    alloc: Global,
+    line: &'a [u8],
+    scratch: &'a mut Scratch,
+) -> Result<Option<Tree<'a>>, AllocError>
+    ensures { IfOk result (λ o. IfSome o (λ t. (d : Data) → of_json (value_view t) ≡ Some d → json_line line.now ≡ Ok d)) }
+{
+    match line_text(line) {
+        Some(text) => tree_in(alloc, text, scratch),
+        None => Ok(None),
+    }
+}
+
 /// The text of a line that is short enough and UTF-8. A value that the text writes is the line's.
-pub(crate) fn line_text(line: &[u8]) -> Option<&str>
+fn line_text(line: &[u8]) -> Option<&str>
     ensures { IfSome result (λ t. (d : Data) → read t.now ≡ Some d → json_line line.now ≡ Ok d) }
 {
     if line.len() > MAX_LINE {

@@ -1,17 +1,16 @@
 //! Line 1: the schema.
-ghost use Rattle.std.specs.Prelude.{◌≡◌, Some, Ok, IfOk, IfSome};
+ghost use Rattle.std.specs.Prelude.{◌≡◌, Some, IfSome};
 ghost use Rattle.json.specs.Value.{value_view};
 ghost use Rattle.serde_json.specs.Data.{Data};
 ghost use Rattle.serde_json.specs.Read.{of_json};
 ghost use Rattle.pm_head.specs.Answers.{Finds};
-ghost use Rattle.pm_head.specs.Lines.{json_line};
 ghost use Rattle.pm_head.specs.Schemas.{SchemaIs, SchemaLine};
 
 use crate::codes::schema_code;
 use crate::fault::LineError;
-use crate::lines::{json_line, line_text};
+use crate::lines::{json_line, tree_line};
 use json::{Scratch, Value as Tree};
-use pm_json::{JsonRef, TreeRef, tree_in};
+use pm_json::{JsonRef, TreeRef};
 use pm_schema::Schema;
 use pm_schemajson::read_schema;
 use std::alloc::{AllocError, Global};
@@ -41,20 +40,6 @@ fn schema_at_once(alloc: Global, line: &[u8]) -> Option<Result<Schema, LineError
     }
 }
 
-/// The tree that the line writes, where it is read without a value of the whole line.
-fn tree_line<'a>(
-    alloc: Global,
-    line: &'a [u8],
-    scratch: &'a mut Scratch,
-) -> Result<Option<Tree<'a>>, AllocError>
-    ensures { IfOk result (λ o. IfSome o (λ t. (d : Data) → of_json (value_view t) ≡ Some d → json_line line.now ≡ Ok d)) }
-{
-    match line_text(line) {
-        Some(text) => tree_in(alloc, text, scratch),
-        None => Ok(None),
-    }
-}
-
 /// What is read of a tree, where each number in it is in the range of one.
 fn schema_of_tree(alloc: Global, tree: &Tree<'_>) -> Option<Result<Schema, LineError>>
     ensures { IfSome result (λ r. (d : Data) × (of_json (value_view tree.now) ≡ Some d) × Finds (SchemaIs d) r) }
@@ -65,7 +50,7 @@ fn schema_of_tree(alloc: Global, tree: &Tree<'_>) -> Option<Result<Schema, LineE
     }
 }
 
-fn schema_of<'a, J: JsonRef<'a>>(alloc: Global, json: J) -> Result<Schema, LineError>
+fn schema_of<J: JsonRef>(alloc: Global, json: J) -> Result<Schema, LineError>
     ensures { Finds (SchemaIs (J.seen json)) result }
 {
     match read_schema(alloc, json) {

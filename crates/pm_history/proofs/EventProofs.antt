@@ -1,14 +1,18 @@
 -- The laws of events.
-use Rattle.std.specs.Prelude.{◌≡◌, ℕ, ◌&&◌, not, Bool, true, false, if◌then◌else◌, List, [], ◌∷◌, ◌++◌, length, Option, Some, None, refl}
-use Rattle.std.proofs.Common.{sym, ap, ◌∙◌, arith}
+use Rattle.std.specs.Prelude.{◌≡◌, ℕ, ◌+◌, ◌-◌, ◌&&◌, ◌||◌, not, Bool, true, false, if◌then◌else◌, List, [], ◌∷◌, ◌++◌, length, map, take, drop, Option, Some, None, refl}
+use Rattle.std.specs.List.{list_any, filter}
+use Rattle.std.proofs.Common.{sym, ap, ◌∙◌, length-append, arith}
+use Rattle.std.proofs.lemmas.List.{take_at, drop_at}
 use Rattle.std.proofs.lemmas.Bool.{true≢false, eqb-true, eq-eqb, ne_eqb}
 use Rattle.pm_change.specs.declared.name.Name.{Name}
 use Rattle.pm_history.specs.declared.item.Item.{Item}
 use Rattle.pm_history.specs.declared.branch.Event.{Event}
 use Rattle.pm_history.specs.declared.branches.Branches.{Branches}
 use Rattle.pm_history.specs.declared.branches.MadeBy.TheVariants.{Edit}
-use Rattle.pm_history.specs.Histories.{event_of, extended, put_event, is_number, last_number, without_last, with_event, opens, recorded}
-use Rattle.pm_history.specs.EventLaws.{HasNumber, IsOpenFor, IsLastOf, EditsEvents, MovesEvents}
+use Rattle.pm_map.specs.declared.step_map.Span.{Span}
+use Rattle.pm_history.specs.Items.{one_step, foreign_item}
+use Rattle.pm_history.specs.Histories.{event_of, extended, put_event, is_number, last_number, without_last, with_event, opens, recorded, holds, is_dropped, still_named, without_dropped, foreign_items, last_items, rebased}
+use Rattle.pm_history.specs.EventLaws.{HasNumber, IsOpenFor, IsLastOf, EditsEvents, MovesEvents, any_is, is_off, without_off, RebasesEvents}
 use Rattle.pm_history.specs.Turns.{HaveLostNumbered}
 use Rattle.pm_history.proofs.Taken.{lost-last, lost-without, none-numbered}
 
@@ -61,6 +65,47 @@ both-true false b h = absurd (true≢false h)
 
 one-more : (es : List Event) (number : Option ℕ) (n : Name) (ns : List Name) → with_event es (event_of number (n ∷ ns)) ≡ es ++ event_of number (n ∷ ns) ∷ []
 one-more es number n ns = ap (λ t. if t then es else es ++ event_of number (n ∷ ns) ∷ []) (ne_eqb (length (n ∷ ns)) 0 (λ z. absurd (omega (arith, z))))
+
+module _ {C : Type 0} where
+  held-any : (n : Name) (items : List (Item C)) → holds n items ≡ any_is n items
+  held-any n [] = refl
+  held-any n (i ∷ is) = ap (λ t. one_step (Some n) i.name || t) (held-any n is)
+
+  dropped-off : (gone kept : List (Item C)) (n : Name) → is_dropped gone kept n ≡ is_off gone kept n
+  dropped-off gone kept n = ap (λ t. t && not (holds n kept)) (held-any n gone) ∙ ap (λ t. any_is n gone && not t) (held-any n kept)
+
+  still-off : (gone kept : List (Item C)) (ns : List Name) → still_named gone kept ns ≡ filter (λ n. not (is_off gone kept n)) ns
+  still-off gone kept [] = refl
+  still-off gone kept (n ∷ ns) = from (is_off gone kept n) (dropped-off gone kept n) (still-off gone kept ns)
+    where
+      from : (t : Bool) → is_dropped gone kept n ≡ t → still_named gone kept ns ≡ filter (λ x. not (is_off gone kept x)) ns
+          → (if is_dropped gone kept n then still_named gone kept ns else n ∷ still_named gone kept ns)
+          ≡ (if not t then n ∷ filter (λ x. not (is_off gone kept x)) ns else filter (λ x. not (is_off gone kept x)) ns)
+      from true q h = ap (λ t. if t then still_named gone kept ns else n ∷ still_named gone kept ns) q ∙ h
+      from false q h = ap (λ t. if t then still_named gone kept ns else n ∷ still_named gone kept ns) q ∙ ap (λ l. n ∷ l) h
+
+  events-off : (gone kept : List (Item C)) (es : List Event) → without_dropped gone kept es ≡ map (λ e. without_off gone kept e) es
+  events-off gone kept [] = refl
+  events-off gone kept (e ∷ es) =
+      ap (λ ns. event_of e.number ns ∷ without_dropped gone kept es) (still-off gone kept e.names)
+      ∙ ap (λ rest. without_off gone kept e ∷ rest) (events-off gone kept es)
+
+  foreign-map : (foreign : List (List Span)) → foreign_items foreign ≡ map (λ m. foreign_item {C = C} m) foreign
+  foreign-map [] = refl
+  foreign-map (m ∷ ms) = ap (λ is. foreign_item m ∷ is) (foreign-map ms)
+
+  pub rebased-events : (h : Branches C) (front gone kept : List (Item C)) (foreign : List (List Span)) → h.items ≡ front ++ gone → RebasesEvents h front gone foreign kept
+  rebased-events h front gone kept foreign s =
+      let n = length-append front gone in
+      let at : length front ≡ length h.items - length gone = omega (arith, n, ap length s) in
+      let last : last_items (length gone) h.items ≡ gone = ap (λ is. last_items (length gone) is) s ∙ drop_at front gone (length (front ++ gone) - length gone) (omega (arith, n)) in
+      record {
+        items_are = ap (λ is. is ++ (foreign_items foreign ++ kept)) (ap (take (length h.items - length gone)) s ∙ take_at front gone (length h.items - length gone) at)
+            ∙ ap (λ fs. front ++ (fs ++ kept)) (foreign-map foreign);
+        open_stays = refl;
+        undo_are = ap (λ g. without_dropped g kept h.undo) last ∙ events-off gone kept h.undo;
+        redo_are = ap (λ g. without_dropped g kept h.redo) last ∙ events-off gone kept h.redo;
+      }
 
 module _ {C : Type 0} (h : Branches C) where
   edit-joins : (event : Option ℕ) (rest : List Event) (e : Event) (n : Name) (ns : List Name) → IsOpenFor h event rest e

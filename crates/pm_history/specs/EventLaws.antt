@@ -1,18 +1,32 @@
--- What an edit and an undo do to the events, in words of lists of events.
-use Rattle.std.specs.Prelude.{◌≡◌, ◌≢◌, ℕ, true, false, List, [], ◌∷◌, ◌++◌, Option, Some}
-use Rattle.std.specs.List.{AllByRecursion as Each}
+-- What an edit, an undo and a rebase do to the events, in words of lists of events.
+use Rattle.std.specs.Prelude.{◌≡◌, ◌≢◌, ℕ, ◌&&◌, not, Bool, true, false, List, [], ◌∷◌, ◌++◌, length, map, Option, Some}
+use Rattle.std.specs.List.{AllByRecursion as Each, list_any, filter}
 use Rattle.pm_change.specs.declared.name.Name.{Name}
+use Rattle.pm_map.specs.declared.step_map.Span.{Span}
 use Rattle.pm_history.specs.declared.item.Item.{Item}
 use Rattle.pm_history.specs.declared.branch.Event.{Event}
 use Rattle.pm_history.specs.declared.branches.Branches.{Branches}
 use Rattle.pm_history.specs.declared.branches.MadeBy.TheVariants.{Edit}
 use Rattle.pm_history.specs.declared.turn.Turn.TheVariants.{Undo, Redo, UndoEvent}
-use Rattle.pm_history.specs.Histories.{event_of, names_in, recorded}
+use Rattle.pm_history.specs.Histories.{event_of, names_in, recorded, rebased}
+use Rattle.pm_history.specs.Items.{one_step, foreign_item}
 use Rattle.pm_history.specs.Turns.{event_for, undone}
 
 -- the edit has a number, and the event has the same
 abbrev pub HasNumber : Option ℕ → Event → Type 0
 HasNumber event e = (k : ℕ) × (event ≡ Some k) × (e.number ≡ Some k)
+
+-- whether one of these items is the step n
+abbrev pub any_is : {C : Type 0} → Name → List (Item C) → Bool
+any_is n items = list_any (λ i. one_step (Some n) i.name) items
+
+-- whether the step n stood among the items that are gone, and stands in none of those kept
+abbrev pub is_off : {C : Type 0} → List (Item C) → List (Item C) → Name → Bool
+is_off gone kept n = any_is n gone && not (any_is n kept)
+
+-- the event, with its number, without those of its steps that are off
+abbrev pub without_off : {C : Type 0} → List (Item C) → List (Item C) → Event → Event
+without_off gone kept e = event_of e.number (filter (λ n. not (is_off gone kept n)) e.names)
 
 module _ {C : Type 0} (h : Branches C) where
   -- the last event to undo is this one, it is open, and it has the edit's number
@@ -61,3 +75,13 @@ module _ {C : Type 0} (h : Branches C) where
     pub moved_event : (k : ℕ) (e : Event) (n : Name) (ns : List Name) → names_in items ≡ n ∷ ns
         → (undone (UndoEvent k) h (event_of e.number (names_in items)) items).redo ≡ h.redo ++ event_of e.number (n ∷ ns) ∷ []
     pub lost_event : (k : ℕ) (e : Event) → names_in items ≡ [] → (undone (UndoEvent k) h (event_of e.number (names_in items)) items).redo ≡ h.redo
+
+  -- what a rebase of the last items, `gone`, over foreign steps does to the events; `kept` are the items of the steps kept
+  pub record RebasesEvents (front gone : List (Item C)) (foreign : List (List Span)) (kept : List (Item C)) : Type 0 where
+    -- the items before them stay, and then stand the foreign steps and the steps kept
+    pub items_are : (rebased h (length gone) foreign kept).items ≡ front ++ (map (λ m. foreign_item m) foreign ++ kept)
+    -- The last event is open then exactly where it was.
+    pub open_stays : (rebased h (length gone) foreign kept).is_open ≡ h.is_open
+    -- Each event stands in its place, with its number, and has lost the steps that were dropped, and no other; also where none is left.
+    pub undo_are : (rebased h (length gone) foreign kept).undo ≡ map (λ e. without_off gone kept e) h.undo
+    pub redo_are : (rebased h (length gone) foreign kept).redo ≡ map (λ e. without_off gone kept e) h.redo

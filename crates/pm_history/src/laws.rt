@@ -1,8 +1,9 @@
 //! Laws of events. Each call does nothing; its contract is the law.
-ghost use Rattle.std.specs.Prelude.{◌≡◌, ℕ, List, Some};
+ghost use Rattle.std.specs.Prelude.{◌≡◌, ℕ, ◌++◌, List, Some};
 ghost use Rattle.pm_history.specs.declared.item.Item.{Item};
 ghost use Rattle.pm_change.specs.Changes.{fold};
-ghost use Rattle.pm_history.specs.EventLaws.{EditsEvents, MovesEvents};
+ghost use Rattle.pm_map.specs.declared.step_map.Span.{Span};
+ghost use Rattle.pm_history.specs.EventLaws.{EditsEvents, MovesEvents, RebasesEvents};
 ghost use Rattle.pm_history.specs.Remembers.{live_names};
 ghost use Rattle.pm_history.specs.Standing.{IsHistoryOf};
 ghost use Rattle.pm_history.specs.Timelines.{Step, changes_of};
@@ -23,6 +24,15 @@ pub fn edits_events<C: Change>(history: &Branches<C>)
 /// number. No event is open then. A redo does the same with the branches exchanged.
 pub fn moves_events<C: Change>(history: &Branches<C>)
     ensures { (items : List (Item C)) → MovesEvents history.now items }
+{
+    let _ = history;
+}
+
+/// A rebase leaves the last event open where it was, and no event open where none was. Each event keeps its place and its number.
+/// A step that was dropped, one of the last that was not kept, leaves its event; every other step stays.
+pub fn rebased_events<C: Change>(history: &Branches<C>)
+    ensures { (front gone kept : List (Item C)) (foreign : List (List Span)) → history.now.items ≡ front ++ gone
+        → RebasesEvents history.now front gone foreign kept }
 {
     let _ = history;
 }

@@ -4,7 +4,7 @@ use std::alloc::{AllocError, Global};
 
 /// A reference to a JSON value, in whichever form the value is held. A contract sees the value as `serde_json` reads it: each
 /// key of an object stands once, and the keys are in byte order.
-pub trait JsonRef<'a>: Copy + Drop {
+pub trait JsonRef: Copy + Drop {
     ghost use Rattle.std.specs.Prelude.{◌≡◌, ◌≤◌, map, option_map, option_and_then, is_some, IfOk, IfSome};
     ghost use Rattle.serde_json.specs.Data.{Data};
     ghost use Rattle.serde_json.specs.Find.{get, as_null, as_bool, as_number, as_u64, as_str, as_array, as_object};
@@ -41,16 +41,16 @@ pub trait JsonRef<'a>: Copy + Drop {
         ensures { result ≡ option_and_then as_u64 (as_number (seen self)) };
 
     /// The text, where it is one.
-    fn as_str(self) -> Option<&'a str>
-        ensures { option_map (λ s. s.now) result ≡ as_str (seen self) };
+    fn as_str(&self) -> Option<&str>
+        ensures { option_map (λ s. s.now) result ≡ as_str (seen self.now) };
 
     /// The items, where it is an array.
     fn items(self, alloc: Global) -> Result<Option<Vec<Self>>, AllocError>
         ensures { IfOk result (λ o. option_map (λ v. items_of (map seen v.items)) o ≡ as_array (seen self)) };
 
     /// The keys in byte order, each with its value, where it is an object.
-    fn members(self, alloc: Global) -> Result<Option<Vec<(&'a str, Self)>>, AllocError>
-        ensures members { IfOk result (λ o. option_map (λ v. members_of (map (λ m. (m.0.now, seen m.1)) v.items)) o ≡ as_object (seen self)) }
+    fn members(&self, alloc: Global) -> Result<Option<Vec<(&str, Self)>>, AllocError>
+        ensures members { IfOk result (λ o. option_map (λ v. members_of (map (λ m. (m.0.now, seen m.1)) v.items)) o ≡ as_object (seen self.now)) }
         ensures ordered { IfOk result (λ o. IfSome o (λ v. InOrder (map (λ m. m.0.now) v.items))) };
 
     /// The value of an attribute that it writes, or its first fault, as `Value::from_json` says them.

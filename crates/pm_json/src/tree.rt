@@ -34,7 +34,7 @@ impl<'t, 'a> TreeRef<'t, 'a> {
     }
 }
 
-impl<'t, 'a> JsonRef<'t> for TreeRef<'t, 'a> {
+impl<'t, 'a> JsonRef for TreeRef<'t, 'a> {
     ghost use Rattle.json.specs.Value.{value_view};
     ghost use Rattle.pm_json.specs.Members.{data_of};
 
@@ -66,7 +66,7 @@ impl<'t, 'a> JsonRef<'t> for TreeRef<'t, 'a> {
         }
     }
 
-    fn as_str(self) -> Option<&'t str> {
+    fn as_str(&self) -> Option<&str> {
         self.tree.as_str()
     }
 
@@ -81,7 +81,7 @@ impl<'t, 'a> JsonRef<'t> for TreeRef<'t, 'a> {
         Ok(Some(refs))
     }
 
-    fn members(self, alloc: Global) -> Result<Option<Vec<(&'t str, TreeRef<'t, 'a>)>>, AllocError> {
+    fn members(&self, alloc: Global) -> Result<Option<Vec<(&str, TreeRef<'t, 'a>)>>, AllocError> {
         let Tree::Object(members) = self.tree else {
             return Ok(None);
         };

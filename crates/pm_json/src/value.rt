@@ -4,7 +4,7 @@ use pm_value::{Value, ValueError};
 use serde_json::Value as Json;
 use std::alloc::{AllocError, Global};
 
-impl<'a> JsonRef<'a> for &'a Json {
+impl<'a> JsonRef for &'a Json {
     ghost use Rattle.serde_json.specs.View.{view};
 
     ghost seen = { λ v. view v.now };
@@ -29,7 +29,7 @@ impl<'a> JsonRef<'a> for &'a Json {
         Json::as_u64(self)
     }
 
-    fn as_str(self) -> Option<&'a str> {
+    fn as_str(&self) -> Option<&str> {
         Json::as_str(self)
     }
 
@@ -44,7 +44,7 @@ impl<'a> JsonRef<'a> for &'a Json {
         Ok(Some(refs))
     }
 
-    fn members(self, alloc: Global) -> Result<Option<Vec<(&'a str, &'a Json)>>, AllocError> {
+    fn members(&self, alloc: Global) -> Result<Option<Vec<(&str, &'a Json)>>, AllocError> {
         let Some(map) = self.as_object() else {
             return Ok(None);
         };

@@ -37,9 +37,3 @@ pub faults-at : (s : Served) (is_open : Bool) (status : Status) (old new old_w n
     → ServeFaults s old new old_w new_w → FaultsAt status old new old_w new_w
 faults-at s is_open status old new old_w new_w e h =
     subst (λ (x : Status). FaultsAt x old new old_w new_w) (sym e) (faults-of s is_open old new old_w new_w h)
-
--- where no fault rose before, those of what came then are those of all
-pub faults-behind : (status : Status) (old mid new old_w mid_w new_w : ℕ) → mid ≡ old → mid_w ≡ old_w → FaultsAt status mid new mid_w new_w
-    → FaultsAt status old new old_w new_w
-faults-behind status old mid new old_w mid_w new_w e f h =
-    subst (λ (x : ℕ). FaultsAt status x new old_w new_w) e (subst (λ (x : ℕ). FaultsAt status mid new x new_w) f h)

@@ -1,14 +1,15 @@
 -- How the words, the source, the sink and the status stand together.
-use Rattle.std.specs.Prelude.{◌≡◌, ◌⊎◌, ℕ, Bool, List, Option, Result, Ok, Err, if◌then◌else◌}
+use Rattle.std.specs.Prelude.{◌≡◌, ◌⊎◌, ℕ, Bool, List, [], Option, if◌then◌else◌}
 use Rattle.pm_io.specs.Faults.{Rose}
 use Rattle.pm_serve.specs.declared.serving.Served.{Served}
 use Rattle.pm_serve.specs.declared.serving.Served.TheVariants as served
-use Rattle.pm_serve.specs.Serves.{SoFar, Serves}
-use Rattle.pm_live.specs.declared.live.Live.{Live}
+use Rattle.pm_serve.specs.Serves.{Serves}
+use Rattle.pm_talk.specs.declared.talk.Talk.{Talk}
+use Rattle.pm_talk.specs.declared.talk.Talk.TheVariants.{AwaitsSchema}
+use Rattle.pm_talk.specs.Texts.{no_memory}
+use Rattle.pm_talk.specs.Talk.{Replies, last_text, is_open, IsGood}
 use Rattle.pm_live.specs.declared.status.Status.{Status}
 use Rattle.pm_live.specs.declared.status.Status.TheVariants.{Done, Refused, Usage, ReadFault, WriteFault, NoMemory, Spent}
-use Rattle.pm_live.specs.Texts.{no_memory}
-use Rattle.pm_live.specs.Phases.{Phase, AwaitsSchema, Open, Replies, last_text, is_open, IsGood}
 
 -- How serving ended, and whether lines 1 and 2 had come. Only a fault of line 1 or 2 closes a talk.
 abbrev pub status_of : Served → Bool → Status
@@ -18,14 +19,14 @@ status_of served.ReadFault is_open = ReadFault
 status_of served.WriteFault is_open = WriteFault
 status_of served.Spent is_open = Spent
 
--- The bytes that came are lines, and what was written is the answers to them in order, from this phase on (`Serves` of pm_serve):
--- each is what the line is answered where the talk stands behind the lines before it (`Replies`), or that there was no memory for
--- it, and then the talk stands where it stood. The status says how it was over.
-pub record Talked (start : Phase) (status : Status) (left rest : Option (List ℕ)) (before : List ℕ) (old new : Option (List ℕ)) : Type 0 where
+-- The bytes that came are lines, and what was written is the answers to them in order, from the awaited schema on (`Serves` of
+-- pm_serve): each is what the line is answered where the talk stands after the lines before it (`Replies` of pm_talk), or that there
+-- was no memory for it, and then the talk stands where it stood. The status says how it was over.
+pub record Talked (status : Status) (left rest : Option (List ℕ)) (old new : Option (List ℕ)) : Type 0 where
   pub served : Served
-  pub end : Phase
+  pub end : Talk
   pub unread : List ℕ
-  pub serves : Serves Replies last_text no_memory served start end left rest before unread old new
+  pub serves : Serves Replies last_text no_memory served AwaitsSchema end left rest [] unread old new
   pub good : IsGood end
   pub says : status ≡ status_of served (is_open end)
 
@@ -52,15 +53,3 @@ number_of ReadFault = 3
 number_of WriteFault = 4
 number_of NoMemory = 5
 number_of Spent = 3
-
--- ---- for private clauses: the opening
-
--- An authority stands behind the lines that came, or it was over before.
-abbrev pub Opened : Result Live Status → Option (List ℕ) → Option (List ℕ) → List ℕ → List ℕ → Option (List ℕ) → Option (List ℕ) → Type 0
-Opened (Ok live) left rest before after old new =
-    SoFar Replies last_text no_memory AwaitsSchema (Open live) left rest before after old new × IsGood (Open live)
-Opened (Err status) left rest before after old new = Talked AwaitsSchema status left rest before old new
-
-abbrev pub OpenedFaults : Result Live Status → ℕ → ℕ → ℕ → ℕ → Type 0
-OpenedFaults (Ok live) old new old_w new_w = (new ≡ old) × (new_w ≡ old_w)
-OpenedFaults (Err status) old new old_w new_w = FaultsAt status old new old_w new_w

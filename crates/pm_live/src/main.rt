@@ -2,18 +2,8 @@
 //! output.
 #![tactic(auto)]
 
-mod asked;
 mod call;
-mod codes;
-mod fields;
-mod ids;
-mod live;
-mod opening;
-mod presenting;
 mod status;
-mod talk;
-mod texts;
-mod writing;
 
 use call::run;
 use pm_io::{StdSink, StdSource};

@@ -19,7 +19,8 @@ pub enum Status {
     WriteFault,
     /// There was no memory to begin with. Nothing was read or written.
     NoMemory,
-    /// There were 2^64 - 1 lines, or as many reads within a line. The lines that came whole were answered.
+    /// There were 2^64 - 1 lines, or as many reads within a line, so as many bytes at least. The lines that came whole were
+    /// answered.
     Spent,
 }
 

@@ -1,8 +1,8 @@
 -- A walk over children that looks for a broken unit.
-use Rattle.std.specs.Prelude.{◌≡◌, ℕ, ◌+◌, ◌<◌, ◌≤◌, Option, Some, None, List, [], ◌∷◌, ◌++◌, length}
+use Rattle.std.specs.Prelude.{◌≡◌, ℕ, zero, suc, ◌+◌, ◌<◌, ◌≤◌, ◌^◌, true, Option, Some, None, List, [], ◌∷◌, ◌++◌, length, slice_index}
 use Rattle.std.specs.declared.sync.Arc.{Arc}
-use Rattle.std.proofs.Common.{refl, ap, sym, ◌∙◌, subst, arith}
-use Rattle.pm_text.specs.Lone.{HasNoLone, IsFirstLone}
+use Rattle.std.proofs.Common.{refl, ap, sym, ◌∙◌, subst, arith, true≢false}
+use Rattle.pm_text.specs.Lone.{is_lone, HasNoLone, IsFirstLone}
 use Rattle.pm_tokens.specs.Tokens.{Attrs, Marks, Token, Close}
 use Rattle.pm_tokens.specs.Kids.{text_tokens, EndsText}
 use Rattle.pm_tokens.specs.Faults.{Fault, Pair, first_some, first_broken}
@@ -11,7 +11,7 @@ use Rattle.pm_node.specs.declared.node.Node.{Node}
 use Rattle.pm_node.specs.declared.node.Body.{Body}
 use Rattle.pm_node.specs.declared.node.Body.TheVariants.{Text, Leaf as Childless, Children}
 use Rattle.pm_node.specs.Trees.{body_tokens, node_tokens, list_tokens, IsText}
-use Rattle.pm_node.proofs.TreeLaws.{node_tokens_at}
+use Rattle.pm_node.proofs.TreeLaws.{node_tokens_at, length-text_tokens}
 use Rattle.pm_node.proofs.WalkLaws.{rest, rest-length, Child}
 use Rattle.pm_node.proofs.KindLaws.{ends-apart}
 
@@ -65,3 +65,16 @@ broken-lone at n us i is h = ap (first_broken at None) (node_tokens_at n (Text u
 
 pub broken-none : (at : ℕ) (n : Node) (us : List ℕ) → n.body ≡ Text us → HasNoLone us → first_broken at None (node_tokens n) ≡ None
 broken-none at n us is h = ap (first_broken at None) (node_tokens_at n (Text us) is) ∙ text-whole at n.marks us h
+
+-- a lone unit is one of the text, where the unit w stands before it
+lone-inside : (w : ℕ) (us : List ℕ) (i : ℕ) → is_lone (slice_index (w ∷ us) i) (slice_index us i) (slice_index us (suc i)) ≡ true → i < length us
+lone-inside w [] i h = absurd (true≢false (sym h))
+lone-inside w (u ∷ us) zero h = omega arith
+lone-inside w (u ∷ us) (suc i) h = omega (arith, lone-inside u us i h)
+
+pub lone-within : (us : List ℕ) (i : ℕ) → IsFirstLone us i → i < length us
+lone-within us i h = lone-inside 0 us i h.lone
+
+-- the place of a lone unit of a text is no greater than that behind the text
+pub lone-room : (at : ℕ) (n : Node) (us : List ℕ) (i : ℕ) → n.body ≡ Text us → IsFirstLone us i → at + length (node_tokens n) ≤ 2 ^ 32 → at + i < 2 ^ 32
+lone-room at n us i is h room = omega (arith, room, lone-within us i h, ap length (node_tokens_at n (Text us) is), length-text_tokens n.marks us)

@@ -7,9 +7,9 @@ ghost use Rattle.pm_node.specs.Trees.{node_tokens, nodes_tokens, list_tokens, Me
 use crate::children::Children;
 use crate::chunks::join_first;
 use crate::node::{Body, Fragment, Node};
-use crate::units::Units;
 use pm_attrs::Attrs;
 use pm_marks::MarkSet;
+use pm_units::Units;
 use std::alloc::{AllocError, Global};
 use std::sync::Arc;
 
@@ -44,7 +44,7 @@ impl Fragment {
                 None => node,
                 Some(before) => {
                     if meets(&before, &node) {
-                        joined(before, &node)?
+                        joined(alloc, before, &node)?
                     } else {
                         made.push(alloc, Arc::new(alloc, before)?)?;
                         node
@@ -138,8 +138,8 @@ fn meets(left: &Node, right: &Node) -> bool
     }
 }
 
-/// The text with the units of the next one put behind its own.
-fn joined(text: Node, next: &Node) -> Result<Node, AllocError>
+/// The text with the units of the next one put after its own.
+fn joined(alloc: Global, text: Node, next: &Node) -> Result<Node, AllocError>
     requires { Meets text next.now }
     ensures { IfOk result (λ n. node_tokens n ≡ node_tokens text ++ node_tokens next.now) }
 {
@@ -149,14 +149,13 @@ fn joined(text: Node, next: &Node) -> Result<Node, AllocError>
         marks,
         body,
     } = text;
-    let more = match &next.body {
-        Body::Text(units) => units.as_slice(),
-        _ => &[],
+    let Body::Text(more) = &next.body else {
+        unreachable!();
     };
     match body {
         Body::Text(units) => {
             let mut units = units;
-            units.append(more)?;
+            units.append(alloc, more)?;
             Ok(Node {
                 kind,
                 attrs,

@@ -29,7 +29,6 @@ mod reached;
 mod rules;
 mod touched;
 mod types;
-mod units;
 mod values;
 
 pub use around::{Difference, stays_valid_around};
@@ -40,4 +39,4 @@ pub use fault::CheckError;
 pub use filled::{FillError, make_filled};
 pub use laws::{children_are_nodes, fault_is_first};
 pub use node::{Body, Fragment, Node};
-pub use units::Units;
+pub use pm_units::Units;

@@ -6,11 +6,11 @@ ghost use Rattle.pm_node.specs.Trees.{node_tokens, list_tokens, Joined, IsNormal
 
 use crate::children::Children;
 use crate::chunks::join_last;
-use crate::units::Units;
 use pm_attrs::Attrs;
 use pm_auto::TypeId;
 use pm_marks::{MarkSet, Same};
 use pm_sized::Chunks;
+use pm_units::Units;
 use std::alloc::{AllocError, Global};
 use std::marker::Model;
 use std::sync::Arc;

@@ -4,7 +4,6 @@ ghost use Rattle.pm_tokens.specs.Faults.{first_broken, Pair};
 ghost use Rattle.pm_node.specs.Trees.{node_tokens};
 
 use crate::node::{Body, Fragment, Node};
-use pm_text::first_lone;
 
 /// The place of the first broken unit, where `at` is the place of the first token.
 #[cycle(pairs)]
@@ -31,7 +30,7 @@ fn broken_in(node: &Node, at: usize) -> Option<usize>
     ensures { option_map Pair result ≡ first_broken at None (node_tokens node.now) }
 {
     match &node.body {
-        Body::Text(units) => match first_lone(units.as_slice()) {
+        Body::Text(units) => match units.first_lone() {
             Some(i) => Some(at + i),
             None => None,
         },

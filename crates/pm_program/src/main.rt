@@ -6,9 +6,6 @@
 //! is in no clause.
 #![tactic(auto)]
 
-#[cfg(test)]
-mod tests;
-
 use pm_call::{Status, run};
 use pm_io::{OpenGate, StdSink, StdSource};
 use std::alloc::{AllocError, Global};

@@ -56,7 +56,7 @@ module _ {pos at inside : ℕ} {n m : Node} (e : Enters pos at n inside m) where
       ∙ (opens-in e.front e.inner e.rest m.kind m.attrs m.marks e.front_whole e.inner_whole (pos - at) (pos - inside) place-is e.within
       ∙ ap (λ z. length e.front ∷ map (λ o. suc (length e.front) + o) (opens_at z (pos - inside))) (sym inner-is))
 
-  depth-down : depth_at (content_of n) (pos - at) ≡ suc (depth_at (content_of m) (pos - inside))
+  pub depth-down : depth_at (content_of n) (pos - at) ≡ suc (depth_at (content_of m) (pos - inside))
   depth-down =
       let x = opens_at (content_of m) (pos - inside) in
       omega (arith, opens-depth (content_of n) (pos - at), opens-depth (content_of m) (pos - inside), ap length opens-down, length-map x (λ o. suc (length e.front) + o))
@@ -65,11 +65,11 @@ module _ {pos at inside : ℕ} {n m : Node} (e : Enters pos at n inside m) where
   size-down = omega (arith, ap length content-is, length-append e.front (Open m.kind m.attrs m.marks ∷ (e.inner ++ (Close ∷ e.rest))), length-append e.inner (Close ∷ e.rest))
 
   -- the place of an open in the child's content
-  open-down : (d : ℕ) → d < depth_at (content_of m) (pos - inside) → slice_index (opens_at (content_of n) (pos - at)) (suc d) ≡ suc (length e.front) + slice_index (opens_at (content_of m) (pos - inside)) d
+  pub open-down : (d : ℕ) → d < depth_at (content_of m) (pos - inside) → slice_index (opens_at (content_of n) (pos - at)) (suc d) ≡ suc (length e.front) + slice_index (opens_at (content_of m) (pos - inside)) d
   open-down d h =
       ap (λ z. slice_index z (suc d)) opens-down ∙ get_or-map (λ o. suc (length e.front) + o) (opens_at (content_of m) (pos - inside)) d 0 0 (omega (arith, h, opens-depth (content_of m) (pos - inside)))
 
-  open-here : slice_index (opens_at (content_of n) (pos - at)) 0 ≡ length e.front
+  pub open-here : slice_index (opens_at (content_of n) (pos - at)) 0 ≡ length e.front
   open-here = ap (λ z. slice_index z 0) opens-down
 
   -- the child, and what is behind it, from its open on
@@ -78,7 +78,7 @@ module _ {pos at inside : ℕ} {n m : Node} (e : Enters pos at n inside m) where
       let y = Open m.kind m.attrs m.marks ∷ (e.inner ++ (Close ∷ e.rest)) in
       ap (λ z. drop (length e.front) (z ++ post)) content-is ∙ (ap (drop (length e.front)) (append_assoc e.front y post) ∙ (drop-append_seam e.front (y ++ post) ∙ ap (λ z. Open m.kind m.attrs m.marks ∷ z) (append_assoc e.inner (Close ∷ e.rest) post)))
 
-  from-inside : (o : ℕ) (post : List Token) → drop (suc (length e.front) + o) (content_of n ++ post) ≡ drop o (content_of m ++ (Close ∷ (e.rest ++ post)))
+  pub from-inside : (o : ℕ) (post : List Token) → drop (suc (length e.front) + o) (content_of n ++ post) ≡ drop o (content_of m ++ (Close ∷ (e.rest ++ post)))
   from-inside o post =
       let y = Open m.kind m.attrs m.marks ∷ (e.inner ++ (Close ∷ e.rest)) in
       let p : suc (length e.front) + o ≡ length e.front + suc o = omega arith in
@@ -88,7 +88,7 @@ module _ {pos at inside : ℕ} {n m : Node} (e : Enters pos at n inside m) where
       ∙ (drop-append-add e.front (y ++ post) (suc o)
       ∙ (ap (drop o) (append_assoc e.inner (Close ∷ e.rest) post) ∙ ap (λ z. drop o (z ++ (Close ∷ (e.rest ++ post)))) (sym inner-is)))))
 
-  child-first : (top : Doc) (post : List Token) → first_node top (drop (length e.front) (content_of n ++ post)) ≡ doc_of m
+  pub child-first : (top : Doc) (post : List Token) → first_node top (drop (length e.front) (content_of n ++ post)) ≡ doc_of m
   child-first top post =
       ap (first_node top) (from-here post)
       ∙ ap (λ z. record { kind = m.kind; attrs = m.attrs; marks = m.marks; tokens = z }) (close-behind 0 e.inner_whole (Close ∷ (e.rest ++ post)) ∙ (append-nil e.inner ∙ sym inner-is))

@@ -19,10 +19,10 @@ content_of n = (doc_of n).tokens
 abbrev pub holds : ℕ → Level → Bool
 holds p l = nat_le l.start p && nat_le p (l.start + length (content_of l.node.now))
 
--- the sum of the bounds of a search in the node of each level
-abbrev pub levels_bound : List Level → ℕ
-levels_bound [] = 0
-levels_bound (l ∷ ls) = find_bound (length (children (content_of l.node.now))) + levels_bound ls
+-- the sum of the bounds of a search in each of these nodes
+abbrev pub nodes_bound : List Node → ℕ
+nodes_bound [] = 0
+nodes_bound (n ∷ ns) = find_bound (length (children (content_of n))) + nodes_bound ns
 
 -- the level of a node around the position `pos`, whose content starts at `at`
 pub record IsLevel (pos at : ℕ) (n : Node) (l : Level) : Type 0 where
@@ -42,6 +42,16 @@ pub record Enters (pos at : ℕ) (n : Node) (inside : ℕ) (m : Node) : Type 0 w
   pub within : pos - inside ≤ length inner
   pub front_whole : Balanced front
   pub inner_whole : Balanced inner
+
+-- Nodes that a walk from the node n has come to, n first: the position is in the content of each, and each but n is a child
+-- of the one before.
+pub data ComesTo (pos : ℕ) : ℕ → Node → List Node → Type 0 where
+  here : (at : ℕ) (n : Node) → ComesTo pos at n (n ∷ [])
+  down : (at : ℕ) (n : Node) (inside : ℕ) (m : Node) (ms : List Node) → Enters pos at n inside m → ComesTo pos inside m ms → ComesTo pos at n (n ∷ ms)
+
+-- so many steps at most were taken in searching nodes that a walk from the node n came to
+abbrev pub SearchesFew : ℕ → ℕ → Node → ℕ → ℕ → Type 0
+SearchesFew pos at n before after = (ns : List Node) × ComesTo pos at n ns × (after ≤ before + nodes_bound ns)
 
 -- the levels from that of the node n on, down to the innermost node around the position
 pub data Nested (pos : ℕ) : ℕ → Node → List Level → Type 0 where

@@ -2,7 +2,7 @@
 ghost use Rattle.std.specs.Prelude.{◌≡◌, ◌+◌, ◌<◌, ◌≤◌, ◌-◌, ◌↔◌, Err, length, IfOk, OnOk};
 ghost use Rattle.pm_tokens.specs.Scan.{depth_at};
 ghost use Rattle.pm_node.specs.Documents.{doc_of};
-ghost use Rattle.pm_resolve.specs.Levels.{Entered, levels_bound};
+ghost use Rattle.pm_resolve.specs.Levels.{Entered, SearchesFew};
 ghost use Rattle.pm_resolve.specs.Places.{search_bound};
 
 use crate::fault::PlaceError;
@@ -44,7 +44,8 @@ fn resolve_with<'a, L: Ledger>(
 }
 
 /// The same, with the steps of the searches counted. They are at most the sum of the bounds of `Children::find_counted` over
-/// the nodes at the depths from 0 to the place's depth.
+/// the nodes at the depths from 0 to the position's depth, also where memory runs out. Where the position passes the content no
+/// step is taken.
 pub fn resolve_counted<'a, L: Ledger>(
     alloc: Global,
     doc: &'a Document,
@@ -55,7 +56,8 @@ pub fn resolve_counted<'a, L: Ledger>(
     ensures position { IfOk result (λ p. p.pos ≡ pos) }
     ensures within { OnOk result (pos ≤ length doc.now.tokens) }
     ensures out_of_range { (result ≡ Err PlaceError.OutOfRange) ↔ (length doc.now.tokens < pos) }
-    ensures steps { OnOk result (steps.new ≤ steps.old + search_bound doc.now pos (depth_at doc.now.tokens pos)) }
+    ensures most { pos ≤ length doc.now.tokens → steps.new ≤ steps.old + search_bound doc.now pos (depth_at doc.now.tokens pos) }
+    ensures untouched { result ≡ Err PlaceError.OutOfRange → steps.new ≡ steps.old }
 {
     if pos > doc.size() {
         return Err(PlaceError::OutOfRange);
@@ -79,7 +81,7 @@ fn enter<'a, L: Ledger>(
     requires started { start ≤ pos }
     requires within { pos - start ≤ length content.now }
     ensures entered { OnOk result (Entered pos start node.now levels.old.items levels.new.items) }
-    ensures steps { OnOk result (steps.new + levels_bound levels.old.items ≤ steps.old + levels_bound levels.new.items) }
+    ensures steps { SearchesFew pos start node.now steps.old steps.new }
 {
     let children = content.children();
     let found = children.find_counted(pos - start, steps);

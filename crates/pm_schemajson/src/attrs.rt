@@ -21,7 +21,7 @@ use pm_value::{Kinds, Text, Value};
 use std::alloc::Global;
 
 /// The default in the entry of an attribute.
-fn default_of<'a, J: JsonRef<'a>>(alloc: Global, json: J) -> Result<Option<Value>, SchemaReadError>
+fn default_of<J: JsonRef>(alloc: Global, json: J) -> Result<Option<Value>, SchemaReadError>
     ensures { Gives (λ v. option_map plain v) result (default_from_json (get (codes "default") (J.seen json))) }
 {
     match json.get("default") {
@@ -46,7 +46,7 @@ fn is_kept(default: &Option<Value>, kinds: Option<Kinds>) -> bool
 
 /// The attribute of an entry, which has the place `attr` among those of its type.
 #[tactic(auto, unfolding(crate::specs::Reading::attr_of))]
-fn attr_of<'a, J: JsonRef<'a>>(
+fn attr_of<J: JsonRef>(
     alloc: Global,
     version: u32,
     attr: usize,
@@ -72,10 +72,10 @@ fn attr_of<'a, J: JsonRef<'a>>(
 }
 
 #[tactic(auto, unfolding(crate::specs::Reading::attr_list))]
-fn attr_list<'a, J: JsonRef<'a>>(
+fn attr_list<J: JsonRef>(
     alloc: Global,
     version: u32,
-    members: &[(&'a str, J)],
+    members: &[(&str, J)],
 ) -> Result<AttrSpecs, SchemaReadError>
     requires { InOrder (map (λ m. m.0.now) members.now) }
     ensures { Gives attributes result (attr_list_of version 0 (members_of (map (λ m. (m.0.now, J.seen m.1)) members.now))) }
@@ -90,7 +90,7 @@ fn attr_list<'a, J: JsonRef<'a>>(
 
 /// The field `attrs` of a type.
 #[tactic(auto, unfolding(crate::specs::Reading::attrs_of))]
-pub(crate) fn attrs_of<'a, J: JsonRef<'a>>(
+pub(crate) fn attrs_of<J: JsonRef>(
     alloc: Global,
     version: u32,
     json: J,
@@ -100,7 +100,7 @@ pub(crate) fn attrs_of<'a, J: JsonRef<'a>>(
     match field(json, "attrs") {
         None => Ok(AttrSpecs::new(alloc)),
         Some(value) => {
-            let members = members(alloc, value, Field::Attrs)?;
+            let members = members(alloc, &value, Field::Attrs)?;
             attr_list(alloc, version, members.as_slice())
         }
     }

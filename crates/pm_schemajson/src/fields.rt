@@ -13,7 +13,7 @@ use pm_value::Text;
 use std::alloc::Global;
 
 /// A field that may be absent, which null stands for too.
-pub(crate) fn field<'a, J: JsonRef<'a>>(json: J, key: &str) -> Option<J>
+pub(crate) fn field<J: JsonRef>(json: J, key: &str) -> Option<J>
     ensures { option_map J.seen result ≡ field_of key.now (J.seen json) }
 {
     match json.get(key) {
@@ -23,7 +23,7 @@ pub(crate) fn field<'a, J: JsonRef<'a>>(json: J, key: &str) -> Option<J>
 }
 
 /// A text that may be absent.
-pub(crate) fn text_if<'a, J: JsonRef<'a>>(
+pub(crate) fn text_if<J: JsonRef>(
     alloc: Global,
     json: J,
     key: &str,
@@ -41,7 +41,7 @@ pub(crate) fn text_if<'a, J: JsonRef<'a>>(
 }
 
 /// A text that may be absent, and then is this one.
-pub(crate) fn text_or<'a, J: JsonRef<'a>>(
+pub(crate) fn text_or<J: JsonRef>(
     alloc: Global,
     json: J,
     key: &str,
@@ -60,7 +60,7 @@ pub(crate) fn text_or<'a, J: JsonRef<'a>>(
 }
 
 /// A truth value, and what it is where it is absent.
-pub(crate) fn truth_or<'a, J: JsonRef<'a>>(
+pub(crate) fn truth_or<J: JsonRef>(
     json: J,
     key: &str,
     name: Field,
@@ -78,7 +78,7 @@ pub(crate) fn truth_or<'a, J: JsonRef<'a>>(
 }
 
 /// The entries of a list.
-pub(crate) fn array<'a, J: JsonRef<'a>>(
+pub(crate) fn array<J: JsonRef>(
     alloc: Global,
     value: J,
     name: Field,
@@ -92,7 +92,7 @@ pub(crate) fn array<'a, J: JsonRef<'a>>(
 }
 
 /// A fault of the field where the value is no object.
-pub(crate) fn object<'a, J: JsonRef<'a>>(value: J, name: Field) -> Result<(), SchemaReadError>
+pub(crate) fn object<J: JsonRef>(value: J, name: Field) -> Result<(), SchemaReadError>
     ensures { Gives (λ u. u) result (of_kind name (option_map (λ m. tt) (as_object (J.seen value)))) }
 {
     if value.is_object() {
@@ -103,12 +103,12 @@ pub(crate) fn object<'a, J: JsonRef<'a>>(value: J, name: Field) -> Result<(), Sc
 }
 
 /// The members of an object, in byte order of their keys.
-pub(crate) fn members<'a, J: JsonRef<'a>>(
+pub(crate) fn members<'a, J: JsonRef>(
     alloc: Global,
-    value: J,
+    value: &'a J,
     name: Field,
 ) -> Result<Vec<(&'a str, J)>, SchemaReadError>
-    ensures read { Gives (λ v. members_of (map (λ m. (m.0.now, J.seen m.1)) v.items)) result (of_kind name (as_object (J.seen value))) }
+    ensures read { Gives (λ v. members_of (map (λ m. (m.0.now, J.seen m.1)) v.items)) result (of_kind name (as_object (J.seen value.now))) }
     ensures ordered { IfOk result (λ v. InOrder (map (λ m. m.0.now) v.items)) }
 {
     match value.members(alloc)? {

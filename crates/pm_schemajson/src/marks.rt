@@ -16,7 +16,7 @@ use pm_schema::MarkSpec;
 use std::alloc::Global;
 
 #[tactic(auto, unfolding(crate::specs::Reading::mark_fields))]
-fn mark_fields<'a, J: JsonRef<'a>>(
+fn mark_fields<J: JsonRef>(
     alloc: Global,
     version: u32,
     json: J,
@@ -38,7 +38,7 @@ fn mark_fields<'a, J: JsonRef<'a>>(
 }
 
 #[tactic(auto, unfolding(crate::specs::Reading::mark_list))]
-fn mark_list<'a, J: JsonRef<'a>>(
+fn mark_list<J: JsonRef>(
     alloc: Global,
     version: u32,
     items: &[J],
@@ -55,7 +55,7 @@ fn mark_list<'a, J: JsonRef<'a>>(
 
 /// The field `marks` of a schema.
 #[tactic(auto, unfolding(crate::specs::Reading::marks_of))]
-pub(crate) fn marks_of<'a, J: JsonRef<'a>>(
+pub(crate) fn marks_of<J: JsonRef>(
     alloc: Global,
     version: u32,
     json: J,

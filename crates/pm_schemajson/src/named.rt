@@ -13,7 +13,7 @@ use std::alloc::Global;
 
 /// The field `name`.
 #[tactic(auto, unfolding(crate::specs::Reading::name_of))]
-pub(crate) fn name_of<'a, J: JsonRef<'a>>(alloc: Global, json: J) -> Result<Text, SchemaReadError>
+pub(crate) fn name_of<J: JsonRef>(alloc: Global, json: J) -> Result<Text, SchemaReadError>
     ensures { Gives (λ t. t) result (name_from (J.seen json)) }
 {
     match json.get("name") {
@@ -31,10 +31,7 @@ pub(crate) fn name_of<'a, J: JsonRef<'a>>(alloc: Global, json: J) -> Result<Text
 
 /// The field `group`.
 #[tactic(auto, unfolding(crate::specs::Reading::groups_of))]
-pub(crate) fn groups_of<'a, J: JsonRef<'a>>(
-    alloc: Global,
-    json: J,
-) -> Result<Listed<Text>, SchemaReadError>
+pub(crate) fn groups_of<J: JsonRef>(alloc: Global, json: J) -> Result<Listed<Text>, SchemaReadError>
     ensures { Gives (λ l. l) result (groups_from (J.seen json)) }
 {
     let text = text_or(alloc, json, "group", Field::Group, "")?;

@@ -14,7 +14,7 @@ use pm_json::JsonRef;
 use std::alloc::Global;
 
 #[tactic(auto, unfolding(crate::specs::Reading::node_fields))]
-fn node_fields<'a, J: JsonRef<'a>>(
+fn node_fields<J: JsonRef>(
     alloc: Global,
     version: u32,
     json: J,
@@ -41,7 +41,7 @@ fn node_fields<'a, J: JsonRef<'a>>(
 
 /// The entries of `nodes`.
 #[tactic(auto, unfolding(crate::specs::Reading::node_list))]
-pub(crate) fn node_list<'a, J: JsonRef<'a>>(
+pub(crate) fn node_list<J: JsonRef>(
     alloc: Global,
     version: u32,
     items: &[J],

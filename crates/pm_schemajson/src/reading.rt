@@ -27,7 +27,7 @@ use std::alloc::Global;
 /// a field is absent or of another kind, `Name` at an ill-formed name in `name` or `group`, `Attr` at a default that is no
 /// value, and `BadDefault` at one of no kind that its attribute names. Then `Expr` at the first node type whose content is no expression. Then `Schema`, where the types make no schema.
 /// Each default nests at most four levels deep (`shallow`).
-pub fn read_schema<'a, J: JsonRef<'a>>(alloc: Global, json: J) -> Result<Schema, SchemaReadError>
+pub fn read_schema<J: JsonRef>(alloc: Global, json: J) -> Result<Schema, SchemaReadError>
     ensures built { IfOk result (IsSchemaOf (J.seen json)) }
     ensures shallow { IfOk result (λ s. HasShallowDefaults s.spec) }
     ensures fault { IfErr result (IsFault (J.seen json)) }
@@ -38,7 +38,7 @@ pub fn read_schema<'a, J: JsonRef<'a>>(alloc: Global, json: J) -> Result<Schema,
 }
 
 #[tactic(auto, unfolding(crate::specs::Contents::schema_of, crate::specs::Reading::types_of))]
-fn read_spec<'a, J: JsonRef<'a>>(alloc: Global, json: J) -> Result<SchemaSpec, SchemaReadError>
+fn read_spec<J: JsonRef>(alloc: Global, json: J) -> Result<SchemaSpec, SchemaReadError>
     ensures { Gives types_of_spec result (schema_of (J.seen json)) }
 {
     let version = version_of(json)?;

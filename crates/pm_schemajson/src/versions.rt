@@ -12,7 +12,7 @@ use pm_value::Kinds;
 use std::alloc::{AllocError, Global};
 
 /// The field `version`, 1 where it is absent.
-pub(crate) fn version_of<'a, J: JsonRef<'a>>(json: J) -> Result<u32, SchemaReadError>
+pub(crate) fn version_of<J: JsonRef>(json: J) -> Result<u32, SchemaReadError>
     ensures { Gives (λ v. v) result (version_from (field_of (codes "version") (J.seen json))) }
 {
     match field(json, "version") {
@@ -85,7 +85,7 @@ fn kinds_in(alloc: Global, text: &str) -> Result<Option<Kinds>, AllocError>
 }
 
 /// The field `validate` of an attribute's entry, at which version 1 does not look.
-pub(crate) fn validate_of<'a, J: JsonRef<'a>>(
+pub(crate) fn validate_of<J: JsonRef>(
     alloc: Global,
     version: u32,
     json: J,

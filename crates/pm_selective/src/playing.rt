@@ -1,10 +1,12 @@
 //! Lines of a session, played with what is told of an undo of an event that lies apart.
-ghost use Rattle.std.specs.Prelude.{◌≡◌, ◌↔◌, ◌++◌, ℕ, true, if◌then◌else◌, [], ◌∷◌, length, vec_len, IfOk, OnOk, OnErr};
+ghost use Rattle.std.specs.Prelude.{◌≡◌, ◌↔◌, ◌+◌, ◌++◌, ℕ, true, if◌then◌else◌, [], ◌∷◌, length, slice_get, take, vec_len, Some, IfOk, OnOk, OnErr};
 ghost use Rattle.pm_apply.specs.Changes.{meaning};
+ghost use Rattle.pm_meaning.specs.Steps.{Step};
 ghost use Rattle.pm_session.specs.declared.line.Act.TheVariants.{UndoEvent};
+ghost use Rattle.pm_session.specs.declared.line.Line.{Line};
 ghost use Rattle.pm_session.specs.Events.{state_of, played};
 ghost use Rattle.pm_session.specs.Left.{LeftByLine, LeftByLines};
-ghost use Rattle.pm_session.specs.Refusals.{EditorGetsNoRefusal};
+ghost use Rattle.pm_session.specs.Refusals.{EditorGetsNoRefusal, NoEditorRefused};
 ghost use Rattle.pm_session.specs.Restoring.{Restores};
 ghost use Rattle.pm_session.specs.Sessions.{session};
 ghost use Rattle.pm_session.specs.Sounds.{Sound, NamesDiffer};
@@ -111,6 +113,15 @@ pub fn play_all<K: Maker<DocChange>>(
     ensures room { OnOk result (state_of room.new ≡ (session meaning schema.now (K.makes maker.now schema.now) (state_of room.old) lines.now).1) }
     ensures left { OnErr result (LeftByLines meaning schema.now (K.makes maker.now schema.now) (state_of room.old) lines.now (state_of room.new)) }
     ensures sound { Sound meaning schema.now (state_of room.new) }
+    ensures unrefused { IfOk result (λ p. NoEditorRefused lines.now p.outcomes.items) }
+    ensures names { NamesDiffer room.new.authority.log }
+    // So it is from the room after each number of lines to the next.
+    ensures cursors { OnOk result ((k : ℕ) → CursorsStay meaning
+        (session meaning schema.now (K.makes maker.now schema.now) (state_of room.old) (take k lines.now)).1
+        (session meaning schema.now (K.makes maker.now schema.now) (state_of room.old) (take (k + 1) lines.now)).1) }
+    ensures restores { OnOk result ((k : ℕ) (line : Line K.Op Step) → slice_get lines.now k ≡ Some line → Restores meaning schema.now
+        (session meaning schema.now (K.makes maker.now schema.now) (state_of room.old) (take k lines.now)).1 line
+        (session meaning schema.now (K.makes maker.now schema.now) (state_of room.old) (take (k + 1) lines.now)).1) }
 {
     let mut outcomes = Vec::new(alloc);
     let mut numbers = Vec::new(alloc);

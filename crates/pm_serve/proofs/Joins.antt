@@ -1,11 +1,13 @@
--- Lines behind lines.
-use Rattle.std.proofs.Common.{◌≡◌, ◌++◌, ◌∙◌, ℕ, Bool, List, [], ◌∷◌, refl, ap, sym, subst, append_assoc}
+-- Lines after lines.
+use Rattle.std.proofs.Common.{◌≡◌, ◌≤◌, ◌+◌, ◌++◌, ◌∙◌, ℕ, Bool, List, [], ◌∷◌, length, refl, ap, sym, subst, append_assoc, arith, inl, inr}
 use Rattle.std.specs.Prelude.{Option}
+use Rattle.std.proofs.lemmas.List.{length-append}
 use Rattle.std.proofs.KnownBytes.{Consumes-trans}
 use Rattle.pm_io.proofs.Chains.{Adds-chain}
 use Rattle.pm_serve.specs.Lines.{with_lf, AreLines}
 use Rattle.pm_serve.specs.declared.serving.Served.{Served}
-use Rattle.pm_serve.specs.declared.serving.Served.TheVariants.{Spent}
+use Rattle.pm_serve.specs.declared.serving.Served.TheVariants.{End, Closed, ReadFault, WriteFault, Spent}
+use Rattle.pm_serve.specs.Reads.{most}
 use Rattle.pm_serve.specs.Serves.{Answers, SoFar, OverBy, Serves}
 use Rattle.pm_serve.proofs.Steps.{none-taken, none-added}
 
@@ -47,9 +49,24 @@ module _ {S : Type 0} (replies : S → List ℕ → List ℕ → Bool → S → 
     added = Adds-chain old mean new f.out g.out f.added g.added;
   }
 
+  -- how it was over after so many lines, after more
+  pub after-more : (n m : ℕ) (served : Served) (s t : S) (left rest : Option (List ℕ)) (before after : List ℕ) (old new : Option (List ℕ)) → n ≤ m
+      → OverBy replies last no_memory n served s t left rest before after old new → OverBy replies last no_memory m served s t left rest before after old new
+  after-more n m End s t left rest before after old new h o = o
+  after-more n m Closed s t left rest before after old new h o = o
+  after-more n m ReadFault s t left rest before after old new h o = o
+  after-more n m WriteFault s t left rest before after old new h o = o
+  after-more n m Spent s t left rest before after old new h o = record {
+    taken = o.taken;
+    took = o.took;
+    same = o.same;
+    none = o.none;
+    many = elim o.many [ inl k ↦ inl (omega (arith, k)) | inr long ↦ inr long ];
+  }
+
   -- lines were answered, and then it was over
   pub over-behind : (served : Served) (s mid t : S) (left then rest : Option (List ℕ)) (before now after : List ℕ) (old mean new : Option (List ℕ))
-      → SoFar replies last no_memory s mid left then before now old mean → OverBy replies last no_memory served mid t then rest now after mean new
+      → SoFar replies last no_memory s mid left then before now old mean → OverBy replies last no_memory 0 served mid t then rest now after mean new
       → Serves replies last no_memory served s t left rest before after old new
   over-behind served s mid t left then rest before now after old mean new f o = record {
     mid = mid;
@@ -57,25 +74,32 @@ module _ {S : Type 0} (replies : S → List ℕ → List ℕ → Bool → S → 
     there_then = now;
     written_then = mean;
     lines_came = f;
-    over = o;
+    over = after-more 0 (length f.lines) served mid t then rest now after mean new (omega arith) o;
   }
 
   -- lines were answered, and then others, to the end
   pub behind : (served : Served) (s mid t : S) (left then rest : Option (List ℕ)) (before now after : List ℕ) (old mean new : Option (List ℕ))
       → SoFar replies last no_memory s mid left then before now old mean → Serves replies last no_memory served mid t then rest now after mean new
       → Serves replies last no_memory served s t left rest before after old new
+  unfolding joined
   behind served s mid t left then rest before now after old mean new f g = record {
     mid = g.mid;
     left_then = g.left_then;
     there_then = g.there_then;
     written_then = g.written_then;
     lines_came = joined s mid g.mid left then g.left_then before now g.there_then old mean g.written_then f g.lines_came;
-    over = g.over;
+    over = after-more (length g.lines_came.lines) (length (f.lines ++ g.lines_came.lines)) served g.mid t g.left_then rest g.there_then after g.written_then new
+        (omega (arith, length-append f.lines g.lines_came.lines)) g.over;
   }
 
-  -- lines were answered, and no further one is read
-  pub stopped : (s t : S) (left rest : Option (List ℕ)) (before after : List ℕ) (old new : Option (List ℕ)) → SoFar replies last no_memory s t left rest before after old new
-      → Serves replies last no_memory Spent s t left rest before after old new
-  stopped s t left rest before after old new f =
-      over-behind Spent s t t left rest rest before after after old new new f
-      record { taken = []; took = none-taken rest; same = refl; none = none-added new }
+  -- so many lines were answered, and no further one is read
+  pub stopped : (s t : S) (left rest : Option (List ℕ)) (before after : List ℕ) (old new : Option (List ℕ)) (f : SoFar replies last no_memory s t left rest before after old new)
+      → most ≤ length f.lines → Serves replies last no_memory Spent s t left rest before after old new
+  stopped s t left rest before after old new f h = record {
+    mid = t;
+    left_then = rest;
+    there_then = after;
+    written_then = new;
+    lines_came = f;
+    over = record { taken = []; took = none-taken rest; same = refl; none = none-added new; many = inl h };
+  }

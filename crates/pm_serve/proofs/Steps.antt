@@ -1,4 +1,4 @@
--- One step behind another.
+-- One step after another.
 use Rattle.std.proofs.Common.{◌≡◌, ◌≢◌, ◌+◌, ◌++◌, ◌∙◌, ℕ, Bool, true, false, List, [], ◌∷◌, length, take, refl, ap, sym, subst, inl, inr, append_assoc, arith}
 use Rattle.std.specs.Prelude.{Option, None, Some}
 use Rattle.std.proofs.lemmas.List.{append-nil, length-append}
@@ -77,10 +77,16 @@ module _ {S : Type 0} (replies : S → List ℕ → List ℕ → Bool → S → 
     added = Adds-chain old mean new f.out p.text f.added p.added;
   }
 
-  -- what is said at the end of input, behind the answer to a last line
+  pub one-more-count : (s mid t : S) (left then rest : Option (List ℕ)) (before now after : List ℕ) (old mean new : Option (List ℕ))
+      (f : SoFar replies last no_memory s mid left then before now old mean) (p : Stepped replies last no_memory mid t then rest now after mean new)
+      → length (one-more s mid t left then rest before now after old mean new f p).lines ≡ length f.lines + 1
+  unfolding one-more
+  one-more-count s mid t left then rest before now after old mean new f p = length-append f.lines (p.came.whole ∷ [])
+
+  -- what is said at the end of input, after the answer to a last line
   pub said-behind : (r : Served) (s t : S) (left rest : Option (List ℕ)) (before after line text : List ℕ) (old mean new : Option (List ℕ))
       → EndCame left rest before after line → line ≢ [] → Tells replies last no_memory s line text true t → Adds old mean text → SaysLast (last t) r mean new
-      → OverBy replies last no_memory r s t left rest before after old new
+      → OverBy replies last no_memory 0 r s t left rest before after old new
   said-behind End s t left rest before after line text old mean new e ne h a l = record {
     line = line;
     came = e;
@@ -101,7 +107,7 @@ module _ {S : Type 0} (replies : S → List ℕ → List ℕ → Bool → S → 
 
   -- what is said at the end of input, where there is no last line
   pub said-alone : (r : Served) (s : S) (left rest : Option (List ℕ)) (before after line : List ℕ) (old new : Option (List ℕ))
-      → EndCame left rest before after line → line ≡ [] → SaysLast (last s) r old new → OverBy replies last no_memory r s s left rest before after old new
+      → EndCame left rest before after line → line ≡ [] → SaysLast (last s) r old new → OverBy replies last no_memory 0 r s s left rest before after old new
   said-alone End s left rest before after line old new e n l = record { line = line; came = e; out = last s; is = inl (n, refl, refl); added = l }
   said-alone Closed s left rest before after line old new e n l = absurd l
   said-alone ReadFault s left rest before after line old new e n l = absurd l

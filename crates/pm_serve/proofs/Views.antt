@@ -1,5 +1,5 @@
 -- A service whose states are seen as others: what it answers is what they are answered.
-use Rattle.std.proofs.Common.{◌≡◌, ◌++◌, ◌∙◌, ℕ, Bool, List, [], ◌∷◌, ap, inl, inr}
+use Rattle.std.proofs.Common.{◌≡◌, ◌++◌, ◌∙◌, ℕ, Bool, List, [], ◌∷◌, length, ap, inl, inr}
 use Rattle.std.specs.Prelude.{Option}
 use Rattle.pm_serve.specs.declared.serving.Served.{Served}
 use Rattle.pm_serve.specs.declared.serving.Served.TheVariants.{End, Closed, ReadFault, WriteFault, Spent}
@@ -33,32 +33,32 @@ module _ {S T : Type 0} (mine : S → List ℕ → List ℕ → Bool → S → T
         | inr e ↦ inr (e.0, (e.1.0, tells-seen s line e.1.0 _ t m e.1.1, e.1.2 ∙ ap (λ x. e.1.0 ++ x) (says t)))
       ]
 
-  pub over-seen : (served : Served) (s t : S) (left rest : Option (List ℕ)) (before after : List ℕ) (old new : Option (List ℕ)) → Mirrors s
-      → OverBy mine last no_memory served s t left rest before after old new
-      → OverBy replies said no_memory served (view s) (view t) left rest before after old new
-  over-seen End s t left rest before after old new m o = record {
+  pub over-seen : (count : ℕ) (served : Served) (s t : S) (left rest : Option (List ℕ)) (before after : List ℕ) (old new : Option (List ℕ)) → Mirrors s
+      → OverBy mine last no_memory count served s t left rest before after old new
+      → OverBy replies said no_memory count served (view s) (view t) left rest before after old new
+  over-seen count End s t left rest before after old new m o = record {
     line = o.line;
     came = o.came;
     out = o.out;
     is = end-seen s t o.line o.out m o.is;
     added = o.added;
   }
-  over-seen Closed s t left rest before after old new m o = record {
+  over-seen count Closed s t left rest before after old new m o = record {
     line = o.line;
     came = o.came;
     text = o.text;
     tells = tells-seen s o.line o.text _ t m o.tells;
     added = o.added;
   }
-  over-seen ReadFault s t left rest before after old new m o = record { taken = o.taken; took = o.took; same = ap view o.same; none = o.none }
-  over-seen WriteFault s t left rest before after old new m o = record {
+  over-seen count ReadFault s t left rest before after old new m o = record { taken = o.taken; took = o.took; same = ap view o.same; none = o.none }
+  over-seen count WriteFault s t left rest before after old new m o = record {
     line = o.line;
     came = o.came;
     out = o.out;
     is = elim o.is [ inl w ↦ inl (w.0, tells-seen s o.line o.out w.0 t m w.1) | inr e ↦ inr (end-seen s t o.line o.out m e) ];
     front = o.front;
   }
-  over-seen Spent s t left rest before after old new m o = record { taken = o.taken; took = o.took; same = ap view o.same; none = o.none }
+  over-seen count Spent s t left rest before after old new m o = record { taken = o.taken; took = o.took; same = ap view o.same; none = o.none; many = o.many }
 
   answers-seen : (s : S) (lines : List (List ℕ)) (out : List ℕ) (t : S) → ((s : S) → Mirrors s)
       → Answers mine last no_memory s lines out t → Answers replies said no_memory (view s) lines out (view t)
@@ -85,5 +85,5 @@ module _ {S T : Type 0} (mine : S → List ℕ → List ℕ → Bool → S → T
           answers = answers-seen s f.lines f.out h.mid m f.answers;
           added = f.added;
         };
-        over = over-seen served h.mid t h.left_then rest h.there_then after h.written_then new (m h.mid) h.over;
+        over = over-seen (length f.lines) served h.mid t h.left_then rest h.there_then after h.written_then new (m h.mid) h.over;
       }

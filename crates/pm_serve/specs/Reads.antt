@@ -1,10 +1,10 @@
 -- How a line is read.
-use Rattle.std.specs.Prelude.{◌≡◌, ◌≢◌, ℕ, false, List, [], ◌∷◌, ◌++◌, take, Option}
+use Rattle.std.specs.Prelude.{◌≡◌, ◌≢◌, ◌≤◌, ◌-◌, ◌^◌, ℕ, false, List, [], ◌∷◌, ◌++◌, length, take, Option}
 use Rattle.std.specs.Io.KnownBytes.{Consumes, IsAtEnd}
 use Rattle.pm_io.specs.Faults.{Rose}
 use Rattle.pm_serve.specs.declared.unread.TheConstants.{KEPT}
-use Rattle.pm_serve.specs.declared.lines.Came.{Came}
-use Rattle.pm_serve.specs.declared.lines.Came.TheVariants.{Line, Last, End, Failed, Spent}
+use Rattle.pm_serve.specs.declared.reader.Came.{Came}
+use Rattle.pm_serve.specs.declared.reader.Came.TheVariants.{Line, Last, End, Failed, Spent}
 use Rattle.pm_serve.specs.Bytes.{has_lf}
 
 -- A whole line came: what was there and what was taken is the line, its LF, and what is there now. At most KEPT bytes of the line
@@ -17,7 +17,7 @@ pub record LineCame (left rest : Option (List ℕ)) (before after line : List �
   pub one : has_lf whole ≡ false
   pub kept : line ≡ take KEPT whole
 
--- the input ended behind these bytes, in which there is no LF
+-- the input ended after these bytes, in which there is no LF
 pub record EndCame (left rest : Option (List ℕ)) (before after line : List ℕ) : Type 0 where
   pub taken : List ℕ
   pub whole : List ℕ
@@ -33,12 +33,29 @@ pub record PartCame (left rest : Option (List ℕ)) (before : List ℕ) : Type 0
   pub taken : List ℕ
   pub took : Consumes left rest taken
 
+-- so many reads are made for a line, and so many lines are answered
+abbrev pub most : ℕ
+most = 2 ^ 64 - 1
+
+-- As many bytes were taken as reads are made for a line, or more, and there is no LF among them but in what is still there.
+pub record IsLong (before taken after : List ℕ) : Type 0 where
+  pub whole : List ℕ
+  pub split : before ++ taken ≡ whole ++ after
+  pub one : has_lf whole ≡ false
+  pub long : most ≤ length taken
+
+-- bytes were taken without end, and no line came
+pub record LongCame (left rest : Option (List ℕ)) (before after : List ℕ) : Type 0 where
+  pub taken : List ℕ
+  pub took : Consumes left rest taken
+  pub is_long : IsLong before taken after
+
 abbrev pub Reads : Came → Option (List ℕ) → Option (List ℕ) → List ℕ → List ℕ → List ℕ → Type 0
 Reads Line left rest before after line = LineCame left rest before after line
 Reads Last left rest before after line = EndCame left rest before after line × (line ≢ [])
 Reads End left rest before after line = EndCame left rest before after line × (line ≡ [])
 Reads Failed left rest before after line = PartCame left rest before
-Reads Spent left rest before after line = PartCame left rest before
+Reads Spent left rest before after line = LongCame left rest before after
 
 abbrev pub ReadFaults : Came → ℕ → ℕ → Type 0
 ReadFaults Line old new = new ≡ old

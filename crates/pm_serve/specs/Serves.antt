@@ -1,5 +1,5 @@
 -- What is written for lines, by what a service may answer to each.
-use Rattle.std.specs.Prelude.{◌≡◌, ◌≢◌, ◌⊎◌, ◌<◌, ℕ, Bool, true, false, List, [], ◌∷◌, ◌++◌, length, take, Option}
+use Rattle.std.specs.Prelude.{◌≡◌, ◌≢◌, ◌⊎◌, ◌<◌, ◌≤◌, ℕ, Bool, true, false, List, [], ◌∷◌, ◌++◌, length, take, Option}
 use Rattle.std.specs.Io.KnownBytes.{Consumes}
 use Rattle.pm_io.specs.Faults.{Rose}
 use Rattle.pm_io.specs.Moves.{Adds}
@@ -10,7 +10,7 @@ use Rattle.pm_serve.specs.declared.serving.Next.{Next}
 use Rattle.pm_serve.specs.declared.serving.Next.TheVariants.{More, Over}
 use Rattle.pm_serve.specs.declared.serving.Wrote.{Wrote}
 use Rattle.pm_serve.specs.declared.serving.Wrote.TheVariants as wrote
-use Rattle.pm_serve.specs.Reads.{LineCame, EndCame}
+use Rattle.pm_serve.specs.Reads.{LineCame, EndCame, most, IsLong}
 use Rattle.pm_serve.specs.Lines.{with_lf, AreLines}
 
 -- what is kept of a line
@@ -28,7 +28,7 @@ module _ {S : Type 0} (replies : S → List ℕ → List ℕ → Bool → S → 
   abbrev pub Tells : S → List ℕ → List ℕ → Bool → S → Type 0
   Tells s line text more t = replies s line text more t ⊎ ((text ≡ no_memory) × (more ≡ true) × (t ≡ s))
 
-  -- the answers to these lines, one behind another, and what the service is behind them
+  -- the answers to these lines, one after another, and what the service is after them
   abbrev pub Answers : S → List (List ℕ) → List ℕ → S → Type 0
   Answers s [] out t = (out ≡ []) × (t ≡ s)
   Answers s (line ∷ lines) out t =
@@ -51,7 +51,7 @@ module _ {S : Type 0} (replies : S → List ℕ → List ℕ → Bool → S → 
     pub tells : Tells s line text true t
     pub added : Adds old new text
 
-  -- What is said at the end of input: the answer to the bytes behind the last LF, if there are any, and what the service says last.
+  -- What is said at the end of input: the answer to the bytes after the last LF, if there are any, and what the service says last.
   abbrev pub IsEnd : S → S → List ℕ → List ℕ → Type 0
   IsEnd s t line out =
       ((line ≡ []) × (t ≡ s) × (out ≡ last t))
@@ -92,20 +92,29 @@ module _ {S : Type 0} (replies : S → List ℕ → List ℕ → Bool → S → 
     pub same : t ≡ s
     pub none : Adds old new []
 
-  abbrev pub OverBy : Served → S → S → Option (List ℕ) → Option (List ℕ) → List ℕ → List ℕ → Option (List ℕ) → Option (List ℕ) → Type 0
-  OverBy End s t left rest before after old new = Ended s t left rest before after old new
-  OverBy Closed s t left rest before after old new = ClosedBy s t left rest before after old new
-  OverBy ReadFault s t left rest before after old new = Silent s t left rest old new
-  OverBy WriteFault s t left rest before after old new = Broken s t left rest before after old new
-  OverBy Spent s t left rest before after old new = Silent s t left rest old new
+  -- Bytes were taken, and nothing was said. So many lines had been answered, or these bytes are a line without end.
+  pub record Tired (count : ℕ) (s t : S) (left rest : Option (List ℕ)) (before after : List ℕ) (old new : Option (List ℕ)) : Type 0 where
+    pub taken : List ℕ
+    pub took : Consumes left rest taken
+    pub same : t ≡ s
+    pub none : Adds old new []
+    pub many : (most ≤ count) ⊎ IsLong before taken after
+
+  -- How it was over after so many lines.
+  abbrev pub OverBy : ℕ → Served → S → S → Option (List ℕ) → Option (List ℕ) → List ℕ → List ℕ → Option (List ℕ) → Option (List ℕ) → Type 0
+  OverBy count End s t left rest before after old new = Ended s t left rest before after old new
+  OverBy count Closed s t left rest before after old new = ClosedBy s t left rest before after old new
+  OverBy count ReadFault s t left rest before after old new = Silent s t left rest old new
+  OverBy count WriteFault s t left rest before after old new = Broken s t left rest before after old new
+  OverBy count Spent s t left rest before after old new = Tired count s t left rest before after old new
 
   abbrev pub Steps : Next → S → S → Option (List ℕ) → Option (List ℕ) → List ℕ → List ℕ → Option (List ℕ) → Option (List ℕ) → Type 0
   Steps More s t left rest before after old new = Stepped s t left rest before after old new
-  Steps (Over served) s t left rest before after old new = OverBy served s t left rest before after old new
+  Steps (Over served) s t left rest before after old new = OverBy 0 served s t left rest before after old new
 
   -- ---- all steps
 
-  -- Lines came whole and were answered one behind another: what was there and what was taken is these lines with their LFs, and
+  -- Lines came whole and were answered one after another: what was there and what was taken is these lines with their LFs, and
   -- what is there now; and the answers were written.
   pub record SoFar (s t : S) (left rest : Option (List ℕ)) (before after : List ℕ) (old new : Option (List ℕ)) : Type 0 where
     pub lines : List (List ℕ)
@@ -124,7 +133,7 @@ module _ {S : Type 0} (replies : S → List ℕ → List ℕ → Bool → S → 
     pub there_then : List ℕ
     pub written_then : Option (List ℕ)
     pub lines_came : SoFar s mid left left_then before there_then old written_then
-    pub over : OverBy served mid t left_then rest there_then after written_then new
+    pub over : OverBy (length lines_came.lines) served mid t left_then rest there_then after written_then new
 
 -- what is said last, written whole or in part
 abbrev pub SaysLast : List ℕ → Served → Option (List ℕ) → Option (List ℕ) → Type 0

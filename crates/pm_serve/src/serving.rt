@@ -4,10 +4,10 @@ ghost use Rattle.pm_io.specs.Faults.{Rose};
 ghost use Rattle.pm_serve.specs.Pieces.{AskedInTime};
 ghost use Rattle.pm_serve.specs.Serves.{Steps, Serves, StepFaults, ServeFaults};
 
-use crate::lines::{Came, next_line};
 use crate::piecewise::Piecewise;
+use crate::reader::{Came, LineReader};
 use crate::service::{Reply, Service};
-use crate::unread::{Kept, Unread};
+use crate::unread::Kept;
 use pm_io::{Sink, WriteFault, write_all};
 use std::alloc::{AllocError, Global};
 
@@ -22,11 +22,12 @@ pub enum Served {
     ReadFault,
     /// A write failed. A front of the answers was written.
     WriteFault,
-    /// There were 2^64 - 1 lines, or as many reads within a line. The lines that came whole were answered.
+    /// There were 2^64 - 1 lines, or as many reads within a line, so as many bytes at least. The lines that came whole were
+    /// answered.
     Spent,
 }
 
-/// How it goes on behind a line.
+/// How it goes on after a line.
 #[derive(Clone, Copy, Debug, PartialEq, Eq)]
 pub enum Next {
     /// The line was answered, and more may come.
@@ -35,23 +36,21 @@ pub enum Next {
     Over(Served),
 }
 
-/// Answers one line after another. A line for which there is no memory is answered by `no_memory`, and changes nothing.
+/// Answers one line after another. A line for which there is no memory is answered by `Service::no_memory`, and changes nothing.
 pub fn serve<S: Service, R: Piecewise, W: Sink>(
     alloc: Global,
     service: &mut S,
-    no_memory: &[u8],
-    unread: &mut Unread,
-    line: &mut Kept,
+    lines: &mut LineReader,
     source: &mut R,
     sink: &mut W,
 ) -> Served
     requires { S.good service.old }
-    ensures serves { Serves S.replies S.last no_memory.now result service.old service.new (R.left source.old) (R.left source.new) unread.old unread.new (W.written sink.old) (W.written sink.new) }
+    ensures serves { Serves S.replies S.last S.no_memory result service.old service.new (R.left source.old) (R.left source.new) lines.old.unread lines.new.unread (W.written sink.old) (W.written sink.new) }
     ensures good { S.good service.new }
     ensures faults { ServeFaults result (R.faults source.old) (R.faults source.new) (W.faults sink.old) (W.faults sink.new) }
 {
-    for _ in 0..u64::MAX {
-        match serve_next(alloc, service, no_memory, unread, line, source, sink) {
+    for _count in 0..u64::MAX {
+        match serve_next(alloc, service, lines, source, sink) {
             Next::More => {}
             Next::Over(served) => return served,
         }
@@ -60,30 +59,29 @@ pub fn serve<S: Service, R: Piecewise, W: Sink>(
 }
 
 /// Reads a line and writes its answer. The source is asked for bytes only while no whole line is there, so not between the line
-/// and its answer, and not behind the answer. A line for which there is no memory is answered by `no_memory`, and changes nothing.
+/// and its answer, and not after the answer. A line for which there is no memory is answered by `Service::no_memory`, and changes
+/// nothing.
 pub fn serve_next<S: Service, R: Piecewise, W: Sink>(
     alloc: Global,
     service: &mut S,
-    no_memory: &[u8],
-    unread: &mut Unread,
-    line: &mut Kept,
+    lines: &mut LineReader,
     source: &mut R,
     sink: &mut W,
 ) -> Next
     requires { S.good service.old }
-    ensures steps { Steps S.replies S.last no_memory.now result service.old service.new (R.left source.old) (R.left source.new) unread.old unread.new (W.written sink.old) (W.written sink.new) }
+    ensures steps { Steps S.replies S.last S.no_memory result service.old service.new (R.left source.old) (R.left source.new) lines.old.unread lines.new.unread (W.written sink.old) (W.written sink.new) }
     ensures good { S.good service.new }
     ensures faults { StepFaults result (R.faults source.old) (R.faults source.new) (W.faults sink.old) (W.faults sink.new) }
     // Each read was made while no whole line was there.
-    ensures in_time { AskedInTime unread.old (R.pieces source.old) (R.pieces source.new) }
+    ensures in_time { AskedInTime lines.old.unread (R.pieces source.old) (R.pieces source.new) }
 {
-    match next_line(source, unread, line) {
-        Came::Line => match answer(alloc, service, no_memory, line, sink) {
+    match lines.next(source) {
+        Came::Line => match answer(alloc, service, &lines.line, sink) {
             Wrote::More => Next::More,
             Wrote::Closed => Next::Over(Served::Closed),
             Wrote::Fault => Next::Over(Served::WriteFault),
         },
-        Came::Last => match answer(alloc, service, no_memory, line, sink) {
+        Came::Last => match answer(alloc, service, &lines.line, sink) {
             Wrote::More => Next::Over(say_last(service, sink)),
             Wrote::Closed => Next::Over(Served::Closed),
             Wrote::Fault => Next::Over(Served::WriteFault),
@@ -108,15 +106,9 @@ enum Wrote {
 ghost use Rattle.pm_serve.specs.Serves.{Writes, WriteFaults, SaysLast, LastFaults};
 
 /// Writes the answer to a line.
-fn answer<S: Service, W: Sink>(
-    alloc: Global,
-    service: &mut S,
-    no_memory: &[u8],
-    line: &Kept,
-    sink: &mut W,
-) -> Wrote
+fn answer<S: Service, W: Sink>(alloc: Global, service: &mut S, line: &Kept, sink: &mut W) -> Wrote
     requires { S.good service.old }
-    ensures writes { Writes S.replies S.last no_memory.now result service.old service.new line.now (W.written sink.old) (W.written sink.new) }
+    ensures writes { Writes S.replies S.last S.no_memory result service.old service.new line.now (W.written sink.old) (W.written sink.new) }
     ensures good { S.good service.new }
     ensures faults { WriteFaults result (W.faults sink.old) (W.faults sink.new) }
 {
@@ -128,7 +120,7 @@ fn answer<S: Service, W: Sink>(
                 Err(WriteFault) => Wrote::Fault,
             }
         }
-        Err(AllocError) => match write_all(sink, no_memory) {
+        Err(AllocError) => match write_all(sink, service.no_memory()) {
             Ok(()) => Wrote::More,
             Err(WriteFault) => Wrote::Fault,
         },

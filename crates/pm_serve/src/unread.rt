@@ -10,7 +10,8 @@ use std::marker::Model;
 /// The most bytes that one read asks for.
 const PIECE: usize = 65_536;
 
-/// The most bytes of a line that are kept: one more than a line may have, so that a line that is too long shows it.
+/// The most bytes of a line that are kept: one more than a line may have, so that a line that is too long shows it. What answers
+/// lines proves that no answer depends on the bytes after these.
 pub const KEPT: usize = 1_048_577;
 
 const LF: u8 = b'\n';

@@ -40,21 +40,12 @@ use Rattle.pm_session.proofs.Playing.{suits-first, suits-rest, played-sound}
 use Rattle.pm_session.proofs.Restorings.{played-restores}
 use Rattle.pm_session.proofs.Rooms.{all-named, rests, placed-stays, exchanged-rested, played-stays}
 use Rattle.pm_session.proofs.SoundLaws.{new-stands}
+use Rattle.pm_session.proofs.Tellings.{found, told-member, tied-member, set-there, set-other}
 use Rattle.pm_session.proofs.Turns.{exchanged-sound}
 use Rattle.pm_session.proofs.Unrefused.{messages-none, played-none}
 
 some-same : {A : Type 0} (x y : A) → Some x ≡ Some y → x ≡ y
 some-same x y h = cc
-
--- a message of a number within the list is there
-found : {A : Type 0} (xs : List A) (j : ℕ) → 0 < j → j ≤ length xs → (x : A) × (slice_get xs (j - 1) ≡ Some x)
-found xs zero some within = absurd (omega (arith, some))
-found xs (suc k) some within = let back : suc k - 1 ≡ k = omega arith in rw back (there xs k (omega (arith, within)))
-  where
-    there : {A : Type 0} (xs : List A) (k : ℕ) → k < length xs → (x : A) × (slice_get xs k ≡ Some x)
-    there [] k l = absurd (omega (arith, l))
-    there (x ∷ xs) zero l = (x, refl)
-    there (x ∷ xs) (suc k) l = there xs k (omega (arith, l))
 
 module _ {Rules Doc Reason C : Type 0} (m : Meaning Rules Doc Reason C) (rules : Rules) (laws : Laws m) where
   client-holds : (a : Authority C Rules Doc Reason) (c : Client C Rules Doc Reason) → Kin m rules a.first a.log c → ClientHolds m rules a c
@@ -196,14 +187,23 @@ module _ {Rules Doc Reason C : Type 0} (m : Meaning Rules Doc Reason C) (rules :
   module _ {Op : Type 0} (makes : Doc → Op → Result (List C) NoStep) where
     line-holds : (s : State C Rules Doc Reason) → Sound m rules s → (line : Line Op C) → SuitsRoom s line
         → LineHolds m rules s line (played m rules makes s line).0 (played m rules makes s line).1
-    line-holds s sound line suits = record {
-      member = suits.member;
-      at = suits.at;
-      answered = rw suits.at (member-answered makes s.authority suits.member line.act suits.suits);
-      unrefused = played-none m rules laws makes s sound line suits;
-      cursors = played-stays m rules laws makes s sound line suits;
-      restores = played-restores m rules laws makes s line;
-    }
+    line-holds s sound line suits =
+        let x = suits.member in
+        let p = acted m rules makes s.authority line.act x in
+        let told = told-member m rules laws makes s.authority sound.authority line.act x (sound.stand line.client x suits.at).1 suits.suits in
+        record {
+          member = x;
+          at = suits.at;
+          answered = rw suits.at (member-answered makes s.authority suits.member line.act suits.suits);
+          next = p.2;
+          next_at = rw suits.at (set-there s.members line.client p.2 x suits.at);
+          told = rw suits.at told;
+          others = λ i other. rw suits.at (set-other s.members line.client i p.2 other);
+          tied = rw suits.at (tied-member m rules makes s.authority line.act x);
+          unrefused = played-none m rules laws makes s sound line suits;
+          cursors = played-stays m rules laws makes s sound line suits;
+          restores = played-restores m rules laws makes s line;
+        }
 
     -- line k of a session has an outcome, from the room after k lines to the one after one line more
     pub session-lines : (s : State C Rules Doc Reason) (lines : List (Line Op C)) → Sound m rules s → LinesSuit s lines → (k : ℕ) (line : Line Op C) → slice_get lines k ≡ Some line

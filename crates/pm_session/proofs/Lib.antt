@@ -1,5 +1,6 @@
 pub mod Openings
 pub mod Keeping
+pub mod Makings
 pub mod SoundLaws
 pub mod Editors
 pub mod Moves
@@ -19,6 +20,7 @@ pub mod Restorings
 pub mod Unrefused
 pub mod Turns
 pub mod Settling
+pub mod Tellings
 pub mod Holdings
 pub mod RoomActs
 pub mod Alone

@@ -24,6 +24,8 @@ use Rattle.pm_session.specs.Refusals.{RefusesNoStep, EditorGetsNoRefusal}
 use Rattle.pm_session.specs.Restoring.{Restores}
 use Rattle.pm_session.specs.Sessions.{exchanged, brought_up, in_turn}
 use Rattle.pm_session.specs.Standing.{CursorsStay}
+use Rattle.pm_session.specs.Telling.{MemberTold}
+use Rattle.pm_session.specs.Tying.{MemberTied}
 
 module _ {Rules Doc Reason C : Type 0} (m : Meaning Rules Doc Reason C) (rules : Rules) where
   -- A message was presented. The answer is the one whose cause holds: Accepted exactly where the message's version is the
@@ -78,13 +80,19 @@ module _ {Rules Doc Reason C : Type 0} (m : Meaning Rules Doc Reason C) (rules :
   MemberAnswered act a (Editor c) o new = AnsweredBy act a c o new
   MemberAnswered act a (Raw name serial) o new = AnsweredByRaw act a name serial o new
 
-  -- A line from one room to the next, and its outcome. The line's member is there, and what it presented was answered so. No
-  -- message of an editor is refused for a step. Cursors stay before their tokens. An undo or a redo, also of
+  -- A line from one room to the next, and its outcome. The line's member is there, and what it presented was answered so. The
+  -- outcome tells what became of the member, and no other member changed. The steps of an undo or a redo are tied to those of its
+  -- event. No message of an editor is refused for a step. Cursors stay before their tokens. An undo or a redo, also of
   -- a numbered event, gives the document before its event, where nothing has changed since.
   pub record LineHolds {Op : Type 0} (s : State C Rules Doc Reason) (line : Line Op C) (o : Outcome C Rules Doc Reason) (t : State C Rules Doc Reason) : Type 0 where
     pub member : Member C Rules Doc Reason
     pub at : slice_get s.members line.client ≡ Some member
     pub answered : MemberAnswered line.act s.authority member o t.authority
+    pub next : Member C Rules Doc Reason
+    pub next_at : slice_get t.members line.client ≡ Some next
+    pub told : MemberTold m rules line.act s.authority o member next
+    pub others : (i : ℕ) → (i ≡ line.client → ⊥) → slice_get t.members i ≡ slice_get s.members i
+    pub tied : MemberTied m rules line.act t.authority o member next
     pub unrefused : EditorGetsNoRefusal line.act o
     pub cursors : CursorsStay m s t
     pub restores : Restores m rules s line t

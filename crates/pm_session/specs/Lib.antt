@@ -11,4 +11,6 @@ pub mod Sounds
 pub mod Standing
 pub mod Restoring
 pub mod Holding
+pub mod Telling
+pub mod Tying
 pub mod Answers

@@ -47,6 +47,7 @@ fn edit_by<C: Change>(
     made: Made<C>,
     event: Option<u32>,
 ) -> Result<u64, EditError<C::Reason>>
+    requires some { 0 < length made.steps.items }
     requires good { C.means.is_good rules.now client.old.doc }
     requires cursors { AreWithin (C.means.size client.old.doc) client.old.cursors }
     requires leads { IfSome made.end (λ end. fold C.means rules.now client.old.doc made.steps.items ≡ Some end) }

@@ -1,14 +1,9 @@
 //! A small document: a list of numbers, where one may be put in or taken out. It keeps all laws of a change.
-//!
-//! The tests of pm_history are here, as rows of undo and of events.
 #![tactic(auto)]
 
 ghost use Rattle.std.specs.Prelude.{◌≡◌, IfOk, ◌++◌, insert, remove, length, ◌≤◌, ◌<◌};
 ghost use Rattle.pm_sheet.specs.Edits.{meaning, PutOr};
 ghost use Rattle.pm_sheet.specs.EditLaws.{laws};
-
-#[cfg(test)]
-mod tests;
 
 use pm_change::{Change, Failed};
 use pm_list::Listed;

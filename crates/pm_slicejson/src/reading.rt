@@ -1,16 +1,16 @@
 //! JSON values as slices.
-ghost use Rattle.std.specs.Prelude.{◌≡◌};
-ghost use Rattle.serde_json.specs.View.{view, items_view};
+ghost use Rattle.std.specs.Prelude.{map};
+ghost use Rattle.serde_json.specs.View.{items_of};
 ghost use Rattle.pm_docjson.specs.Answers.{Gives};
 ghost use Rattle.pm_slice.specs.Sides.{sides};
 ghost use Rattle.pm_slicejson.specs.Reading.{list_at, as_slice, sides_of, slice_of};
 
 use crate::numbers::count_at;
 use pm_docjson::{DocReadError, LeafContent, read_nodes};
+use pm_json::JsonRef;
 use pm_node::Fragment;
 use pm_schema::Schema;
 use pm_slice::Slice;
-use serde_json::Value as Json;
 use std::alloc::Global;
 
 /// The slice of a JSON value, or its first fault in the order `content`, `openStart`, `openEnd`. Null is the empty slice.
@@ -19,8 +19,12 @@ use std::alloc::Global;
 /// where a side is deeper than the nodes that stand first, or last, within one another and are no leaf and no text. A slice
 /// without tokens is the empty one.
 #[tactic(auto, unfolding(crate::specs::Reading::slice_of))]
-pub fn read_slice(alloc: Global, schema: &Schema, json: &Json) -> Result<Slice, DocReadError>
-    ensures { Gives (λ s. s) result (slice_of schema.now.spec (view json.now)) }
+pub fn read_slice<J: JsonRef>(
+    alloc: Global,
+    schema: &Schema,
+    json: J,
+) -> Result<Slice, DocReadError>
+    ensures { Gives (λ s. s) result (slice_of schema.now.spec (J.seen json)) }
 {
     if json.is_null() {
         return Ok(Slice::empty(alloc));
@@ -30,23 +34,23 @@ pub fn read_slice(alloc: Global, schema: &Schema, json: &Json) -> Result<Slice, 
 
 /// A slice by its fields.
 #[tactic(auto, unfolding(crate::specs::Reading::sides_of))]
-fn sides_of(alloc: Global, schema: &Schema, json: &Json) -> Result<Slice, DocReadError>
-    ensures { Gives (λ s. s) result (sides_of schema.now.spec (view json.now)) }
+fn sides_of<J: JsonRef>(alloc: Global, schema: &Schema, json: J) -> Result<Slice, DocReadError>
+    ensures { Gives (λ s. s) result (sides_of schema.now.spec (J.seen json)) }
 {
-    let items = list_at(json, "content")?;
-    let content = read_nodes(alloc, schema, LeafContent::Refused, items)?;
+    let items = list_at(alloc, json, "content")?;
+    let content = read_nodes(alloc, schema, LeafContent::Refused, items.as_slice())?;
     let open_start = count_at(json, "openStart")?;
     let open_end = count_at(json, "openEnd")?;
     as_slice(alloc, content, open_start, open_end)
 }
 
 /// A list that must be there.
-fn list_at<'a>(json: &'a Json, key: &str) -> Result<&'a [Json], DocReadError>
-    ensures { Gives (λ v. items_view v.now) result (list_at key.now (view json.now)) }
+fn list_at<J: JsonRef>(alloc: Global, json: J, key: &str) -> Result<Vec<J>, DocReadError>
+    ensures { Gives (λ v. items_of (map J.seen v.items)) result (list_at key.now (J.seen json)) }
 {
     match json.get(key) {
-        Some(value) => match value.as_array() {
-            Some(items) => Ok(items.as_slice()),
+        Some(value) => match value.items(alloc)? {
+            Some(items) => Ok(items),
             None => Err(DocReadError::Shape),
         },
         None => Err(DocReadError::Shape),

@@ -11,6 +11,7 @@ ghost use Rattle.pm_stepjson.specs.Writing.{step_written};
 use crate::fault::StepReadError;
 use crate::fields::{number_at, slice_at, structure_at};
 use crate::members::replaced;
+use pm_json::JsonRef;
 use pm_schema::Schema;
 use pm_step::{ReplaceAroundStep, Step};
 use serde_json::{Value as Json, put};
@@ -18,12 +19,12 @@ use std::alloc::{AllocError, Global};
 
 /// The replaceAround that the fields give.
 #[tactic(auto, unfolding(crate::specs::Around::around_from))]
-pub(crate) fn around_from(
+pub(crate) fn around_from<J: JsonRef>(
     alloc: Global,
     schema: &Schema,
-    json: &Json,
+    json: J,
 ) -> Result<ReplaceAroundStep, StepReadError>
-    ensures { Gives (λ s. step_of (Step.ReplaceAround s)) result (around_from schema.now.spec (view json.now)) }
+    ensures { Gives (λ s. step_of (Step.ReplaceAround s)) result (around_from schema.now.spec (J.seen json)) }
 {
     let from = number_at(json, "from")?;
     let to = number_at(json, "to")?;

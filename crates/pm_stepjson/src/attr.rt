@@ -10,7 +10,8 @@ ghost use Rattle.pm_stepjson.specs.Answers.{Gives};
 ghost use Rattle.pm_stepjson.specs.Attr.{attr_from, attr_written};
 
 use crate::fault::StepReadError;
-use crate::fields::{number_at, text_at, value_at};
+use crate::fields::{number_at, text_of, value_at};
+use pm_json::JsonRef;
 use pm_step::{AttrStep, Step};
 use pm_value::Text;
 use serde_json::{Map, Value as Json, put};
@@ -18,11 +19,12 @@ use std::alloc::{AllocError, Global};
 
 /// The step that the fields give.
 #[tactic(auto, unfolding(crate::specs::Attr::attr_from))]
-pub(crate) fn attr_from(alloc: Global, json: &Json) -> Result<AttrStep, StepReadError>
-    ensures { Gives (λ s. step_of (Step.Attr s)) result (attr_from (view json.now)) }
+pub(crate) fn attr_from<J: JsonRef>(alloc: Global, json: J) -> Result<AttrStep, StepReadError>
+    ensures { Gives (λ s. step_of (Step.Attr s)) result (attr_from (J.seen json)) }
 {
     let pos = number_at(json, "pos")?;
-    let name = text_at(json, "attr")?;
+    let field = json.get("attr");
+    let name = text_of(&field)?;
     let value = value_at(alloc, json)?;
     let attr = Text::from_str(alloc, name)?;
     Ok(AttrStep { pos, attr, value })

@@ -10,7 +10,8 @@ ghost use Rattle.pm_stepjson.specs.Answers.{Gives};
 ghost use Rattle.pm_stepjson.specs.DocAttr.{doc_attr_from, doc_attr_written};
 
 use crate::fault::StepReadError;
-use crate::fields::{text_at, value_at};
+use crate::fields::{text_of, value_at};
+use pm_json::JsonRef;
 use pm_step::{DocAttrStep, Step};
 use pm_value::Text;
 use serde_json::{Map, Value as Json, put};
@@ -18,10 +19,14 @@ use std::alloc::{AllocError, Global};
 
 /// The step that the fields give.
 #[tactic(auto, unfolding(crate::specs::DocAttr::doc_attr_from))]
-pub(crate) fn doc_attr_from(alloc: Global, json: &Json) -> Result<DocAttrStep, StepReadError>
-    ensures { Gives (λ s. step_of (Step.DocAttr s)) result (doc_attr_from (view json.now)) }
+pub(crate) fn doc_attr_from<J: JsonRef>(
+    alloc: Global,
+    json: J,
+) -> Result<DocAttrStep, StepReadError>
+    ensures { Gives (λ s. step_of (Step.DocAttr s)) result (doc_attr_from (J.seen json)) }
 {
-    let name = text_at(json, "attr")?;
+    let field = json.get("attr");
+    let name = text_of(&field)?;
     let value = value_at(alloc, json)?;
     let attr = Text::from_str(alloc, name)?;
     Ok(DocAttrStep { attr, value })

@@ -1,26 +1,29 @@
 //! The fields of a step.
-ghost use Rattle.serde_json.specs.View.{view};
-ghost use Rattle.pm_stepjson.specs.Answers.{Gives};
-ghost use Rattle.pm_docjson.specs.Reading.{mark_of};
-ghost use Rattle.pm_slicejson.specs.Reading.{slice_of};
+ghost use Rattle.std.specs.Prelude.{option_map, option_and_then};
+ghost use Rattle.serde_json.specs.Find.{as_str};
+ghost use Rattle.pm_list.specs.Readings.{or_fault};
 ghost use Rattle.pm_value.specs.Reading.{value_of};
 ghost use Rattle.pm_value.specs.Views.{plain};
-ghost use Rattle.pm_stepjson.specs.Fields.{as_mark, as_slice, as_value, mark_at, number_at, slice_at, structure_at, text_at, value_at};
+ghost use Rattle.pm_docjson.specs.Reading.{mark_of};
+ghost use Rattle.pm_slicejson.specs.Reading.{slice_of};
+ghost use Rattle.pm_stepjson.specs.declared.fault.StepReadError.TheVariants.{Shape};
+ghost use Rattle.pm_stepjson.specs.Answers.{Gives};
+ghost use Rattle.pm_stepjson.specs.Fields.{as_mark, as_slice, as_value, mark_at, number_at, slice_at, structure_at, value_at};
 
 use crate::fault::{StepReadError, mark_fault, slice_fault, value_fault};
 use pm_attrs::Attrs;
 use pm_docjson::{field, read_mark};
+use pm_json::JsonRef;
 use pm_marks::Mark;
 use pm_schema::Schema;
 use pm_slice::Slice;
 use pm_slicejson::{as_count, read_slice};
 use pm_value::Value;
-use serde_json::Value as Json;
 use std::alloc::Global;
 
 /// A whole number from 0 to 4,294,967,295, which must be there.
-pub fn number_at(json: &Json, key: &str) -> Result<u64, StepReadError>
-    ensures { Gives (λ n. n) result (number_at key.now (view json.now)) }
+pub fn number_at<J: JsonRef>(json: J, key: &str) -> Result<u64, StepReadError>
+    ensures { Gives (λ n. n) result (number_at key.now (J.seen json)) }
 {
     match json.get(key) {
         Some(value) => match as_count(value) {
@@ -31,11 +34,11 @@ pub fn number_at(json: &Json, key: &str) -> Result<u64, StepReadError>
     }
 }
 
-/// A text that must be there.
-pub fn text_at<'a>(json: &'a Json, key: &str) -> Result<&'a str, StepReadError>
-    ensures { Gives (λ s. s.now) result (text_at key.now (view json.now)) }
+/// The text of a field that must be there.
+pub fn text_of<J: JsonRef>(field: &Option<J>) -> Result<&str, StepReadError>
+    ensures { Gives (λ s. s.now) result (or_fault Shape (option_and_then as_str (option_map J.seen field.now))) }
 {
-    match json.get(key) {
+    match field {
         Some(value) => match value.as_str() {
             Some(text) => Ok(text),
             None => Err(StepReadError::Shape),
@@ -45,8 +48,8 @@ pub fn text_at<'a>(json: &'a Json, key: &str) -> Result<&'a str, StepReadError>
 }
 
 /// The truth value `structure`, which is false where it is absent or null.
-pub fn structure_at(json: &Json) -> Result<bool, StepReadError>
-    ensures { Gives (λ b. b) result (structure_at (view json.now)) }
+pub fn structure_at<J: JsonRef>(json: J) -> Result<bool, StepReadError>
+    ensures { Gives (λ b. b) result (structure_at (J.seen json)) }
 {
     match field(json, "structure") {
         None => Ok(false),
@@ -58,8 +61,8 @@ pub fn structure_at(json: &Json) -> Result<bool, StepReadError>
 }
 
 /// The slice, which is the empty one where it is absent or null.
-pub fn slice_at(alloc: Global, schema: &Schema, json: &Json) -> Result<Slice, StepReadError>
-    ensures { Gives (λ s. s) result (slice_at schema.now.spec (view json.now)) }
+pub fn slice_at<J: JsonRef>(alloc: Global, schema: &Schema, json: J) -> Result<Slice, StepReadError>
+    ensures { Gives (λ s. s) result (slice_at schema.now.spec (J.seen json)) }
 {
     match field(json, "slice") {
         None => Ok(Slice::empty(alloc)),
@@ -68,8 +71,8 @@ pub fn slice_at(alloc: Global, schema: &Schema, json: &Json) -> Result<Slice, St
 }
 
 /// The value as a slice.
-fn as_slice(alloc: Global, schema: &Schema, json: &Json) -> Result<Slice, StepReadError>
-    ensures { Gives (λ s. s) result (as_slice (slice_of schema.now.spec (view json.now))) }
+fn as_slice<J: JsonRef>(alloc: Global, schema: &Schema, json: J) -> Result<Slice, StepReadError>
+    ensures { Gives (λ s. s) result (as_slice (slice_of schema.now.spec (J.seen json))) }
 {
     match read_slice(alloc, schema, json) {
         Ok(slice) => Ok(slice),
@@ -78,8 +81,12 @@ fn as_slice(alloc: Global, schema: &Schema, json: &Json) -> Result<Slice, StepRe
 }
 
 /// The mark, which must be there.
-pub fn mark_at(alloc: Global, schema: &Schema, json: &Json) -> Result<Mark<Attrs>, StepReadError>
-    ensures { Gives (λ m. m) result (mark_at schema.now.spec (view json.now)) }
+pub fn mark_at<J: JsonRef>(
+    alloc: Global,
+    schema: &Schema,
+    json: J,
+) -> Result<Mark<Attrs>, StepReadError>
+    ensures { Gives (λ m. m) result (mark_at schema.now.spec (J.seen json)) }
 {
     match json.get("mark") {
         Some(value) => as_mark(alloc, schema, value),
@@ -88,8 +95,12 @@ pub fn mark_at(alloc: Global, schema: &Schema, json: &Json) -> Result<Mark<Attrs
 }
 
 /// The value as a mark.
-fn as_mark(alloc: Global, schema: &Schema, json: &Json) -> Result<Mark<Attrs>, StepReadError>
-    ensures { Gives (λ m. m) result (as_mark (mark_of schema.now.spec (view json.now))) }
+fn as_mark<J: JsonRef>(
+    alloc: Global,
+    schema: &Schema,
+    json: J,
+) -> Result<Mark<Attrs>, StepReadError>
+    ensures { Gives (λ m. m) result (as_mark (mark_of schema.now.spec (J.seen json))) }
 {
     match read_mark(alloc, schema, json) {
         Ok(mark) => Ok(mark),
@@ -98,8 +109,8 @@ fn as_mark(alloc: Global, schema: &Schema, json: &Json) -> Result<Mark<Attrs>, S
 }
 
 /// The value, which must be there; null is one.
-pub fn value_at(alloc: Global, json: &Json) -> Result<Value, StepReadError>
-    ensures { Gives plain result (value_at (view json.now)) }
+pub fn value_at<J: JsonRef>(alloc: Global, json: J) -> Result<Value, StepReadError>
+    ensures { Gives plain result (value_at (J.seen json)) }
 {
     let Some(value) = json.get("value") else {
         return Err(StepReadError::Shape);
@@ -108,10 +119,10 @@ pub fn value_at(alloc: Global, json: &Json) -> Result<Value, StepReadError>
 }
 
 /// The JSON value as a value.
-fn as_value(alloc: Global, json: &Json) -> Result<Value, StepReadError>
-    ensures { Gives plain result (as_value (value_of (view json.now))) }
+fn as_value<J: JsonRef>(alloc: Global, json: J) -> Result<Value, StepReadError>
+    ensures { Gives plain result (as_value (value_of (J.seen json))) }
 {
-    match Value::from_json(alloc, json) {
+    match json.value(alloc) {
         Ok(value) => Ok(value),
         Err(error) => Err(value_fault(error)),
     }

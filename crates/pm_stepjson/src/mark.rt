@@ -13,6 +13,7 @@ use crate::fault::StepReadError;
 use crate::fields::{mark_at, number_at};
 use pm_attrs::Attrs;
 use pm_docjson::write_mark;
+use pm_json::JsonRef;
 use pm_marks::Mark;
 use pm_schema::Schema;
 use pm_step::{MarkStep, Marking, Step};
@@ -29,12 +30,12 @@ pub(crate) struct Ranged {
 
 /// The ends and the mark that the fields give.
 #[tactic(auto, unfolding(crate::specs::Mark::range_from))]
-pub(crate) fn range_from(
+pub(crate) fn range_from<J: JsonRef>(
     alloc: Global,
     schema: &Schema,
-    json: &Json,
+    json: J,
 ) -> Result<Ranged, StepReadError>
-    ensures { Gives (λ r. r) result (range_from schema.now.spec (view json.now)) }
+    ensures { Gives (λ r. r) result (range_from schema.now.spec (J.seen json)) }
 {
     let from = number_at(json, "from")?;
     let to = number_at(json, "to")?;

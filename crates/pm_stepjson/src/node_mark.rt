@@ -13,6 +13,7 @@ use crate::fault::StepReadError;
 use crate::fields::{mark_at, number_at};
 use pm_attrs::Attrs;
 use pm_docjson::write_mark;
+use pm_json::JsonRef;
 use pm_marks::Mark;
 use pm_schema::Schema;
 use pm_step::{Marking, NodeMarkStep, Step};
@@ -28,12 +29,12 @@ pub(crate) struct AtNode {
 
 /// The position and the mark that the fields give.
 #[tactic(auto, unfolding(crate::specs::NodeMark::node_from))]
-pub(crate) fn node_from(
+pub(crate) fn node_from<J: JsonRef>(
     alloc: Global,
     schema: &Schema,
-    json: &Json,
+    json: J,
 ) -> Result<AtNode, StepReadError>
-    ensures { Gives (λ n. n) result (node_from schema.now.spec (view json.now)) }
+    ensures { Gives (λ n. n) result (node_from schema.now.spec (J.seen json)) }
 {
     let pos = number_at(json, "pos")?;
     let mark = mark_at(alloc, schema, json)?;

@@ -1,5 +1,4 @@
 //! JSON values as steps.
-ghost use Rattle.serde_json.specs.View.{view};
 ghost use Rattle.pm_step.specs.Steps.{step_of};
 ghost use Rattle.pm_stepjson.specs.Answers.{Gives};
 ghost use Rattle.pm_stepjson.specs.Reading.{kind_from, step_read};
@@ -8,14 +7,14 @@ use crate::around::around_from;
 use crate::attr::attr_from;
 use crate::doc_attr::doc_attr_from;
 use crate::fault::StepReadError;
-use crate::fields::text_at;
+use crate::fields::text_of;
 use crate::kind::Kind;
 use crate::mark::{Ranged, range_from};
 use crate::node_mark::{AtNode, node_from};
 use crate::replace::replace_from;
+use pm_json::JsonRef;
 use pm_schema::Schema;
 use pm_step::{MarkStep, Marking, NodeMarkStep, Step};
-use serde_json::Value as Json;
 use std::alloc::Global;
 
 /// The step of a JSON value, or its first fault in the order `stepType` and then the fields of that kind. `Shape` comes where a
@@ -25,17 +24,23 @@ use std::alloc::Global;
 /// and a `structure` that is absent or null is false; a `value` must be there, and null is a value. Whether a type has the
 /// attribute is asked where the step is applied.
 #[tactic(auto, unfolding(crate::specs::Reading::step_read))]
-pub fn read_step(alloc: Global, schema: &Schema, json: &Json) -> Result<Step, StepReadError>
-    ensures { Gives step_of result (step_read schema.now.spec (view json.now)) }
+pub fn read_step<J: JsonRef>(alloc: Global, schema: &Schema, json: J) -> Result<Step, StepReadError>
+    ensures { Gives step_of result (step_read schema.now.spec (J.seen json)) }
 {
-    let name = text_at(json, "stepType")?;
+    let field = json.get("stepType");
+    let name = text_of(&field)?;
     let kind = Kind::named(name).ok_or(StepReadError::UnknownKind)?;
     kind_from(alloc, schema, kind, json)
 }
 
 /// The step of this kind.
-fn kind_from(alloc: Global, schema: &Schema, kind: Kind, json: &Json) -> Result<Step, StepReadError>
-    ensures { Gives step_of result (kind_from schema.now.spec kind (view json.now)) }
+fn kind_from<J: JsonRef>(
+    alloc: Global,
+    schema: &Schema,
+    kind: Kind,
+    json: J,
+) -> Result<Step, StepReadError>
+    ensures { Gives step_of result (kind_from schema.now.spec kind (J.seen json)) }
 {
     match kind {
         Kind::Replace => Ok(Step::Replace(replace_from(alloc, schema, json)?)),

@@ -1,4 +1,5 @@
 -- Parts as code has them, which are lent by the document.
+use Rattle.pm_tokens.specs.Scan.{part}
 use Rattle.pm_node.specs.declared.node.Node.{Node}
 use Rattle.pm_view.specs.declared.part.Part.{Part}
 use Rattle.pm_view.specs.declared.part.Part.TheVariants.{Open, Close, Leaf, Run as RunOf}
@@ -12,4 +13,4 @@ abbrev pub seen : Part → Seen
 seen (Open n) = Opens (head_of n.now)
 seen (Close n) = Closes (head_of n.now)
 seen (Leaf n) = Atom (head_of n.now)
-seen (RunOf r) = Run r.units.now r.marks.now
+seen (RunOf r) = Run (part r.from r.to r.units.now) r.marks.now

@@ -1,7 +1,7 @@
 //! The parts of a view.
 use pm_attrs::Attrs;
 use pm_marks::MarkSet;
-use pm_node::Node;
+use pm_node::{Node, Units};
 
 /// A part of a view. Nodes are lent by the document: of a node that is no leaf and no text, its open and its close are parts.
 #[derive(Clone, Copy)]
@@ -12,9 +12,11 @@ pub enum Part<'a> {
     Run(TextRun<'a>),
 }
 
-/// The units of a text that are in the view, with the text's marks. They are a part of the text's own units.
+/// The units of a text that are in the view, with the text's marks: those from..to of its own units, counted from 0.
 #[derive(Clone, Copy)]
 pub struct TextRun<'a> {
-    pub units: &'a [u16],
+    pub units: &'a Units,
+    pub from: usize,
+    pub to: usize,
     pub marks: &'a MarkSet<Attrs>,
 }

@@ -118,7 +118,9 @@ impl<'a> Tokens<'a> {
                 self.at = end;
                 self.left -= count;
                 Some(Part::Run(TextRun {
-                    units: &units.as_slice()[found.rest..found.rest + count],
+                    units,
+                    from: found.rest,
+                    to: found.rest + count,
                     marks: &child.marks,
                 }))
             }

@@ -111,3 +111,6 @@ none-ordered n lines none is = ap₂ (λ k l. merged (callers l) (by_client 0 k 
 
 pub none-once : {Op C : Type 0} (n : ℕ) (lines : List (Line Op C)) → n ≡ 0 → IsOrder (map numbers (by_client 0 n lines)) []
 none-once n lines none = subst (λ k. IsOrder (map numbers (by_client 0 k lines)) []) (sym none) (nothing [] tt)
+
+pub none-listed : {Op C : Type 0} (n : ℕ) (lines : List (Line Op C)) → n ≡ 0 → [] ≡ merged [] (by_client 0 n lines)
+none-listed n lines none = ap (λ k. merged [] (by_client 0 k lines)) (sym none)

@@ -1,7 +1,7 @@
 //! A room is closed once its clients have played.
-ghost use Rattle.std.specs.Prelude.{IfOk};
+ghost use Rattle.std.specs.Prelude.{IfOk, length, map};
 ghost use Rattle.pm_workers.specs.Hired.{HasPlayed};
-ghost use Rattle.pm_workers.specs.Orderly.{IsOrderly};
+ghost use Rattle.pm_workers.specs.Orderly.{HasDeskHistory, IsOrderly};
 
 use crate::apart::{Apart, close_desk};
 use crate::file::File;
@@ -19,7 +19,8 @@ use std::alloc::{AllocError, Global};
 /// Closes the desk with its workers, which have played all their lines, and tells the order of the lines, what became of them,
 /// and the room. `file` is that of the session's lines.
 ///
-/// Whichever session it is that they played, it is then the session on one thread in that order.
+/// Whichever session it is that they played, it is then the session on one thread in that order, which is the one that the desk's
+/// history makes of the lines.
 pub fn close_room<C: Change, O: Drop>(
     alloc: Global,
     desk: Desk<Authority<C>>,
@@ -29,7 +30,9 @@ pub fn close_room<C: Change, O: Drop>(
 where
     C::Rules: Drop,
     requires { HasPlayed C.means desk file.now workers.items }
-    ensures { (p : HasPlayed C.means desk file.now workers.items) → IfOk result (λ t. IsOrderly C.means p.makes desk.opening.rules p.doc p.raw p.lines t) }
+    ensures orderly { (p : HasPlayed C.means desk file.now workers.items) → IfOk result (λ t. IsOrderly C.means p.makes desk.opening.rules p.doc p.raw p.lines t) }
+    ensures history { (p : HasPlayed C.means desk file.now workers.items)
+        → IfOk result (λ t. HasDeskHistory C.means desk (map (λ w. w.seat) workers.items) (length p.raw) p.lines t) }
 {
     let left = dismiss(alloc, workers)?;
     let Apart {

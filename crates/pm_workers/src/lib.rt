@@ -17,7 +17,7 @@ mod hiring;
 mod host;
 pub mod opening;
 pub mod order;
-pub mod seating;
+mod seating;
 mod threaded;
 mod worker;
 

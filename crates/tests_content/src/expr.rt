@@ -1,6 +1,6 @@
 //! What texts say, and their faults. The types are 0 doc, 1 paragraph, 2 blockquote, 3 heading, 4 text, 5 image, 6 hr, and
 //! the groups block (1, 2, 3), inline (4, 5) and rule (6). The name `heading` is also a group of type 1.
-use pm_auto::{Auto, Expr};
+use pm_auto::Expr;
 use pm_expr::{ExprError, NameGroups, Names, parse};
 use std::alloc::{AllocError, Global};
 use std::test::Fail;
@@ -35,7 +35,7 @@ fn names(alloc: Global) -> Result<Names, AllocError> {
     Names::new(alloc, types.as_slice())
 }
 
-fn parsed(alloc: Global, text: &str) -> Result<Expr, ExprError> {
+pub(crate) fn parsed(alloc: Global, text: &str) -> Result<Expr, ExprError> {
     let names = names(alloc)?;
     parse(alloc, text, &names)
 }
@@ -117,72 +117,4 @@ fn tells_the_first_fault(rt: HostRuntime) {
     for (text, fault) in &FAULTS {
         assert!(rt; parsed(rt.alloc(), text).err() == Some(*fault), "{text}");
     }
-}
-
-/// The name `hr` in as many pairs of these parts.
-fn nested(alloc: Global, before: &str, after: &str, count: usize) -> Result<String, AllocError> {
-    let mut text = String::new(alloc);
-    push_times(&mut text, before, count)?;
-    text.push_str("hr")?;
-    push_times(&mut text, after, count)?;
-    Ok(text)
-}
-
-fn push_times(text: &mut String, part: &str, count: usize) -> Result<(), AllocError> {
-    for _ in 0..count {
-        text.push_str(part)?;
-    }
-    Ok(())
-}
-
-/// The fault of `hr` with so many pluses.
-fn fault_of(alloc: Global, count: usize) -> Result<Option<ExprError>, AllocError> {
-    let text = nested(alloc, "", "+", count)?;
-    Ok(parsed(alloc, text.as_str()).err())
-}
-
-/// How many edges the start has of `hr` with so many suffixes.
-fn edges(alloc: Global, suffix: &str, count: usize) -> Result<usize, Fail> {
-    let text = nested(alloc, "", suffix, count)?;
-    let expr = parsed(alloc, text.as_str())?;
-    let automaton = Auto::build(alloc, &expr, &[])?;
-    Ok(automaton.edges(automaton.start()).len())
-}
-
-#[test]
-fn bounds_the_levels(rt: HostRuntime) {
-    for count in &[501usize, 1_000_000] {
-        assert!(rt; fault_of(rt.alloc(), *count) == Ok(Some(ExprError::Deep { at: 502 })));
-    }
-}
-
-/// What is said of `hr` in so many pairs of the parts.
-fn nested_shown(
-    alloc: Global,
-    before: &str,
-    after: &str,
-    count: usize,
-) -> Result<String, ExprError> {
-    let text = nested(alloc, before, after, count)?;
-    shown(alloc, text.as_str())
-}
-
-#[test]
-fn nests_deep(rt: HostRuntime) -> Result<(), Fail> {
-    let found = nested_shown(rt.alloc(), "(", ")", 10000)?;
-    assert!(rt; found.as_str() == "One(6)");
-    Ok(())
-}
-
-/// There is stack enough for walks over the deepest expressions that are read: each level is a repetition, or each is a
-/// choice and a sequence.
-#[test]
-fn walks_deep(rt: HostRuntime) -> Result<(), Fail> {
-    for suffix in &["+", "{1}"] {
-        assert!(rt; edges(rt.alloc(), suffix, 500)? == 1, "{suffix}");
-    }
-    let found = nested_shown(rt.alloc(), "(hr|hr ", ")", 500)?;
-    let begin = "Choice([One(6), Seq([One(6), Choice([One(6), ";
-    assert!(rt; found.as_str().starts_with(begin));
-    Ok(())
 }

@@ -1,9 +1,10 @@
 //! What is written of what a JSON value is read as.
+use json::Scratch;
 use pm_docjson::{
     LeafContent, document_text, has_its_body, node_text, read_mark, read_node, read_node_with,
     read_nodes, valid_content_is_writable, valid_is_writable, write_mark, write_node, write_nodes,
 };
-use pm_doctree::node_in;
+use pm_json::{JsonRef, TreeRef, tree_in};
 use pm_node::{Document, Fragment, Node};
 use pm_schema::Schema;
 use pm_slice::Slice;
@@ -16,11 +17,11 @@ use std::fmt::Debug;
 use std::test::Fail;
 
 /// The text of what a value is read as, or `!` and the name of the first fault. The kind says as what it is read.
-pub(crate) fn again(
+pub(crate) fn again<J: JsonRef>(
     alloc: Global,
     schema: &Schema,
     kind: &str,
-    json: &Json,
+    json: J,
 ) -> Result<String, Fail> {
     match kind {
         "mark" => mark_again(alloc, schema, json),
@@ -46,24 +47,33 @@ fn both(alloc: Global, json: &Json, text: String) -> Result<String, Fail> {
     Err(Fail::new("the value has another text"))
 }
 
-fn mark_again(alloc: Global, schema: &Schema, json: &Json) -> Result<String, Fail> {
+fn mark_again<J: JsonRef>(alloc: Global, schema: &Schema, json: J) -> Result<String, Fail> {
     match read_mark(alloc, schema, json) {
         Ok(mark) => Ok(write_mark(alloc, schema, &mark)?.to_string(alloc)?),
         Err(fault) => refused(alloc, &fault),
     }
 }
 
-fn node_again(alloc: Global, schema: &Schema, json: &Json) -> Result<String, Fail> {
+fn node_again<J: JsonRef>(alloc: Global, schema: &Schema, json: J) -> Result<String, Fail> {
     match read_node(alloc, schema, json) {
         Ok(node) => node_written(alloc, schema, &node),
         Err(fault) => refused(alloc, &fault),
     }
 }
 
-/// The text of the node that a text is read as at once, or `!` where it is not.
-pub(crate) fn at_once(alloc: Global, schema: &Schema, text: &str) -> Result<String, Fail> {
-    match node_in(alloc, schema, text)? {
-        Some(node) => node_written(alloc, schema, &node),
+/// The same of the tree that a text writes, or `!` where it is read as no tree.
+pub(crate) fn tree_again(
+    alloc: Global,
+    schema: &Schema,
+    kind: &str,
+    text: &str,
+) -> Result<String, Fail> {
+    let mut scratch = Scratch::new(alloc);
+    let Some(tree) = tree_in(alloc, text, &mut scratch)? else {
+        return Ok(String::from_str(alloc, "!")?);
+    };
+    match TreeRef::new(&tree) {
+        Some(json) => again(alloc, schema, kind, json),
         None => Ok(String::from_str(alloc, "!")?),
     }
 }
@@ -74,7 +84,7 @@ fn node_written(alloc: Global, schema: &Schema, node: &Node) -> Result<String, F
 }
 
 /// A node of which no leaf may have content.
-fn bare_again(alloc: Global, schema: &Schema, json: &Json) -> Result<String, Fail> {
+fn bare_again<J: JsonRef>(alloc: Global, schema: &Schema, json: J) -> Result<String, Fail> {
     match read_node_with(alloc, schema, LeafContent::Refused, json) {
         Ok(node) => node_written(alloc, schema, &node),
         Err(fault) => refused(alloc, &fault),
@@ -82,11 +92,11 @@ fn bare_again(alloc: Global, schema: &Schema, json: &Json) -> Result<String, Fai
 }
 
 /// A list of nodes, of which no leaf may have content.
-fn list_again(alloc: Global, schema: &Schema, json: &Json) -> Result<String, Fail> {
-    let Json::Array(items) = json else {
+fn list_again<J: JsonRef>(alloc: Global, schema: &Schema, json: J) -> Result<String, Fail> {
+    let Some(items) = json.items(alloc)? else {
         return Err(Fail::new("no list"));
     };
-    match read_nodes(alloc, schema, LeafContent::Refused, items) {
+    match read_nodes(alloc, schema, LeafContent::Refused, items.as_slice()) {
         Ok(nodes) => list_written(alloc, schema, &nodes),
         Err(fault) => refused(alloc, &fault),
     }
@@ -98,7 +108,7 @@ fn list_written(alloc: Global, schema: &Schema, nodes: &Fragment) -> Result<Stri
 }
 
 /// A valid document. Its text is its top node's.
-fn document_again(alloc: Global, schema: &Schema, json: &Json) -> Result<String, Fail> {
+fn document_again<J: JsonRef>(alloc: Global, schema: &Schema, json: J) -> Result<String, Fail> {
     match read_node(alloc, schema, json) {
         Ok(top) => document_written(alloc, schema, &Document::new(alloc, top)?),
         Err(fault) => refused(alloc, &fault),
@@ -117,7 +127,7 @@ fn document_written(alloc: Global, schema: &Schema, document: &Document) -> Resu
     both(alloc, &json, document_text(alloc, schema, document)?)
 }
 
-fn slice_again(alloc: Global, schema: &Schema, json: &Json) -> Result<String, Fail> {
+fn slice_again<J: JsonRef>(alloc: Global, schema: &Schema, json: J) -> Result<String, Fail> {
     match read_slice(alloc, schema, json) {
         Ok(slice) => slice_written(alloc, schema, &slice),
         Err(fault) => refused(alloc, &fault),
@@ -128,7 +138,7 @@ fn slice_written(alloc: Global, schema: &Schema, slice: &Slice) -> Result<String
     Ok(write_slice(alloc, schema, slice)?.to_string(alloc)?)
 }
 
-fn step_again(alloc: Global, schema: &Schema, json: &Json) -> Result<String, Fail> {
+fn step_again<J: JsonRef>(alloc: Global, schema: &Schema, json: J) -> Result<String, Fail> {
     match read_step(alloc, schema, json) {
         Ok(step) => step_written(alloc, schema, &step),
         Err(fault) => refused(alloc, &fault),

@@ -6,14 +6,8 @@
 #[cfg(test)]
 mod again;
 #[cfg(test)]
-mod at_once;
-#[cfg(test)]
-mod nodes;
-#[cfg(test)]
 mod rows;
 #[cfg(test)]
-mod slices;
+mod trees;
 #[cfg(test)]
-mod steps;
-#[cfg(test)]
-mod unread;
+mod written;

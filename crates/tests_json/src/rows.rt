@@ -1,5 +1,5 @@
 //! Rows of a table: the kind of a value, its text, and behind an arrow the text that is written of it, or `!` and a fault.
-use crate::again::{again, at_once};
+use crate::again::{again, tree_again};
 use pm_schema::Schema;
 use pm_schemajson::read_schema;
 use serde_json::Value as Json;
@@ -23,13 +23,18 @@ fn parts(row: &str) -> Option<(&str, &str, &str)> {
     Some((kind, text, want))
 }
 
-/// What is found for the row.
+/// What is found for the row: the same of the value and of the tree that the text writes. Of a text alone it is asked whether it
+/// is read as a tree.
 fn found(alloc: Global, schema: &Schema, kind: &str, text: &str) -> Result<String, Fail> {
+    let found = tree_again(alloc, schema, kind, text)?;
     if kind == "text" {
-        return at_once(alloc, schema, text);
+        return Ok(found);
     }
     let json = Json::from_str(alloc, text)?;
-    again(alloc, schema, kind, &json)
+    if found.as_str() != again(alloc, schema, kind, &json)?.as_str() {
+        return Err(Fail::new("the value is read as something else"));
+    }
+    Ok(found)
 }
 
 fn answer(rt: &impl Abort, alloc: Global, schema: &Schema, row: &str) -> Result<(), Fail> {

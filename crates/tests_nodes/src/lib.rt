@@ -2,8 +2,6 @@
 #![tactic(auto)]
 
 #[cfg(test)]
-mod children;
-#[cfg(test)]
 mod filled;
 #[cfg(test)]
 mod node;

@@ -1,4 +1,4 @@
-//! Tests of chunks, of places, of built contents and of steps: pm_sized, pm_resolve, pm_build, pm_slice and pm_step.
+//! Tests of chunks, of places and of built contents: pm_sized, pm_resolve and pm_build.
 #![tactic(auto)]
 
 #[cfg(test)]
@@ -7,5 +7,3 @@ mod build;
 mod chunks;
 #[cfg(test)]
 mod resolve;
-#[cfg(test)]
-mod step;

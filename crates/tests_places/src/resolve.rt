@@ -23,37 +23,6 @@ fn document(alloc: Global, schema: &Schema, content: &str) -> Result<Document, F
     Ok(doc_line(alloc, schema, text.as_str().as_bytes())?)
 }
 
-/// The marks that a letter stands for: `i` is italic, `l` a link, `b` both, and any other letter neither.
-fn marks(letter: char) -> &'static str {
-    match letter {
-        'i' => r#"{"type":"em"}"#,
-        'l' => r#"{"type":"link"}"#,
-        'b' => r#"{"type":"em"},{"type":"link"}"#,
-        _ => "",
-    }
-}
-
-/// The JSON text of a paragraph of letters with the marks that they stand for.
-fn paragraph(alloc: Global, letters: &str) -> Result<String, AllocError> {
-    let mut text = String::from_str(alloc, r#"{"type":"paragraph","content":["#)?;
-    for (i, letter) in letters.chars().enumerate() {
-        text.push_str(if i == 0 { "" } else { "," })?;
-        let marks = marks(letter);
-        write!(
-            text,
-            r#"{{"type":"text","text":"{letter}","marks":[{marks}]}}"#
-        )?;
-    }
-    text.push_str("]}")?;
-    Ok(text)
-}
-
-/// The document of one paragraph of these letters.
-fn lettered(alloc: Global, schema: &Schema, letters: &str) -> Result<Document, Fail> {
-    let text = paragraph(alloc, letters)?;
-    document(alloc, schema, text.as_str())
-}
-
 /// Whether the place has the depth, with this index, start and end.
 fn tells(place: &Place<'_>, d: usize, index: usize, start: usize, end: usize) -> bool {
     d <= place.depth() && place.index(d) == index && place.start(d) == start && place.end(d) == end
@@ -86,11 +55,14 @@ fn path_of(alloc: Global, place: &Place<'_>, size: usize) -> Result<String, Allo
     Ok(text)
 }
 
+/// A paragraph with two letters.
+const LETTERS: &str = r#"{"type":"paragraph","content":[{"type":"text","text":"ac"}]}"#;
+
 /// Positions in a document of one paragraph, which is of type 1, with two letters.
 const PATHS: [(usize, &str); 2] = [(2, "1 1 0 1 3 1 0"), (5, "OutOfRange")];
 
 fn is_told(alloc: Global, schema: &Schema, pos: usize, want: &str) -> Result<bool, Fail> {
-    let doc = lettered(alloc, schema, "ac")?;
+    let doc = document(alloc, schema, LETTERS)?;
     Ok(told(alloc, &doc, pos)?.as_str() == want)
 }
 
@@ -133,22 +105,24 @@ fn a_place_among_many_is_found_by_halves(rt: HostRuntime) -> Result<(), Fail> {
     Ok(())
 }
 
-/// The letters of a paragraph, a position, and the numbers of the marks there: em is 0, and a link 1.
-const MARKS: [(&str, usize, &str); 9] = [
-    ("", 1, ""),
-    ("l", 1, ""),
-    ("l", 2, ""),
-    ("ll", 2, "1"),
-    ("i", 1, "0"),
-    ("ia", 2, "0"),
-    ("ai", 2, ""),
-    ("lb", 2, "1"),
-    ("bi", 2, "0"),
+/// A content, a position, and the numbers of the marks there: em is 0, and a link 1. A link does not go on at its end.
+const MARKS: [(&str, usize, &str); 3] = [
+    (r#"{"type":"paragraph"}"#, 1, ""),
+    (
+        r#"{"type":"paragraph","content":[{"type":"text","text":"ab","marks":[{"type":"link"}]}]}"#,
+        2,
+        "1",
+    ),
+    (
+        r#"{"type":"paragraph","content":[{"type":"text","text":"a","marks":[{"type":"em"},{"type":"link"}]},{"type":"text","text":"b"}]}"#,
+        2,
+        "0",
+    ),
 ];
 
 /// The numbers of the marks at the position.
-fn marks_at(alloc: Global, schema: &Schema, letters: &str, pos: usize) -> Result<String, Fail> {
-    let doc = lettered(alloc, schema, letters)?;
+fn marks_at(alloc: Global, schema: &Schema, content: &str, pos: usize) -> Result<String, Fail> {
+    let doc = document(alloc, schema, content)?;
     let found = resolve(alloc, &doc, pos)?.marks(alloc, schema)?;
     let mut text = String::new(alloc);
     for mark in found.marks() {
@@ -160,9 +134,9 @@ fn marks_at(alloc: Global, schema: &Schema, letters: &str, pos: usize) -> Result
 #[test]
 fn marks_go_on_at_the_end_of_a_text(rt: HostRuntime) -> Result<(), Fail> {
     let schema = schema_line(rt.alloc(), SCHEMA.as_bytes())?;
-    for (letters, pos, want) in &MARKS {
-        let found = marks_at(rt.alloc(), &schema, letters, *pos)?;
-        assert!(rt; found.as_str() == *want, "{letters}");
+    for (content, pos, want) in &MARKS {
+        let found = marks_at(rt.alloc(), &schema, content, *pos)?;
+        assert!(rt; found.as_str() == *want, "{content}");
     }
     Ok(())
 }

@@ -1,56 +1,68 @@
-//! Parts of documents that are cut out, and contents that are opened.
-use crate::rows::answers;
+//! Parts of a document that are cut out, and contents that are opened.
+use crate::sample::{QUOTE, document, schema, slice_text};
 use pm_node::{Document, Fragment};
 use pm_schema::Schema;
 use pm_slice::{Slice, clip, cut, cut_content};
-use pm_step::{ReplaceStep, Step};
-use pm_stepjson::step_text;
 use std::alloc::Global;
 use std::test::Fail;
 
-/// The two numbers that stand in a text, parted by a blank.
-pub(crate) fn two_numbers(text: &str) -> Result<(usize, usize), Fail> {
-    let (first, second) = text.split_once(' ').ok_or("two numbers")?;
-    Ok((first.parse()?, second.parse()?))
-}
-
-/// What becomes of the document by the two numbers: `cut` gives the part between two positions, `part` that of its content, `clip` the
-/// content's tokens there with the nodes around them, and `open` the content with so many open sides.
-pub(crate) fn sliced(
-    alloc: Global,
-    schema: &Schema,
-    asked: &str,
-    before: &Document,
-    numbers: &str,
-) -> Result<String, Fail> {
-    let (first, second) = two_numbers(numbers)?;
-    if asked == "cut" {
-        return cut_out(alloc, schema, before, first, second);
-    }
-    let content = before.content();
-    if asked == "open" {
-        return opened(alloc, schema, content.copy(alloc)?, first, second);
-    }
-    if second < first || content.size() < second {
-        return Err(Fail::new("no part of the content"));
-    }
-    if asked == "part" {
-        return shown(alloc, schema, cut_content(alloc, content, first, second)?);
-    }
-    opened(alloc, schema, clip(alloc, content, first, second)?, 0, 0)
-}
-
+/// The part between two positions, or `!` and the fault.
 fn cut_out(
     alloc: Global,
     schema: &Schema,
-    before: &Document,
+    doc: &Document,
     from: usize,
     to: usize,
 ) -> Result<String, Fail> {
-    match cut(alloc, before, from, to) {
-        Ok(slice) => shown(alloc, schema, slice.copy(alloc)?),
+    match cut(alloc, doc, from, to) {
+        Ok(slice) => slice_text(alloc, schema, &slice.copy(alloc)?),
         Err(fault) => Ok(format!(in alloc; "!{fault:?}")?),
     }
+}
+
+/// What is around one end alone is open there.
+const CUTS: [(usize, usize, &str); 9] = [
+    (0, 10, WHOLE),
+    (2, 3, r#"{"content":[{"text":"a","type":"text"}]}"#),
+    (
+        2,
+        4,
+        r#"{"content":[{"text":"a","type":"text"},{"marks":[{"type":"em"}],"text":"b","type":"text"}]}"#,
+    ),
+    (
+        3,
+        6,
+        r#"{"content":[{"content":[{"marks":[{"type":"em"}],"text":"b","type":"text"}],"type":"paragraph"},{"type":"paragraph"}],"openEnd":1,"openStart":1}"#,
+    ),
+    (
+        0,
+        3,
+        r#"{"content":[{"content":[{"content":[{"text":"a","type":"text"}],"type":"paragraph"}],"type":"quote"}],"openEnd":2}"#,
+    ),
+    (
+        7,
+        10,
+        r#"{"content":[{"content":[{"content":[{"type":"image"}],"type":"paragraph"}],"type":"quote"}],"openStart":2}"#,
+    ),
+    (7, 7, "null"),
+    (4, 3, "!Range"),
+    (0, 11, "!Range"),
+];
+
+/// The whole content.
+const WHOLE: &str =
+    r#"{"content":[{"content":[{"content":[{"text":"a","type":"text"},{"marks":[{"type":"em"}],"text":"b","type":"text"}],"type":"paragraph"},{"content":[{"text":"c","type":"text"},{"type":"image"}],"type":"paragraph"}],"type":"quote"}]}"#;
+
+#[test]
+fn parts_are_cut_out(rt: HostRuntime) -> Result<(), Fail> {
+    let alloc = rt.alloc();
+    let schema = schema(alloc)?;
+    let doc = document(alloc, &schema, QUOTE)?;
+    for (from, to, want) in &CUTS {
+        let found = cut_out(alloc, &schema, &doc, *from, *to)?;
+        assert!(rt; found.as_str() == *want, "{from} {to}");
+    }
+    Ok(())
 }
 
 /// The slice of the content, or `!` and the size of the content that comes back.
@@ -62,58 +74,63 @@ fn opened(
     open_end: usize,
 ) -> Result<String, Fail> {
     match Slice::new(alloc, content, open_start, open_end) {
-        Ok(slice) => shown(alloc, schema, slice),
+        Ok(slice) => slice_text(alloc, schema, &slice),
         Err(content) => Ok(format!(in alloc; "!{}", content.size())?),
     }
 }
 
-/// The text of a step that puts the slice in place of as many tokens as it has.
-fn shown(alloc: Global, schema: &Schema, slice: Slice) -> Result<String, Fail> {
-    let step = Step::Replace(ReplaceStep {
-        from: 0,
-        to: slice.size() as u64,
-        slice,
-        structure: false,
-    });
-    Ok(step_text(alloc, schema, &step)?)
+/// The part of the content between two positions, and its tokens there with the nodes around them.
+fn parts(alloc: Global, schema: &Schema, content: &Fragment) -> Result<(String, String), Fail> {
+    if content.size() < 4 {
+        return Err(Fail::new("a small content"));
+    }
+    let part = cut_content(alloc, content, 3, 4)?;
+    let part = slice_text(alloc, schema, &part)?;
+    let clipped = clip(alloc, content, 3, 4)?;
+    Ok((part, opened(alloc, schema, clipped, 0, 0)?))
 }
-
-/// The size, the content and the open sides. What is around one end alone is open there, with its attributes and marks.
-const CUTS: &str = r#"cut Pab/ 2 4 => 2 Pb/ 1 0
-cut Pab/ 0 2 => 2 Pa/ 0 1
-cut Pab/ 1 3 => 2 ab 0 0
-cut Pab/ 0 4 => 4 Pab/ 0 0
-cut Pab/ 2 2 => 0 . 0 0
-cut QPab// 3 5 => 2 Pb/ 1 0
-cut QPab// 3 6 => 3 QPb// 2 0
-cut QQPab/// 3 4 => 1 a 0 0
-cut Pab/Pcd/ 2 6 => 4 Pb/Pc/ 1 1
-cut QG_ab/Pc// 2 7 => 5 G_ab/Pc/ 1 1
-cut Pa_S_bc/d/ 4 6 => 2 _Sc/ 1 0
-cut Pab/ 3 2 => !Range
-cut Pab/ 0 5 => !Range
-cut Pab/ 5 5 => !Range
-part QPab// 3 4 => 1 b 0 0
-part Pab/Pcd/ 2 6 => 4 Pb/Pc/ 1 1
-clip Pab/Pcd/ 2 6 => 6 Pb/Pc/ 0 0
-clip QPab// 3 4 => 5 QPb// 0 0"#;
 
 #[test]
-fn parts_are_cut_out(rt: HostRuntime) -> Result<(), Fail> {
-    answers(&rt, rt.alloc(), CUTS)
+fn contents_are_cut_and_clipped(rt: HostRuntime) -> Result<(), Fail> {
+    let schema = schema(rt.alloc())?;
+    let doc = document(rt.alloc(), &schema, QUOTE)?;
+    let (part, clipped) = parts(rt.alloc(), &schema, doc.content())?;
+    assert!(rt;
+        part.as_str() == r#"{"content":[{"marks":[{"type":"em"}],"text":"b","type":"text"}]}"#
+    );
+    assert!(rt;
+        clipped.as_str()
+            == r#"{"content":[{"content":[{"content":[{"marks":[{"type":"em"}],"text":"b","type":"text"}],"type":"paragraph"}],"type":"quote"}]}"#
+    );
+    Ok(())
 }
 
-/// A side is no deeper than the nodes that stand there in one another. A slice of no tokens is the empty one.
-const OPENED: &str = r#"open Pa/ 0 0 => 3 Pa/ 0 0
-open Pa/ 1 0 => 2 Pa/ 1 0
-open Pa/ 1 1 => 1 Pa/ 1 1
-open QP/P// 2 1 => 3 QP/P// 2 1
-open P/ 1 1 => 0 . 0 0
-open Pa/ 2 0 => !3
-open Pa/ 0 2 => !3
-open QP*//P/ 3 0 => !7"#;
+/// Open sides, and how the slice with them begins and ends. A side is no deeper than the content.
+const OPENED: [(usize, usize, &str, &str); 4] = [
+    (0, 0, "{\"content\":", "\"quote\"}]}"),
+    (2, 2, "{\"content\":", "}],\"openEnd\":2,\"openStart\":2}"),
+    (3, 0, "!10", ""),
+    (0, 3, "!10", ""),
+];
+
+fn is_opened(
+    alloc: Global,
+    schema: &Schema,
+    doc: &Document,
+    row: (usize, usize, &str, &str),
+) -> Result<bool, Fail> {
+    let (open_start, open_end, begin, end) = row;
+    let content = doc.content().copy(alloc)?;
+    let text = opened(alloc, schema, content, open_start, open_end)?;
+    Ok(text.as_str().starts_with(begin) && text.as_str().ends_with(end))
+}
 
 #[test]
 fn a_side_is_no_deeper_than_the_content(rt: HostRuntime) -> Result<(), Fail> {
-    answers(&rt, rt.alloc(), OPENED)
+    let schema = schema(rt.alloc())?;
+    let doc = document(rt.alloc(), &schema, QUOTE)?;
+    for row in &OPENED {
+        assert!(rt; is_opened(rt.alloc(), &schema, &doc, *row)?, "{}", row.0);
+    }
+    Ok(())
 }

@@ -88,8 +88,6 @@ fn a_person_plays_in_each_of_its_rooms(rt: HostRuntime) -> Result<()> {
     let people = play(alloc, &rt)?;
     for person in &people {
         assert_eq!(rt; person.outcomes.len(), 3);
-        assert!(rt; matches!(person.outcomes.get(0), Some(Outcome::Made { count: 1 })));
-        assert!(rt; matches!(person.outcomes.get(1), Some(Outcome::Made { count: 1 })));
         assert!(rt;
             matches!(
                 person.outcomes.get(2),

@@ -1,7 +1,7 @@
 //! Sources and sinks that fail at a call of a given number, and std's readers and writers behind them.
 use pm_io::{
-    Gate, Got, MemSink, MemSource, OpenGate, ReadError, Sink, Source, StdSink, StdSource, SureSink,
-    SureSource, WriteFault, read_all, write_all,
+    MemSink, MemSource, ReadError, StdSink, StdSource, SureSink, SureSource, WriteFault, read_all,
+    write_all,
 };
 use std::alloc::{AllocError, Global};
 use std::io;
@@ -60,11 +60,6 @@ impl io::Write for Steps {
     }
 }
 
-fn passes<G: Gate + Sync>(gate: &G) {
-    gate.before(0, 0);
-    gate.before(1, 7);
-}
-
 /// How many bytes are read of a source with so many, whose call of this number fails, and whether they are read of one that
 /// never fails.
 fn bytes_read(
@@ -104,24 +99,6 @@ fn an_input_is_read_whole_or_is_too_long_or_fails(rt: HostRuntime) -> Result<(),
         let found = bytes_read(alloc, *size, *limit, *fail)?;
         assert!(rt; found == (*want, size <= limit), "{size} {limit} {fail}");
     }
-    Ok(())
-}
-
-/// What two reads of a source give whose second call fails, and the bytes behind.
-fn read_on(alloc: Global) -> Result<(Got, Got, Vec<u8>), ReadError> {
-    let bytes = Vec::from_slice(alloc, b"abc")?;
-    let mut source = MemSource::new(bytes, vec![in alloc; 2u64; 1]?);
-    let mut piece = [0u8; 2];
-    let first = source.read(&mut piece);
-    let second = source.read(&mut piece);
-    Ok((first, second, read_all(alloc, &mut source, 9)?))
-}
-
-#[test]
-fn a_source_goes_on_behind_a_fault(rt: HostRuntime) -> Result<(), Fail> {
-    let (first, second, rest) = read_on(rt.alloc())?;
-    assert!(rt; first == Got::Bytes(2) && second == Got::Failed);
-    assert!(rt; rest.as_slice() == b"c".as_slice());
     Ok(())
 }
 
@@ -234,9 +211,8 @@ fn writers_of_std_pass_their_bytes_and_faults(rt: HostRuntime) -> Result<(), Fai
 }
 
 #[test]
-fn an_open_gate_passes_and_errors_have_their_texts(rt: HostRuntime) -> Result<(), Fail> {
+fn errors_have_their_texts(rt: HostRuntime) -> Result<(), Fail> {
     let alloc = rt.alloc();
-    passes(&OpenGate);
     for (error, want) in [
         (ReadError::ReadFault, "read fault"),
         (ReadError::TooLong, "too long"),

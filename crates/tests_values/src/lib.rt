@@ -1,4 +1,4 @@
-//! Tests of values, marks, maps, and bytes in and out: pm_value, pm_marks, pm_map and pm_io.
+//! Tests of values, marks, maps, texts, and bytes in and out: pm_value, pm_marks, pm_map, pm_units and pm_io.
 #![tactic(auto)]
 
 #[cfg(test)]
@@ -7,5 +7,7 @@ mod io;
 mod map;
 #[cfg(test)]
 mod marks;
+#[cfg(test)]
+mod units;
 #[cfg(test)]
 mod value;

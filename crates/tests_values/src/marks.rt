@@ -217,10 +217,3 @@ fn a_mark_is_found_and_taken_out_by_type_and_attributes(rt: HostRuntime) -> Resu
     assert!(rt; leaves(alloc, &set, &link, &[])?);
     Ok(())
 }
-
-#[test]
-fn code_excludes_others_one_way(rt: HostRuntime) -> Result<(), Fail> {
-    let rules = rules(rt.alloc())?;
-    assert!(rt; rules.excludes(CODE, EM) && !rules.excludes(EM, CODE) && !rules.excludes(9, EM));
-    Ok(())
-}

@@ -1,78 +1,12 @@
 //! Tables of JSON texts, with ample memory.
-use pm_value::{Fields, Kinds, Text, Value, ValueError};
+use pm_value::{Fields, Text, Value};
 use serde_json::Value as Json;
 use std::alloc::{AllocError, Global};
 use std::test::Fail;
 
-/// Texts of JSON that is no value, and the first fault of each.
-const FAULTS: [(&str, ValueError); 17] = [
-    ("1.5", ValueError::Float),
-    ("1.0", ValueError::Float),
-    ("1e2", ValueError::Float),
-    ("-0", ValueError::Float),
-    ("18446744073709551616", ValueError::Float),
-    ("-9223372036854775809", ValueError::Float),
-    ("9223372036854775808", ValueError::Wide),
-    ("18446744073709551615", ValueError::Wide),
-    ("[[[[[0]]]]]", ValueError::Deep),
-    ("[[[[[]]]]]", ValueError::Deep),
-    ("[[[[[1.5]]]]]", ValueError::Deep),
-    ("[[[[{}]]]]", ValueError::Deep),
-    (r#"{"a":{"b":{"c":{"d":[]}}}}"#, ValueError::Deep),
-    ("[1.5,9223372036854775808]", ValueError::Float),
-    ("[9223372036854775808,1.5]", ValueError::Wide),
-    ("[[[[[0]]]],1.5]", ValueError::Deep),
-    (r#"{"b":1.5,"a":9223372036854775808}"#, ValueError::Wide),
-];
-
-/// The fault of a text, where it is JSON.
-fn fault_of(alloc: Global, text: &str) -> Result<Option<ValueError>, Fail> {
-    let json = Json::from_str(alloc, text)?;
-    Ok(Value::from_json(alloc, &json).err())
-}
-
-#[test]
-fn the_first_fault_is_named(rt: HostRuntime) -> Result<(), Fail> {
-    for (text, fault) in &FAULTS {
-        assert!(rt; fault_of(rt.alloc(), text)? == Some(*fault), "at {text}");
-    }
-    Ok(())
-}
-
 fn value_of(alloc: Global, text: &str) -> Result<Value, Fail> {
     let json = Json::from_str(alloc, text)?;
     Ok(Value::from_json(alloc, &json)?)
-}
-
-const TEXT_OR_NULL: Kinds = Kinds {
-    string: true,
-    number: false,
-    boolean: false,
-    null: true,
-};
-
-/// Values, and whether they are of the kinds above.
-const KINDS: [(&str, bool); 6] = [
-    (r#""a""#, true),
-    ("null", true),
-    ("1", false),
-    ("true", false),
-    ("[]", false),
-    ("{}", false),
-];
-
-/// Whether the value is of the kinds, and whether it is allowed where no kinds are named.
-fn is_allowed(alloc: Global, text: &str) -> Result<(bool, bool), Fail> {
-    let value = value_of(alloc, text)?;
-    Ok((TEXT_OR_NULL.has(&value), Kinds::allow(None, &value)))
-}
-
-#[test]
-fn kinds_tell_values(rt: HostRuntime) -> Result<(), Fail> {
-    for (text, want) in &KINDS {
-        assert!(rt; is_allowed(rt.alloc(), text)? == (*want, true), "at {text}");
-    }
-    Ok(())
 }
 
 /// Values, and how they are written again.

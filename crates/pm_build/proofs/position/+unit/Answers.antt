@@ -1,5 +1,5 @@
-use Rattle.std.proofs.Common.{◌≡◌, ◌+◌, ◌*◌, ◌<◌, length, get_or, arith, sym, ap, ◌∙◌}
-use Rattle.std.specs.Prelude.{Some}
+use Rattle.std.proofs.Common.{◌≡◌, ◌+◌, ◌*◌, ◌<◌, length, arith, sym, ap, ◌∙◌}
+use Rattle.std.proofs.lemmas.Option.{slice_get-get_or}
 use Rattle.pm_node.specs.Trees.{node_tokens}
 use Rattle.pm_node.specs.declared.node.Body.TheVariants.{Text}
 use Rattle.pm_node.proofs.TreeLaws.{node_tokens_at, length-text_tokens}
@@ -46,14 +46,10 @@ unit_in-returns-then-size-pos t c = sym (unit-outside c.args.node.now c.in-Child
 pub unit_in-returns-else-size-pos : goal.unit_in-returns-else-size-pos
 unit_in-returns-else-size-pos t c = c.unit_at.ensures ∙ sym (unit-inside c.args.node.now c.in-Children.inner c.args.pos c.in-Children.is (omega arith) (omega (arith, c.size-size.ensures.size, c.if-size-pos.false)))
 
-pub unit_in-returns-then-pos-units : goal.unit_in-returns-then-pos-units
-unit_in-returns-then-pos-units t c =
-    let e = c.as_slice-units.ensures in
-    let lt : c.args.pos < length c.in-Text.units = omega (arith, c.if-pos-units.true, ap length e) in
-    ap (λ us. Some (get_or us c.args.pos 0)) e ∙ sym (unit-text c.args.node.now c.in-Text.units c.args.pos c.in-Text.is lt)
-
-pub unit_in-returns-else-pos-units : goal.unit_in-returns-else-pos-units
-unit_in-returns-else-pos-units t c =
+pub unit_in-returns-in-Text : goal.unit_in-returns-in-Text
+unit_in-returns-in-Text t c =
     let n = c.args.node.now in
-    let size : length (node_tokens n) ≡ length c.in-Text.units = ap length (node_tokens_at n (Text c.in-Text.units) c.in-Text.is) ∙ length-text_tokens n.marks c.in-Text.units in
-    absurd (omega (arith, c.requires, size, c.if-pos-units.false, ap length c.as_slice-units.ensures))
+    let us = c.in-Text.units in
+    let size : length (node_tokens n) ≡ length us = ap length (node_tokens_at n (Text us) c.in-Text.is) ∙ length-text_tokens n.marks us in
+    let lt : c.args.pos < length us = omega (arith, c.requires, size) in
+    c.unit.ensures ∙ (slice_get-get_or us c.args.pos 0 lt ∙ sym (unit-text n us c.args.pos c.in-Text.is lt))

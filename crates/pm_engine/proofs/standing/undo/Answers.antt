@@ -1,4 +1,5 @@
 use Rattle.std.proofs.Common.{rules}
+use Rattle.std.proofs.lemmas.Result.{on_ok_weaker, IfOk-weaker}
 use Rattle.pm_engine.proofs.Names.{undo-name}
 use Rattle.pm_engine.proofs.standing.undo.Goals as goal
 
@@ -10,3 +11,12 @@ undo-requires g c =
 pub returns-clause-name : goal.returns-clause-name
 returns-clause-name g c =
     undo-name g.C.Change.means c.args.rules.now c.args.client.now c.undo.new.self c.undo.result c.undo.ensures.undone c.undo.ensures.err
+
+pub returns-clause-restores : goal.returns-clause-restores
+returns-clause-restores g c = on_ok_weaker c.undo.result (λ all. all c.args.authority.now.first c.args.authority.now.log) c.undo.ensures.restores
+
+pub returns-clause-whole : goal.returns-clause-whole
+returns-clause-whole g c = IfOk-weaker c.undo.result _ _ (λ n all. all c.args.authority.now.first c.args.authority.now.log) c.undo.ensures.whole
+
+pub returns-clause-tokens : goal.returns-clause-tokens
+returns-clause-tokens g c = on_ok_weaker c.undo.result (λ all. all c.args.authority.now.first c.args.authority.now.log c.requires) c.undo.ensures.tokens

@@ -1,5 +1,5 @@
 use Rattle.std.proofs.Common.{arith}
-use Rattle.pm_head.proofs.AtOnce.{line-read}
+use Rattle.pm_head.proofs.LineTexts.{line-read}
 use Rattle.pm_head.proofs.lines.line_text.Goals as goal
 
 pub returns-in-Ok : goal.returns-in-Ok

@@ -3,15 +3,17 @@ use Rattle.std.specs.Prelude.{None, option_map}
 use Rattle.pm_tokens.specs.Faults.{Pair, first_broken}
 use Rattle.pm_node.specs.Trees.{node_tokens}
 use Rattle.pm_node.proofs.WalkLaws.{Child, child-within, child-at, in-range}
-use Rattle.pm_text.specs.Lone.{HasNoLone, IsFirstLone}
-use Rattle.pm_node.proofs.PairWalk.{Walked, walked-more, walked-broken, walked-room, broken-content, broken-lone, broken-none}
+use Rattle.pm_node.proofs.PairWalk.{Walked, walked-more, walked-broken, walked-room, broken-content, broken-lone, broken-none, lone-room}
 use Rattle.pm_node.proofs.pairs.+pairs.Goals as goal
 
+pub broken_in-overflow_add-result : goal.broken_in-overflow_add-result
+broken_in-overflow_add-result t c = omega (arith, lone-room c.args.at c.args.node.now c.in-Text.units c.in-Some.i c.in-Text.is c.in-Some.ensures.found c.requires)
+
 pub broken_in-returns-in-Some : goal.broken_in-returns-in-Some
-broken_in-returns-in-Some t c = sym (broken-lone c.args.at c.args.node.now c.in-Text.units c.in-Some.i c.in-Text.is (subst (λ us. IsFirstLone us c.in-Some.i) c.as_slice.ensures c.in-Some.ensures.found))
+broken_in-returns-in-Some t c = sym (broken-lone c.args.at c.args.node.now c.in-Text.units c.in-Some.i c.in-Text.is c.in-Some.ensures.found)
 
 pub broken_in-returns-in-None : goal.broken_in-returns-in-None
-broken_in-returns-in-None t c = sym (broken-none c.args.at c.args.node.now c.in-Text.units c.in-Text.is (subst HasNoLone c.as_slice.ensures (c.in-None.ensures.none refl)))
+broken_in-returns-in-None t c = sym (broken-none c.args.at c.args.node.now c.in-Text.units c.in-Text.is (c.in-None.ensures.none refl))
 
 pub broken_in-returns-in-Children : goal.broken_in-returns-in-Children
 broken_in-returns-in-Children t c = c.first_broken.ensures ∙ sym (broken-content c.args.at c.args.node.now c.in-Children.content c.in-Children.is)

@@ -11,7 +11,7 @@ use Rattle.pm_node.specs.Documents.{content_tokens}
 use Rattle.pm_resolve.specs.Levels.{content_of, Enters}
 use Rattle.pm_resolve.proofs.AmongLaws.{next-there}
 use Rattle.pm_resolve.proofs.EnterLaws.{entered-lowest, entered-deeper, level-is, between-depth, flat-depth, enters-child}
-use Rattle.pm_resolve.proofs.SearchLaws.{step-bound}
+use Rattle.pm_resolve.proofs.SearchLaws.{few-here, few-down}
 use Rattle.pm_resolve.proofs.walk.+enter.Goals as goal
 
 pub returns-else-found-gt0-clause-entered : goal.returns-else-found-gt0-clause-entered
@@ -84,19 +84,37 @@ returns-else-found-gt0-clause-steps g t c =
     let n = c.args.node.now in
     let xs = c.children-children.result in
     let e = c.children-children.ensures in
-    step-bound n xs _ c.args.levels.now.items c.push.new.self.items c.args.steps.now c.find_counted-found.new.steps (sym (e.tokens ∙ c.requires.content)) e.normal e.each c.in_ok-push.ensures.items refl c.find_counted-found.ensures.steps
+    few-here c.args.pos c.args.start n xs c.args.steps.now c.find_counted-found.new.steps (sym (e.tokens ∙ c.requires.content)) e.normal e.each c.find_counted-found.ensures.steps
 
 pub returns-in_default-clause-steps : goal.returns-in_default-clause-steps
 returns-in_default-clause-steps g t c =
     let n = c.args.node.now in
     let xs = c.children-children.result in
     let e = c.children-children.ensures in
-    step-bound n xs _ c.args.levels.now.items c.push.new.self.items c.args.steps.now c.find_counted-found.new.steps (sym (e.tokens ∙ c.requires.content)) e.normal e.each c.in_ok-push.ensures.items refl c.find_counted-found.ensures.steps
+    few-here c.args.pos c.args.start n xs c.args.steps.now c.find_counted-found.new.steps (sym (e.tokens ∙ c.requires.content)) e.normal e.each c.find_counted-found.ensures.steps
 
 pub returns-in-Children-clause-steps : goal.returns-in-Children-clause-steps
 returns-in-Children-clause-steps g t c =
     let n = c.args.node.now in
     let xs = c.children-children.result in
     let e = c.children-children.ensures in
-    let one = step-bound n xs _ c.args.levels.now.items c.push.new.self.items c.args.steps.now c.find_counted-found.new.steps (sym (e.tokens ∙ c.requires.content)) e.normal e.each c.in_ok-push.ensures.items refl c.find_counted-found.ensures.steps in
-    on_ok_weaker c.enter.result (λ more. omega (arith, one, more)) c.enter.ensures.steps
+    let i = c.find_counted-found.result.index in
+    let r = c.find_counted-found.result.rest in
+    let is : content_of n ≡ list_tokens xs = sym (e.tokens ∙ c.requires.content) in
+    let s = c.find_counted-found.ensures.found in
+    let x = c.get.result.now in
+    let lt : i < length xs = next-there s (omega (arith, c.if-found-gt0.true)) in
+    let body = ap (λ v. v.body) (sym c.deref-child.ensures) ∙ c.in-Children.is in
+    let child : Enters c.args.pos c.args.start n ((c.args.pos - r) + 1) (arc_value x) =
+    enters-child n xs c.args.pos c.args.start i r is e.normal e.each s x lt c.get.ensures c.in-Children.inner ((c.args.pos - r) + 1) body c.size.ensures.whole c.requires.started (omega (arith, c.if-found-gt0.true)) refl in
+    let entered = subst (λ v. Enters c.args.pos c.args.start n ((c.args.pos - r) + 1) v) (sym c.deref-child.ensures) child in
+    few-down c.args.pos c.args.start ((c.args.pos - r) + 1) n c.deref-child.result.now xs c.args.steps.now c.find_counted-found.new.steps c.enter.new.steps is e.normal e.each
+    c.find_counted-found.ensures.steps entered c.enter.ensures.steps
+
+-- no level was put: the search alone took steps
+pub returns-in_err-push-clause-steps : goal.returns-in_err-push-clause-steps
+returns-in_err-push-clause-steps g t c =
+    let n = c.args.node.now in
+    let xs = c.children-children.result in
+    let e = c.children-children.ensures in
+    few-here c.args.pos c.args.start n xs c.args.steps.now c.find_counted-found.new.steps (sym (e.tokens ∙ c.requires.content)) e.normal e.each c.find_counted-found.ensures.steps

@@ -99,7 +99,7 @@ loop-file-preserved g c =
       left = λ p. subst (λ l. Matched (λ x v. StandPlayed m p.makes p.rooms all x v) (all_stands (k + 1) (drop (k + 1) p.rooms) (drop (k + 1) all)) l) (sym later)
           (hall-next m all files c.args.workers.items p k file at d front.0 left (i.left p));
       done = λ p. orderly-next m all files c.args.workers.items p k file at d front.0 left (i.left p) c.in_ok-close_room.field-0 c.loop-file.rooms.items c.push.new.self.items (i.done p)
-          (c.in_ok-close_room.ensures (has-played m all files c.args.workers.items p k file at d front.0 left (i.left p) c.replace-own.result.items own)) c.in_ok-push.ensures.items;
+          (c.in_ok-close_room.ensures.orderly (has-played m all files c.args.workers.items p k file at d front.0 left (i.left p) c.replace-own.result.items own)) c.in_ok-push.ensures.items;
     }
 
 pub returns : goal.returns

@@ -8,7 +8,10 @@ use Rattle.pm_session.specs.Sessions.{session}
 use Rattle.pm_session.specs.Suits.{LinesSuit}
 use Rattle.pm_session.proofs.Lefts.{left-err, line-at}
 use Rattle.pm_session.proofs.Opening.{drop-past}
-use Rattle.pm_session.proofs.Playing.{suits-first, suits-rest, session-more, session-last, at-rest}
+use Rattle.pm_session.proofs.Playing.{suits-first, suits-rest, session-more, session-last, at-rest, outcomes-all}
+use Rattle.pm_session.proofs.Restorings.{session-restores}
+use Rattle.pm_session.proofs.Rooms.{session-stays}
+use Rattle.pm_session.proofs.Unrefused.{session-none}
 use Rattle.pm_selective.specs.Playing.{Room, AreApartLines}
 use Rattle.pm_selective.proofs.Playings.{apart-next}
 use Rattle.pm_selective.proofs.playing.play_all.Goals as goal
@@ -105,3 +108,22 @@ returns-in_err-note-clause-left g c =
       left = inl (ap (λ q. q.1) c.in_ok-played.ensures.plays ∙ ap (λ (x : Room). (played meaning schema makes x c.line-item.result).1) c.loop-line.invariant.front
           ∙ sym (session-last meaning schema makes (state_of c.args.room.now) lines k c.line-item.result (at-rest lines (drop (k + 1) lines) k c.line-item.result rest)));
     })
+
+pub returns-clause-unrefused : goal.returns-clause-unrefused
+returns-clause-unrefused g c =
+    let schema = c.args.schema.now in
+    let makes = g.K.Maker.makes c.args.maker.now schema in
+    let all = outcomes-all meaning schema makes (state_of c.loop-line.room) c.args.lines.now c.loop-line.line-index c.loop-line.outcomes.items
+    (session meaning schema makes (state_of c.args.room.now) c.args.lines.now).0 (search rules) c.loop-line.invariant.outcomes in
+    rw all (session-none meaning schema laws makes (state_of c.args.room.now) c.args.lines.now c.requires.sound c.requires.suit)
+
+pub returns-clause-names : goal.returns-clause-names
+returns-clause-names g c = c.loop-line.invariant.sound.names
+
+pub returns-clause-cursors : goal.returns-clause-cursors
+returns-clause-cursors g c k =
+    session-stays meaning c.args.schema.now laws (g.K.Maker.makes c.args.maker.now c.args.schema.now) (state_of c.args.room.now) c.args.lines.now c.requires.sound c.requires.suit k
+
+pub returns-clause-restores : goal.returns-clause-restores
+returns-clause-restores g c k line at =
+    session-restores meaning c.args.schema.now laws (g.K.Maker.makes c.args.maker.now c.args.schema.now) (state_of c.args.room.now) c.args.lines.now k line at

@@ -1,10 +1,12 @@
 use Rattle.std.proofs.Common.{◌≡◌, ◌<◌, All, length, map, sym, ap, ap₂, ◌∙◌, subst}
+use Rattle.std.proofs.lemmas.Result.{IfOk-from_err}
 use Rattle.pm_session.specs.Events.{state_of}
 use Rattle.pm_session.specs.Sessions.{opened, session}
 use Rattle.pm_session.specs.Sounds.{Sound}
 use Rattle.pm_workers.specs.Merges.{numbers, merged, IsOrder}
-use Rattle.pm_workers.specs.Seatings.{AreSeats}
-use Rattle.pm_workers.specs.Threads.{by_client, in_order, dealt}
+use Rattle.pm_desk.specs.Histories.{state_at}
+use Rattle.pm_workers.specs.Seatings.{AreSeats, IsCovered}
+use Rattle.pm_workers.specs.Threads.{after_request, by_client, in_order, dealt}
 use Rattle.pm_workers.proofs.Filing.{clients-count}
 use Rattle.pm_workers.proofs.Gathering.{order-below, turns-are, gives-lines, gives-order, gives-suit, gives-session}
 use Rattle.pm_workers.proofs.MergeLaws.{length-map, map-numbers}
@@ -114,8 +116,8 @@ of-requires g c =
     let sound = apart-sound m d.opening.rules here.laws (k.makes d.opening.rules) n k.doc k.raw lines apart.history.items _ _ _ k.played.opening.good played in
     λ i x at. (sound.stand i x at).0
 
-pub returns : goal.returns
-returns g c k =
+pub returns-clause-orderly : goal.returns-clause-orderly
+returns-clause-orderly g c k =
     let m = g.C.Change.means in
     let d = c.args.desk in
     let n = length k.raw in
@@ -142,6 +144,11 @@ returns g c k =
     let same : apart.rules ≡ d.opening.rules = closed.rules in
     record {
       rules = same;
+      history = record {
+        log = apart.history.items;
+        order = merges ∙ ap (merged (map (λ past. past.seat) apart.history.items)) k.filed.places;
+        authority = ap (λ s. s.authority) c.of.ensures ∙ closed.authority ∙ ap (λ a. state_at (after_request m) d.opening.rules a apart.history.items) k.played.opening.machine;
+      };
       order = gives-order _ _ _ _ _ _ _ _ _ _ played _ _ _ _ k.filed.places merges k.filed.clients picks _ _ by_lines by_outcomes;
       once = subst (λ l. IsOrder l c.in_ok-order.order.items) (ap (map (λ l. numbers l.items)) c.as_slice-2.ensures.value ∙ sym (map-numbers (λ l. l.items) c.args.file.now.places.items) ∙ ap (map numbers) k.filed.places) c.in_ok-order.ensures.order;
       lines = gives-lines _ _ _ _ _ _ _ _ _ _ played _ _ _ _ k.filed.places merges k.filed.clients picks _ _ by_lines by_outcomes;
@@ -149,3 +156,31 @@ returns g c k =
       plays = subst (λ r. (outcomes, state_of c.of.result) ≡ session m r (k.makes r) (opened k.doc k.raw) c.in_ok-deal.field-0.items) (sym same) plays;
       sound = subst (λ r. Sound m r (state_of c.of.result)) (sym same) (subst (λ s. Sound m d.opening.rules s) (sym c.of.ensures) sound);
     }
+
+pub returns-clause-history : goal.returns-clause-history
+returns-clause-history g c k =
+    let m = g.C.Change.means in
+    let d = c.args.desk in
+    let lines = k.lines in
+    let left = c.in_ok-left.left in
+    let told = c.in_ok-left.ensures in
+    let apart = c.close_desk-rules.result in
+    let closed = c.close_desk-rules.ensures in
+    let log = apart.history.items in
+    let played = left-of m k.makes d k.doc k.raw lines c.args.workers.items k.played left.seats.items told.seats log closed.covered closed.callers apart.authority closed.authority
+    apart.members.items apart.lines.items apart.outcomes.items
+    (ap (λ v. v.items) closed.members ∙ told.members) (ap (λ v. v.items) closed.lines ∙ told.lines) (ap (λ v. v.items) closed.outcomes ∙ told.outcomes) in
+    let merges : c.in_ok-order.order.items ≡ merged (map (λ past. past.seat) log) (map (λ l. l.items) c.args.file.now.places.items) =
+    c.in_ok-order.ensures.merges ∙ ap₂ (λ h f. merged (map (λ past. past.seat) h) (map (λ l. l.items) f)) c.as_slice.ensures.value c.as_slice-2.ensures.value in
+    record {
+      made = record {
+        log = log;
+        order = merges ∙ ap (merged (map (λ past. past.seat) log)) k.filed.places;
+        authority = ap (λ s. s.authority) c.of.ensures ∙ closed.authority;
+      };
+      covered = subst (λ l. All (λ s. IsCovered log s) l) told.seats closed.covered;
+      calls = played.calls;
+    }
+
+pub returns-in_err-deal-2-clause-history : goal.returns-in_err-deal-2-clause-history
+returns-in_err-deal-2-clause-history g c k = IfOk-from_err c.from_residual-in_err-deal-2.result _ c.from_residual-in_err-deal-2.ensures.0

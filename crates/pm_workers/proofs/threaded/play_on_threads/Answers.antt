@@ -49,4 +49,4 @@ returns g c =
       played = workers-played m makes d c.args.doc raw lines c.in_ok-desk.workers.items c.play_all_lines.new.workers.items c.in_ok-desk.ensures.hired c.in_ok-play_all_lines.ensures;
       filed = subst (λ l. IsFileOf (length raw) l c.in_ok-file.file) c.as_slice.ensures.value c.in_ok-file.ensures;
     } in
-    subst (λ r. IfOk c.close_room.result (λ t. IsOrderly m makes r c.args.doc raw lines t)) c.in_ok-desk.ensures.rules (c.close_room.ensures p)
+    subst (λ r. IfOk c.close_room.result (λ t. IsOrderly m makes r c.args.doc raw lines t)) c.in_ok-desk.ensures.rules (c.close_room.ensures.orderly p)

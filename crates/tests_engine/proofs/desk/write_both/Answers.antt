@@ -8,10 +8,12 @@ use denote.Exit.{no}
 use denote.Struct.Tuple.{TupleAt, type_at}
 use Rattle.std.proofs.Crossing.{crosses}
 use Rattle.std.specs.contracts.alloc.Global as global
-use Rattle.pm_engine.proofs.Crossing.{answer_row, authority_ghosts, authority_send, change_send, desk_sync, no_dict, request_send, rules_row, schema_sync, seat_send}
+use Rattle.pm_engine.proofs.Crossing.{answer_row, authority_ghosts, authority_send, change_ghosts, change_send, desk_sync, no_dict, request_send, rules_row, schema_sync, seat_send}
+use Rattle.pm_engine.specs.contracts.Authority as authority
 use Rattle.pm_engine.specs.contracts.DocChange as change
 use Rattle.pm_engine.specs.contracts.Document as document
 use Rattle.pm_engine.specs.contracts.Reason as reason
+use Rattle.pm_engine.specs.contracts.Request as request
 use Rattle.tests_engine.specs.contracts.desk.Room as Room
 use Rattle.tests_engine.specs.contracts.desk.Writer as Writer
 use Rattle.tests_engine.proofs.desk.write_both.Goals as goal
@@ -22,7 +24,7 @@ writer_send : IsSend Writer.the_row
 writer_send = declared_send Writer.the_type (seat_send _ rules_row _ answer_row _ authority_send request_send, (change_send, tt))
 
 room_sync : IsSync Room.the_row
-room_sync = declared_sync Room.the_type (desk_sync _ rules_row _ answer_row (authority_ghosts change.the_row rules_row document.the_row reason.the_row _ no_dict no_dict no_dict no_dict no_dict) authority_send request_send schema_sync, tt)
+room_sync = declared_sync Room.the_type (desk_sync (authority.the_row change.the_row rules_row document.the_row reason.the_row) rules_row (request.the_row change.the_row) answer_row (authority_ghosts change.the_row rules_row document.the_row reason.the_row change_ghosts no_dict no_dict no_dict no_dict no_dict) authority_send request_send schema_sync, tt)
 
 global_sync : IsSync global.the_row
 global_sync = search (sendable, crosses) depth 20

@@ -1,5 +1,6 @@
 use Rattle.pm_history.specs.declared.turn.Turn.TheVariants.{Redo}
 use Rattle.pm_history.proofs.Taken.{last-empty}
+use Rattle.pm_client.proofs.Tyings.{turn-tied}
 use Rattle.pm_client.proofs.Turns.{turn-kin, turn-whole, turn-restores, turn-tokens}
 use Rattle.pm_client.proofs.client.Client.redo.Goals as goal
 
@@ -19,3 +20,6 @@ returns-clause-restores g c = turn-restores g.C.Change.means c.args.rules.now g.
 
 pub returns-clause-tokens : goal.returns-clause-tokens
 returns-clause-tokens g c = turn-tokens g.C.Change.means c.args.rules.now g.met.C.Change.laws c.args.self.now c.turn.new.self Redo c.turn.result c.turn.ensures.turned
+
+pub returns-clause-tied : goal.returns-clause-tied
+returns-clause-tied g c = turn-tied g.C.Change.means c.args.rules.now c.args.self.now c.turn.new.self Redo c.turn.result c.turn.ensures.turned

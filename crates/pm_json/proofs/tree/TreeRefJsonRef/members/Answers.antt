@@ -30,7 +30,7 @@ all-read c =
 pub returns-clause-members : goal.returns-clause-members
 returns-clause-members c =
     let js = members_view c.deref.result.now in
-    let seen : value_view c.args.self.tree.now ≡ json.object js = ap value_view c.in-Object.is ∙ (view-Object c.in-Object.members ∙ ap (λ es. json.object (members_view es)) (sym c.deref.ensures.value)) in
+    let seen : value_view c.args.self.now.tree.now ≡ json.object js = ap value_view c.in-Object.is ∙ (view-Object c.in-Object.members ∙ ap (λ es. json.object (members_view es)) (sym c.deref.ensures.value)) in
     ap (λ l. Some (members_of l)) (all-read c) ∙ object-members js (members_of (map pair_of_tree c.in_ok-map.map.entries)) c.in_ok-map.ensures ∙ ap (λ j. as_object (data_of j)) (sym seen)
 
 pub returns-clause-ordered : goal.returns-clause-ordered

@@ -1,6 +1,5 @@
 use Rattle.std.proofs.Common.{◌≡◌, ◌+◌, ◌-◌, ◌<◌, ◌++◌, ◌∷◌, [], length, take, min, vec_capacity, option_map, arith, ap, sym, ◌∙◌, refl, subst}
 use Rattle.std.proofs.lemmas.List.{append-nil, nil_from_length}
-use Rattle.pm_tokens.specs.Scan.{part}
 use Rattle.pm_view.specs.declared.around.Around.{Around}
 use Rattle.pm_view.specs.Ahead.{ahead, AreFlat, FitIn}
 use Rattle.pm_view.specs.Grouped.{grouped}
@@ -81,7 +80,7 @@ returns-in-Text c =
     let count = c.min-count.result in
     let k = child-next c.children-children.result s.content.now s.at f.index f.rest c.size-size.result c.get.result.now n e.tokens e.normal e.each c.find-found.ensures (omega (arith, c.find-found.ensures.within, c.if-found-len.false, c.len.ensures)) c.get.ensures c.deref-child.ensures c.size-size.ensures.size in
     sym c.self.view_is
-    ∙ text-taken s.content.now s.at f.rest (s.at - f.rest + c.size-size.result) n k s.outer.items c.in-Text.units c.in-Text.is s.left count (omega (arith, c.min-count.ensures, c.len-in-Text.ensures)) _ (ap (part f.rest (f.rest + count)) c.as_slice.ensures) (omega (arith, c.if-self-eq0.false))
+    ∙ text-taken s.content.now s.at f.rest (s.at - f.rest + c.size-size.result) n k s.outer.items c.in-Text.units c.in-Text.is s.left count (omega (arith, c.min-count.ensures, c.len-in-Text.ensures)) _ refl (omega (arith, c.if-self-eq0.false))
 
 pub returns-in-Leaf : goal.returns-in-Leaf
 returns-in-Leaf c =
@@ -120,18 +119,6 @@ overflow_sub-rest c =
     let k = child-next c.children-children.result s.content.now s.at f.index f.rest c.size-size.result c.get.result.now n e.tokens e.normal e.each c.find-found.ensures (omega (arith, c.find-found.ensures.within, c.if-found-len.false, c.len.ensures)) c.get.ensures c.deref-child.ensures c.size-size.ensures.size in
     let t = text-long s.content.now s.at f.rest end n k s.outer.items c.in-Text.units c.in-Text.is 0 0 (let z : 0 ≡ min (length c.in-Text.units - f.rest) 0 = omega arith in z) in
     omega (arith, t, c.len-in-Text.ensures)
-
-pub slice_bounds-result-end : goal.slice_bounds-result-end
-slice_bounds-result-end c =
-    let s = c.self.inside in
-    let v = c.self.invariant in
-    let e = c.children-children.ensures in
-    let f = c.find-found.result in
-    let n = c.deref-child.result.now in
-    let end = s.at - f.rest + c.size-size.result in
-    let k = child-next c.children-children.result s.content.now s.at f.index f.rest c.size-size.result c.get.result.now n e.tokens e.normal e.each c.find-found.ensures (omega (arith, c.find-found.ensures.within, c.if-found-len.false, c.len.ensures)) c.get.ensures c.deref-child.ensures c.size-size.ensures.size in
-    let t = text-long s.content.now s.at f.rest end n k s.outer.items c.in-Text.units c.in-Text.is 0 0 (let z : 0 ≡ min (length c.in-Text.units - f.rest) 0 = omega arith in z) in
-    omega (arith, t, c.len-in-Text.ensures, c.min-count.ensures, ap length c.as_slice.ensures)
 
 pub invariant_of-self-in-Ok : goal.invariant_of-self-in-Ok
 invariant_of-self-in-Ok c =

@@ -1,0 +1,70 @@
+/* The library's calls over the exports of the crate pm_c. Nothing proves this file: it sees to it that each export gets what it
+ * requires, which is a handle that holds a talk, and its storage. */
+#include "gezhufet.h"
+
+#include <stdint.h>
+#include <stdlib.h>
+
+/* What pm_c::handle::Handle is: a pointer, zero where it holds nothing. */
+typedef struct {
+  void *at;
+} handle;
+
+extern uint32_t pm_c_version(void);
+extern bool pm_c_open(handle *to);
+extern size_t pm_c_tell(handle of, handle *to, const uint8_t *line, size_t size);
+extern size_t pm_c_answer(handle of, handle *to, uint8_t *into, size_t room);
+extern bool pm_c_is_open(handle of, handle *to);
+extern void pm_c_close(handle of);
+
+struct gezhufet_talk {
+  handle held;
+};
+
+/* A slice of no bytes has a pointer too. */
+static const uint8_t nothing[1];
+
+static const uint8_t *bytes_of(const char *line, size_t size) { return size ? (const uint8_t *)line : nothing; }
+
+static size_t told(gezhufet_talk *talk, const char *line, size_t size) {
+  return pm_c_tell(talk->held, &talk->held, bytes_of(line, size), size);
+}
+
+unsigned gezhufet_version(void) { return pm_c_version(); }
+
+size_t gezhufet_open_authority(const char *schema, size_t schema_size, const char *document, size_t document_size,
+                               gezhufet_talk **talk) {
+  gezhufet_talk *made;
+  size_t size;
+  if (!talk) return 0;
+  *talk = NULL;
+  if ((!schema && schema_size) || (!document && document_size)) return 0;
+  made = calloc(1, sizeof *made);
+  if (!made) return 0;
+  if (!pm_c_open(&made->held)) {
+    free(made);
+    return 0;
+  }
+  /* A schema without fault has no answer of its own: the document's is that to both. */
+  size = told(made, schema, schema_size);
+  if (!size) size = told(made, document, document_size);
+  *talk = made;
+  return size;
+}
+
+bool gezhufet_is_open(gezhufet_talk *talk) { return talk && pm_c_is_open(talk->held, &talk->held); }
+
+size_t gezhufet_tell(gezhufet_talk *talk, const char *line, size_t size) {
+  return gezhufet_is_open(talk) && (line || !size) ? told(talk, line, size) : 0;
+}
+
+size_t gezhufet_answer(gezhufet_talk *talk, char *buffer, size_t room) {
+  if (!talk || !buffer) return 0;
+  return pm_c_answer(talk->held, &talk->held, (uint8_t *)buffer, room);
+}
+
+void gezhufet_close(gezhufet_talk *talk) {
+  if (!talk) return;
+  pm_c_close(talk->held);
+  free(talk);
+}

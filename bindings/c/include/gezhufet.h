@@ -1,0 +1,68 @@
+/* The document engine of ProseMirror as a library: a line in, an answer out.
+ *
+ * A talk is a document with the log of its steps. It is opened by two lines of JSON, a schema and a document, and each later
+ * line asks it something: to append steps, for the log, or for the document. The lines and their answers are those of the
+ * live authority (docs: the live authority).
+ *
+ * Who owns what. A talk owns its memory until gezhufet_close. Lines and buffers are the caller's: no call keeps a pointer to
+ * them. An answer stays with its talk until the next line is told, and the caller copies it.
+ *
+ * Threads. Each talk is used by one call at a time, and calls from several threads need a lock, or another order, between
+ * them. Two talks have nothing in common and may be used at once.
+ *
+ * Memory comes from malloc. A line for which there was none is answered {"fault":"memory"} and changes nothing; the same line
+ * may be told again.
+ */
+#ifndef GEZHUFET_H
+#define GEZHUFET_H
+
+#include <stdbool.h>
+#include <stddef.h>
+
+#ifdef __cplusplus
+extern "C" {
+#endif
+
+/* The version of this header: 10,000 times the major number, 100 times the minor one, and the patch. */
+#define GEZHUFET_VERSION 100
+
+typedef struct gezhufet_talk gezhufet_talk;
+
+/* The version of the library that runs, counted as GEZHUFET_VERSION is. */
+unsigned gezhufet_version(void);
+
+/* Opens an authority's talk by its two lines, of which the second may be `null` for the schema's top type filled. The lines are
+ * UTF-8 and have no zero at their end; an LF at the end of one does no harm.
+ *
+ * Gives the number of bytes of the answer, which gezhufet_answer copies: {"size":N,"version":0} where the talk is open, and
+ * {"fault":CODE,"line":1 or 2} or {"fault":"memory"} where it is not. gezhufet_is_open tells which. `*talk` is the talk in both
+ * cases, and has to be closed.
+ *
+ * Gives 0, and sets `*talk` to NULL, where there is no memory for a talk, or a line is NULL and not empty. Where `talk` is NULL
+ * it does nothing and gives 0. */
+size_t gezhufet_open_authority(const char *schema, size_t schema_size, const char *document, size_t document_size,
+                               gezhufet_talk **talk);
+
+/* Whether the talk was opened, so that lines are answered. False for NULL. */
+bool gezhufet_is_open(gezhufet_talk *talk);
+
+/* Tells the talk a line, without its LF, and gives the number of bytes of the answer: a line of compact JSON with an LF at its
+ * end, in UTF-8. A line of more than 1,048,576 bytes is answered {"fault":3}.
+ *
+ * Gives 0, and leaves the last answer as it was, where `talk` is NULL or is not open, or `line` is NULL and not empty. */
+size_t gezhufet_tell(gezhufet_talk *talk, const char *line, size_t size);
+
+/* Copies the last answer's first bytes into the buffer, at most `room`, and gives how many they are. Bytes of the buffer past them
+ * are unchanged, and no zero is put at the end. The answer stays, so it may be copied again into a larger buffer.
+ *
+ * Gives 0 where `talk` or `buffer` is NULL. */
+size_t gezhufet_answer(gezhufet_talk *talk, char *buffer, size_t room);
+
+/* Lets the talk and its memory go. The pointer must not be used again. Does nothing for NULL. */
+void gezhufet_close(gezhufet_talk *talk);
+
+#ifdef __cplusplus
+}
+#endif
+
+#endif

@@ -1,0 +1,35 @@
+// The engine as a node addon, where it was built (addon/build.sh): the same calls as the module's, on the memory of the process.
+
+import {MemoryError} from "./errors.js"
+import {requireFile} from "./platform.js"
+
+const ADDON = new URL("../addon/build/gezhufet.node", import.meta.url)
+
+// The addon gives null where there is no memory.
+function given(value) {
+  if (value === null) throw new MemoryError()
+  return value
+}
+
+class AddonEngine {
+  #addon
+
+  constructor(addon) { this.#addon = addon }
+
+  get kind() { return "addon" }
+
+  open(schema, document) {
+    const [talk, answer] = given(this.#addon.open(schema, document))
+    return {talk, answer: given(answer)}
+  }
+
+  tell(talk, line) { return given(this.#addon.tell(talk, line)) }
+
+  close(talk) { this.#addon.close(talk) }
+}
+
+/// The addon, or null where it was not built.
+export async function openAddon() {
+  const addon = await requireFile(ADDON)
+  return addon && new AddonEngine(addon)
+}

@@ -1,0 +1,46 @@
+// A verified authority for ProseMirror documents, in this process.
+//
+//   import {openAuthority} from "gezhufet"
+//   const authority = await openAuthority(schema, doc)
+//   const {accepted, version} = authority.submit(sendableSteps(state))
+
+import {openAddon} from "./addon.js"
+import {Authority} from "./authority.js"
+import {EndedError} from "./errors.js"
+import {openWasm} from "./wasm.js"
+
+export {EndedError, FaultError, GezhufetError, MemoryError, RefusedError} from "./errors.js"
+export {documentLine, schemaLine} from "./lines.js"
+
+// An engine in which authorities are opened.
+class Engine {
+  #engine
+
+  constructor(engine) { this.#engine = engine }
+
+  /// What the engine is: `wasm` or `addon`.
+  get kind() { return this.#engine.kind }
+
+  /// Of `wasm` the bytes in use and those of the whole memory; else undefined.
+  get memory() { return this.#engine.memory }
+
+  /// An authority in this engine; see `openAuthority`.
+  openAuthority(schema, doc, options) { return new Authority(this.#engine, schema, doc, options) }
+}
+
+/// Opens an engine. `kind` is `wasm`, `addon`, or undefined: the addon where it was built, and else wasm. `memory` is the most bytes
+/// that wasm takes, and `module` another place of gezhufet.wasm, its bytes, or the compiled module.
+export async function openEngine({kind, memory, module} = {}) {
+  if (kind !== undefined && kind != "wasm" && kind != "addon") throw new TypeError(`there is no engine ${kind}`)
+  const isOfWasm = memory !== undefined || module !== undefined
+  if (kind == "addon" && isOfWasm) throw new TypeError("`memory` and `module` are of wasm alone")
+  const addon = kind == "addon" || (kind === undefined && !isOfWasm) ? await openAddon() : null
+  if (kind == "addon" && !addon) throw new EndedError("the addon was not built")
+  return new Engine(addon ?? await openWasm({memory, module}))
+}
+
+/// Opens an authority over a document, in an engine of its own unless one is given. `schema` and `doc` are ProseMirror's `Schema` and
+/// `Node`, or their JSON; without `doc` the schema's top type is filled. A FaultError where one of them is none.
+export async function openAuthority(schema, doc = null, {engine, Step, ...options} = {}) {
+  return (engine ?? await openEngine(options)).openAuthority(schema, doc, {Step})
+}

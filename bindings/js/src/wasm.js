@@ -1,0 +1,109 @@
+// The engine as a WebAssembly module, gezhufet.wasm: it imports nothing, and its exports pass numbers. A line goes in and an answer
+// comes out by one buffer in its memory.
+
+import {EndedError, MemoryError} from "./errors.js"
+import {readFile} from "./platform.js"
+
+// The bytes of a line that the engine reads, its LF not counted. Of a longer one, which has a fault, one byte more is told.
+const LINE_LIMIT = 1048576
+const PAGE = 65536
+
+const OWN_MODULE = new URL("../gezhufet.wasm", import.meta.url)
+const encoder = new TextEncoder()
+const decoder = new TextDecoder()
+const compiled = new Map()
+
+const bytesOf = line => encoder.encode(line).subarray(0, LINE_LIMIT + 1)
+
+async function compile(url) {
+  const bytes = await readFile(url)
+  if (bytes) return WebAssembly.compile(bytes)
+  const response = await fetch(url)
+  if (!response.ok) throw new Error(`${url} is not there: ${response.status}`)
+  return WebAssembly.compile(await response.arrayBuffer())
+}
+
+// A module as it is given: compiled, its bytes, or its address, of which each is compiled once.
+function moduleOf(given = OWN_MODULE) {
+  if (given instanceof WebAssembly.Module) return given
+  if (given instanceof ArrayBuffer || ArrayBuffer.isView(given)) return WebAssembly.compile(given)
+  const url = String(given)
+  if (!compiled.has(url)) {
+    const made = compile(new URL(url))
+    compiled.set(url, made)
+    made.catch(() => compiled.delete(url))
+  }
+  return compiled.get(url)
+}
+
+/// One instance of the module, which holds many talks. `memory` is the most bytes that it takes; at 2^32 - 65,536 all are taken.
+export async function openWasm({module, memory} = {}) {
+  return new WasmEngine(await WebAssembly.instantiate(await moduleOf(module)), memory)
+}
+
+class WasmEngine {
+  #exports
+  #fault = null
+
+  constructor({exports}, memory) {
+    this.#exports = exports
+    if (memory !== undefined) this.#call("limit", Math.max(Math.floor(memory / PAGE), 1) * PAGE)
+  }
+
+  get kind() { return "wasm" }
+
+  // Calls an export. After an exception memory may be half written, so the instance is never called again.
+  #call(name, ...numbers) {
+    if (this.#fault) throw new EndedError("the engine has stopped by a fault", {cause: this.#fault})
+    try {
+      return this.#exports[name](...numbers) >>> 0
+    } catch (fault) {
+      this.#fault = fault
+      throw new EndedError(`the engine has stopped by a fault: ${fault.message}`, {cause: fault})
+    }
+  }
+
+  /// A talk by its two lines, which is a number, and the answer to both.
+  open(schema, document) {
+    const lines = [bytesOf(schema), bytesOf(document)]
+    const [first, second] = lines.map(it => it.length)
+    this.#write(first + second, lines)
+    const talk = this.#call("open", first, second)
+    if (talk == 0) throw new MemoryError()
+    return {talk, answer: this.#answer(talk)}
+  }
+
+  /// The answer to a line, without its LF.
+  tell(talk, line) {
+    const bytes = bytesOf(line)
+    this.#write(bytes.length, [bytes])
+    this.#call("tell", talk, bytes.length)
+    return this.#answer(talk)
+  }
+
+  /// Lets a talk go. A stopped engine has let all go.
+  close(talk) {
+    if (!this.#fault) this.#call("close", talk)
+  }
+
+  /// The bytes that are in use, and those of the whole memory, which never shrinks.
+  get memory() { return {used: this.#call("used"), size: this.#exports.memory.buffer.byteLength} }
+
+  #write(length, lines) {
+    let at = this.#call("room", length)
+    if (at == 0) throw new MemoryError()
+    for (const bytes of lines) {
+      this.#bytes(at, bytes.length).set(bytes)
+      at += bytes.length
+    }
+  }
+
+  #answer(talk) {
+    const length = this.#call("length")
+    const at = this.#call("answer", talk)
+    if (at == 0) throw new MemoryError()
+    return decoder.decode(this.#bytes(at, length - 1))
+  }
+
+  #bytes(at, length) { return new Uint8Array(this.#exports.memory.buffer, at, length) }
+}

@@ -1,6 +1,0 @@
-use Rattle.std.proofs.Common.{◌∙◌, ap, sym, string_bytes, map, take}
-use Rattle.std.proofs.lemmas.List.{take-map}
-use Rattle.pm_live.proofs.ids.ClientIds.truncate.Goals as goal
-
-pub returns : goal.returns
-returns c = ap (map string_bytes) c.truncate.ensures.keys ∙ (sym (take-map string_bytes c.args.count c.self.inside.ids.keys) ∙ ap (λ ks. take c.args.count ks) c.self.view_is)

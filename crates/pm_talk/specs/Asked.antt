@@ -1,0 +1,75 @@
+-- What a line asks. `op` is read first, and then the other fields in the order in which they stand here.
+use Rattle.std.specs.Prelude.{ℕ, nat_eq, Bool, List, [], ◌∷◌, codes, Option, Some, None, Result, Ok, if◌then◌else◌}
+use Rattle.std.specs.Cmp.Lexicographic.{pointwise}
+use Rattle.serde_json.specs.Data.{Data, Items, no_items, item}
+use Rattle.serde_json.specs.Find.{get, as_array}
+use Rattle.pm_list.specs.Readings.{◌>>=◌, or_fault}
+use Rattle.pm_schema.specs.declared.spec.SchemaSpec.{SchemaSpec}
+use Rattle.pm_meaning.specs.Steps.{Step}
+use Rattle.pm_stepjson.specs.Reading.{step_read}
+use Rattle.pm_head.specs.declared.code.Code.{Code}
+use Rattle.pm_head.specs.declared.code.Code.TheVariants.{WrongShape, UnknownName}
+use Rattle.pm_head.specs.Lines.{json_line}
+use Rattle.pm_talk.specs.declared.asked.Asked.{Asked}
+use Rattle.pm_talk.specs.declared.asked.Asked.TheVariants.{Submit, Since, Doc}
+use Rattle.pm_talk.specs.declared.asked.Word.{Word}
+use Rattle.pm_talk.specs.declared.asked.Word.TheVariants as word
+use Rattle.pm_talk.specs.Codes.{coded}
+use Rattle.pm_talk.specs.Fields.{text_in, number_in, id_in}
+
+-- the text is this word
+abbrev pub says : List ℕ → List ℕ → Bool
+says text word = pointwise nat_eq text word
+
+abbrev pub word_named : List ℕ → Option Word
+word_named text =
+    if says text (codes "submit") then Some word.Submit
+    else (if says text (codes "since") then Some word.Since
+    else (if says text (codes "doc") then Some word.Doc
+    else None))
+
+abbrev pub word_in : Data → Result Word Code
+word_in d = text_in (codes "op") d >>= (λ text. or_fault UnknownName (word_named text))
+
+-- `since`: a version
+unfoldable pub since_in : Data → Result Asked Code
+since_in d = do
+  version ← number_in (codes "version") d
+  Ok (Since version)
+
+module _ (s : SchemaSpec) where
+  -- the values as steps, from the front
+  unfoldable pub step_list : Items → Result (List Step) Code
+  step_list no_items = Ok []
+  step_list (item d ds) = do
+    first ← coded (step_read s d)
+    rest ← step_list ds
+    Ok (first ∷ rest)
+
+  -- the list of steps at `steps`, which may be empty
+  unfoldable pub steps_in : Data → Result (List Step) Code
+  steps_in d = do
+    value ← or_fault WrongShape (get (codes "steps") d)
+    items ← or_fault WrongShape (as_array value)
+    step_list items
+
+  -- `submit`: a version, the client's ID, and the steps
+  unfoldable pub submit_in : Data → Result Asked Code
+  submit_in d = do
+    version ← number_in (codes "version") d
+    id ← id_in d
+    steps ← steps_in d
+    Ok (Submit version id steps)
+
+  -- what the word asks
+  abbrev pub asks : Word → Data → Result Asked Code
+  asks word.Submit d = submit_in d
+  asks word.Since d = since_in d
+  asks word.Doc d = Ok Doc
+
+  unfoldable pub asked_of : Data → Result Asked Code
+  asked_of d = word_in d >>= (λ word. asks word d)
+
+  -- what a line asks, or the code of its first fault
+  unfoldable pub asked_line : List ℕ → Result Asked Code
+  asked_line line = json_line line >>= asked_of

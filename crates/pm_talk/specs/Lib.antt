@@ -1,0 +1,10 @@
+pub mod Codes
+pub mod Fields
+pub mod Asked
+pub mod Ids
+pub mod Texts
+pub mod Live
+pub mod Presenting
+pub mod Talk
+pub mod Lines
+pub mod Openings

@@ -1,0 +1,31 @@
+//! A talk: a line in, its answer out. Line 1 is a schema, line 2 a document of it, and each later line asks the authority that
+//! they open: to append steps, for the log, or for the document.
+//!
+//! The main call is `Talk::tell`; a `Talk` is a `Service` of pm_serve too.
+//!
+//! Proved: what a line is answered, and what the talk is then (`Replies`; after the opening `answered`). Out of memory changes
+//! nothing. Of all lines that are answered one after another: the answers and the authority are functions of the lines, and of
+//! which of them there was no memory for (`AllTalks`, `AllOpened`); the document is always valid; a submission is accepted exactly
+//! where there is room for its ID, its version is the log's length and its steps apply (`AcceptsExactly`); a line with a fault is
+//! answered its code, and changes nothing (`FaultsChangeNothing`).
+//!
+//! Not proved: that there is memory.
+#![tactic(auto)]
+
+mod asked;
+mod codes;
+mod fields;
+mod ids;
+mod live;
+mod presenting;
+mod talk;
+mod texts;
+mod theorems;
+mod writing;
+
+pub use asked::Asked;
+pub use ids::ClientIds;
+pub use live::Live;
+pub use talk::Talk;
+pub use texts::no_memory;
+pub use theorems::laws;
