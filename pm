@@ -21,8 +21,10 @@ HELP = """usage: ./pm WORDS < SESSION      builds the program if it is missing o
        ./pm live                 builds the live authority if it is missing or old, and runs it
        ./pm build [live]         builds the one or the other, and tells how far the build is
        ./pm try WORDS < SESSION  runs the words at once, with nothing proved; so does ./pm try live
+       ./pm try build [live]     builds the one or the other with nothing proved, and prints its path
        ./pm lib                  builds the C library below out/: lib/libgezhufet.a, lib/libgezhufet.so, include/gezhufet.h
        ./pm lib --prefix DIR     builds it, and installs it below DIR with a file for pkg-config
+       ./pm try lib              builds it with nothing proved below out/unproved/
        ./pm wasm                 builds the engine as a WebAssembly module, out/gezhufet.wasm, with Debian's binaryen;
                                  ./pm try wasm does it with nothing proved. bindings/js is the JavaScript package over it
 
@@ -70,6 +72,15 @@ def need_toolchain():
     if not shutil.which("rt"):
         say("the command rt of the Rattle toolchain is not on the PATH; install the toolchain, then try again")
         sys.exit(127)
+
+
+def unproved(name):
+    """Builds a program or the static library with nothing proved, and returns the path."""
+    say("nothing is proved in this build; it takes some minutes")
+    built = subprocess.run([f"{TOP}/tools/unproved", name], stdout=subprocess.PIPE, text=True, check=False)
+    if built.returncode:
+        sys.exit(built.returncode)
+    return built.stdout.strip()
 
 
 def made(program):
@@ -210,7 +221,10 @@ class Build:
         return pace * max(chain / min(2, max(self.lanes - 1, 1)), work / self.lanes)
 
     def begin(self):
-        """Starts what can start, first the crates with the longest chain above them. A crate gets the processors that no other waits for."""
+        """Starts what can start, first the crates with the longest chain above them.
+
+        A crate gets the processors that no other waits for.
+        """
         ready = [it for it in self.left if all(dep == it or dep in self.done for dep in self.below[it])]
         chains = self.chains()
         ready.sort(key=chains.get, reverse=True)
@@ -333,7 +347,7 @@ def heap():
     return f"{os.path.dirname(page)}/c/liblibc_c.a"
 
 
-def link(prefix):
+def link(library, prefix):
     """Links the static library, the C file over it and the heap into the libraries below the prefix."""
     c, version = f"{TOP}/bindings/c", version_of_tree()
     lib, include = f"{prefix}/lib", f"{prefix}/include"
@@ -343,7 +357,7 @@ def link(prefix):
     compiler = os.environ.get("CC", "cc")
     with tempfile.TemporaryDirectory() as room:
         run_tool(compiler, "-std=c99", "-O2", "-fPIC", "-I", include, "-c", f"{c}/gezhufet.c", "-o", f"{room}/gezhufet.o")
-        for at, archive in enumerate((made(LIBRARY), heap())):
+        for at, archive in enumerate((library, heap())):
             os.mkdir(f"{room}/{at}")
             run_tool("ar", "x", os.path.realpath(archive), cwd=f"{room}/{at}")
         objects = [f"{folder}/{it}" for folder, _, files in os.walk(room) for it in sorted(files)]
@@ -379,6 +393,12 @@ def main(words):
     elif words in (["wasm"], ["try", "wasm"]):
         need_toolchain()
         os.execv(f"{TOP}/tools/wasm/build", ["build", *["--try"] * (words[0] == "try")])
+    elif words == ["try", "lib"]:
+        need_toolchain()
+        link(unproved(LIBRARY), f"{TOP}/out/unproved")
+    elif words in (["try", "build"], ["try", "build", "live"]):
+        need_toolchain()
+        print(unproved(chosen(words[2:])[0]))
     elif words[:1] == ["try"]:
         need_toolchain()
         program, given = chosen(words[1:])
@@ -392,7 +412,7 @@ def main(words):
         need_toolchain()
         if not is_fresh(LIBRARY):
             build(LIBRARY)
-        link(words[2] if len(words) == 3 else f"{TOP}/out")
+        link(made(LIBRARY), words[2] if len(words) == 3 else f"{TOP}/out")
     else:
         program, given = chosen(words)
         if not is_fresh(program):

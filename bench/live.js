@@ -14,7 +14,7 @@ const fs = require("fs")
 const path = require("path")
 const {Authority} = require("../live/authority")
 const {NodeAuthority} = require("./live-authority")
-const {LIVE, RUNS, middle, row, title} = require("./measure")
+const {LIVE, RUNS, busy, middle, row, title} = require("./measure")
 
 // The processes, and null for ProseMirror's authority in this process.
 const SIDES = [[LIVE], ["node", path.join(__dirname, "live-authority.js")], null]
@@ -49,11 +49,7 @@ class Outside extends Authority {
   }
 
   // The processor's time that it took so far, in nanoseconds.
-  busy() {
-    const tasks = `/proc/${this.process.pid}/task`
-    const times = fs.readdirSync(tasks).map(task => fs.readFileSync(`${tasks}/${task}/schedstat`, "utf8"))
-    return times.reduce((sum, text) => sum + Number(text.split(" ")[0]), 0)
-  }
+  busy() { return busy(this.process.pid) }
 }
 
 async function open(words, tokens) {

@@ -58,6 +58,13 @@ function weighed(command, input) {
   return {...ran, megabytes: kilobytes / 1024, busy: 1000 * (user + system)}
 }
 
+/// The processor's time that a process took so far, its threads and all, in nanoseconds.
+function busy(pid) {
+  const tasks = `/proc/${pid}/task`
+  const times = fs.readdirSync(tasks).map(task => fs.readFileSync(`${tasks}/${task}/schedstat`, "utf8"))
+  return times.reduce((sum, text) => sum + Number(text.split(" ")[0]), 0)
+}
+
 /// Plays a session by the program.
 const play = (word, session) => weighed([PROGRAM, word], session)
 
@@ -100,4 +107,4 @@ function row(what, ours, beside = [], {isSpeed = false, note = ""} = {}) {
   console.log(`${what.padEnd(54)}${spread(ours)}   ${others}${ratio.padStart(8)}  ${note}`.trimEnd())
 }
 
-module.exports = {RUNS, PROGRAM, LIVE, fileOf, ensure, timed, run, weighed, play, written, inTurn, middle, title, row}
+module.exports = {RUNS, PROGRAM, LIVE, fileOf, ensure, timed, run, weighed, busy, play, written, inTurn, middle, title, row}

@@ -3,18 +3,20 @@
 # the median of seven runs, with the least and the greatest.
 # usage: bench/run.sh [PART..]      all parts unless told: see `parts`
 # RUNS=N takes N runs in place of seven. PROGRAM and PM_LIVE name other builds of the programs; one that is not named is proved
-# and built where it is missing or older than a source.
+# and built where it is missing or older than a source. The WebAssembly module and the node addon are those in bindings/js; where
+# one is missing it is built.
 
 set -eu
 
 here=$(cd "$(dirname "$0")" && pwd)
 export NODE_PATH=/usr/share/nodejs
-parts="check typing clients undos rebases edits generated threads live"
+package=$here/../bindings/js
+parts="check typing clients undos rebases edits long generated threads live embed"
 
 # What each part runs. The sizes are such that all parts take less than twelve minutes.
 part() {
   case $1 in
-  check | undos | edits | live) node "$here/$1.js" ;;
+  check | undos | edits | long | live | embed) node "$here/$1.js" ;;
   typing) node "$here/typing.js" 1000 10000 100000 ;;
   clients) node "$here/clients.js" 32 3000 ;;
   rebases) node "$here/rebases.js" 500 10 1 2000 10 1 2000 10 100 ;;
@@ -38,6 +40,11 @@ install() {
 need() {
   case $1 in
   live) [ -n "${PM_LIVE-}" ] || "$here/../pm" build live ;;
+  embed)
+    need live
+    [ -e "$package/gezhufet.wasm" ] || "$here/../pm" wasm
+    [ -e "$package/addon/build/gezhufet.node" ] || { "$here/../pm" lib && "$package/addon/build.sh"; }
+    ;;
   *) [ -n "${PROGRAM-}" ] || "$here/../pm" build ;;
   esac
 }

@@ -100,10 +100,11 @@ async function startAuthority(schema, doc = null, words = command()) {
   const [kind] = [words].flat()
   if (ENGINES.includes(kind)) return startInside(schema, doc, kind)
   const {schemaLine, documentLine} = await import("../bindings/js/src/lines.js")
+  // What throws here starts no process.
+  const lines = `${schemaLine(schema)}\n${doc ? documentLine(doc) : "null"}`
   const authority = new Authority([words].flat())
   // The answer comes behind the second line.
-  const opened = authority.askLine(`${schemaLine(schema)}\n${doc ? documentLine(doc) : "null"}`)
-  const answer = JSON.parse(await opened)
+  const answer = JSON.parse(await authority.askLine(lines))
   if (answer.fault !== undefined) throw refusal(answer)
   return authority
 }

@@ -1,6 +1,6 @@
 #!/bin/sh
-# Reads the scripts: shellcheck over sh, node --check over JavaScript, black over Python, and the width of lines over sh and
-# JavaScript. What is not installed is said and left out. Rattle's own files are formatted by `rt fmt`.
+# Reads the scripts and the bindings: shellcheck over sh, node --check over JavaScript, black over Python, cppcheck over C, and the
+# width of lines over all of them. What is not installed is said and left out. Rattle's own files are formatted by `rt fmt`.
 #
 #   tests/lint.sh
 #
@@ -26,12 +26,15 @@ check() {
 
 # Lists the tracked scripts whose first line, or whose name, is of a kind; those that are not committed yet too.
 files() {
-  git ls-files -co --exclude-standard -- pm test .ci bench examples live tests tools | while read -r file; do
+  git ls-files -co --exclude-standard -- pm test .ci bench bindings examples live tests tools | while read -r file; do
     [ -f "$file" ] || continue
     case $file in
     *.sh) kind="sh" ;;
-    *.js) kind="js" ;;
+    *.js | *.cjs) kind="js" ;;
+    *.d.ts) kind="types" ;;
     *.py) kind="py" ;;
+    *.c) kind="c" ;;
+    *.h) kind="head" ;;
     *.*) kind= ;;
     *) kind=$(sed -n '1s/^#!.*[/ ]\(sh\|python3\)$/\1/p' "$file" 2>/dev/null | sed 's/python3/py/') ;;
     esac
@@ -60,7 +63,12 @@ fi
 for file in $(files py); do
   check "python3" "$file" python3 -c 'import ast, sys; ast.parse(open(sys.argv[1], encoding="utf-8").read())'
 done
-for file in $(files sh) $(files js); do check "width" "$file" is_narrow; done
+if have cppcheck "C"; then
+  for file in $(files c); do check cppcheck "$file" cppcheck -q --enable=warning,performance --error-exitcode=1; done
+fi
+for kind in sh js types py c head; do
+  for file in $(files "$kind"); do check "width" "$file" is_narrow; done
+done
 
 echo "$passed passed, $failed failed"
 [ "$failed" -eq 0 ]

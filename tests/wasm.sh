@@ -133,7 +133,7 @@ fi
 
 if have_packages; then
   for kind in $engines; do
-    judge "editors over $kind" env PM_LIVE="$kind" node "$top/live/test.js" 3000 5
+    judge "editors over $kind" env PM_LIVE="$kind" node "$top/live/test.js" 10000 5
     tail -n 3 "$work/said"
   done
 else

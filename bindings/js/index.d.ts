@@ -91,7 +91,11 @@ export interface Engine {
   readonly kind: "wasm" | "addon"
   /** Of wasm: the bytes in use, and those of the whole memory, which never shrinks. */
   readonly memory?: {used: number; size: number}
-  openAuthority<N, S = JSONObject>(schema: SchemaValue<N>, doc?: NodeValue | JSONObject | null, options?: AuthorityOptions<S>): Authority<N, S>
+  openAuthority<N, S = JSONObject>(
+    schema: SchemaValue<N>,
+    doc?: NodeValue | JSONObject | null,
+    options?: AuthorityOptions<S>
+  ): Authority<N, S>
   openAuthority(schema: SchemaJSON | string, doc?: NodeValue | JSONObject | string | null): Authority
 }
 

@@ -143,7 +143,8 @@ def schemas():
         yield row(f"a type named {name[:5]!r}", lambda name=name: session(nodes("p", [{"name": name}])), any=refused(1, 7))
     yield row("a group of 65 characters", lambda: session(nodes("p", [{"name": "n", "group": "g" * 65}])), any=refused(1, 7))
     for depth, told in ((3, ok(0, 2)), (4, ok(0, 2)), (5, {"any": refused(1, 12)})):
-        attrs = f'{{"nodes":[{{"name":"doc","content":"p+"}},{{"name":"p","attrs":{{"k":{{"default":{lists(depth)}}}}},"content":"text*"}},{{"name":"text"}}]}}'
+        kind = f'{{"name":"p","attrs":{{"k":{{"default":{lists(depth)}}}}},"content":"text*"}}'
+        attrs = f'{{"nodes":[{{"name":"doc","content":"p+"}},{kind},{{"name":"text"}}]}}'
         yield row(f"a default of {depth} levels", lambda attrs=attrs: session(attrs), **told)
 
 

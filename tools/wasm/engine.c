@@ -41,7 +41,9 @@ static bool provide(word bytes) {
 // Lets a buffer go that one long line or answer made. A block that shrinks stays where it is.
 static void shrink(void) {
   if (has <= MOST_KEPT) return;
-  buffer = realloc(buffer, LEAST_ROOM);
+  char *less = realloc(buffer, LEAST_ROOM);
+  if (!less) return;
+  buffer = less;
   has = LEAST_ROOM;
 }
 

@@ -10,16 +10,22 @@
 #include <stdlib.h>
 #include <string.h>
 
-#define SCHEMA "{\"nodes\":[{\"name\":\"doc\",\"content\":\"paragraph+\"},{\"name\":\"paragraph\",\"content\":\"text*\"},{\"name\":\"text\"}]}"
+#define SCHEMA \
+  "{\"nodes\":[{\"name\":\"doc\",\"content\":\"paragraph+\"},{\"name\":\"paragraph\",\"content\":\"text*\"},{\"name\":\"text\"}]}"
 #define DOC "{\"type\":\"doc\",\"content\":[{\"type\":\"paragraph\",\"content\":[{\"type\":\"text\",\"text\":\"ab\"}]}]}"
-#define SUBMIT "{\"op\":\"submit\",\"version\":0,\"clientID\":\"ann\",\"steps\":[{\"stepType\":\"replace\",\"from\":1,\"to\":1,\"slice\":{\"content\":[{\"type\":\"text\",\"text\":\"x\"}]}}]}"
+#define SUBMIT \
+  "{\"op\":\"submit\",\"version\":0,\"clientID\":\"ann\"," \
+  "\"steps\":[{\"stepType\":\"replace\",\"from\":1,\"to\":1,\"slice\":{\"content\":[{\"type\":\"text\",\"text\":\"x\"}]}}]}"
 #define SINCE "{\"op\":\"since\",\"version\":0}"
 #define ASK_DOC "{\"op\":\"doc\"}"
 #define OPENED "{\"size\":4,\"version\":0}\n"
 #define ACCEPTED "{\"accepted\":{\"count\":1,\"from\":0}}\n"
 #define EMPTY "{\"clientIDs\":[],\"steps\":[],\"version\":0}\n"
-#define ENTRIES "{\"clientIDs\":[\"ann\"],\"steps\":[{\"from\":1,\"slice\":{\"content\":[{\"text\":\"x\",\"type\":\"text\"}]},\"stepType\":\"replace\",\"to\":1}],\"version\":1}\n"
-#define DOC_THEN "{\"doc\":{\"content\":[{\"content\":[{\"text\":\"xab\",\"type\":\"text\"}],\"type\":\"paragraph\"}],\"type\":\"doc\"},\"version\":1}\n"
+#define ENTRIES \
+  "{\"clientIDs\":[\"ann\"]," \
+  "\"steps\":[{\"from\":1,\"slice\":{\"content\":[{\"text\":\"x\",\"type\":\"text\"}]},\"stepType\":\"replace\",\"to\":1}],\"version\":1}\n"
+#define DOC_THEN \
+  "{\"doc\":{\"content\":[{\"content\":[{\"text\":\"xab\",\"type\":\"text\"}],\"type\":\"paragraph\"}],\"type\":\"doc\"},\"version\":1}\n"
 #define NO_MEMORY "{\"fault\":\"memory\"}\n"
 #define ALL 4096
 

@@ -21,10 +21,10 @@ const abandoned = new FinalizationRegistry(({engine, talk}) => {
 })
 
 // Gives an answer as it is meant, or the error that it is.
-function judged({fault, line, refused, at, ...answer}) {
+function judged({fault, line, refused, ...answer}) {
   if (fault === "memory") throw new MemoryError()
   if (fault !== undefined) throw new FaultError(fault, line)
-  if (refused) throw new RefusedError(refused.reason, refused.index, at)
+  if (refused) throw new RefusedError(refused.reason, refused.index, refused.at)
   return answer
 }
 
@@ -79,16 +79,20 @@ export class Authority {
     return {doc: this.#schema ? this.#schema.nodeFromJSON(doc) : doc, version}
   }
 
-  /// The answer to a message, both as JSON values, as docs/LIVE.md describes them. A fault is an answer too.
-  ask(message) { return JSON.parse(this.tell(JSON.stringify(message))) }
+  /// The answer to a message, both as JSON values, as docs/use/LIVE.md describes them. A fault is an answer too.
+  ask(message) { return this.#learned(JSON.parse(this.#told(JSON.stringify(message)))) }
 
   /// The answer to a line, both texts without their LF. A fault is an answer too.
   tell(line) {
+    const answer = this.#told(line)
+    if (answer.startsWith('{"accepted":')) this.#learned(JSON.parse(answer))
+    return answer
+  }
+
+  #told(line) {
     if (this.#talk === null) throw new EndedError("the authority was closed")
     try {
-      const answer = this.#engine.tell(this.#talk, line)
-      this.#learn(answer)
-      return answer
+      return this.#engine.tell(this.#talk, line)
     } catch (error) {
       if (error instanceof MemoryError) return '{"fault":"memory"}'
       throw error
@@ -105,9 +109,8 @@ export class Authority {
   }
 
   // Only an accepted submission makes the log longer.
-  #learn(answer) {
-    if (!answer.startsWith('{"accepted":')) return
-    const {count, from} = JSON.parse(answer).accepted
-    this.#version = from + count
+  #learned(answer) {
+    if (answer.accepted) this.#version = answer.accepted.from + answer.accepted.count
+    return answer
   }
 }

@@ -1,6 +1,6 @@
 // What can go wrong. Each error is a GezhufetError, and has in numbers what the authority said.
 
-// The codes of a faulty line and the reasons of a refused step, as docs/FORMATS.md numbers them.
+// The codes of a faulty line and the reasons of a refused step, as docs/use/FORMATS.md numbers them.
 const CODES = {
   2: "the line is missing",
   3: "the line passes 1,048,576 bytes",

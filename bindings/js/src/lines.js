@@ -1,4 +1,4 @@
-// What a talk begins with: the schema line of a ProseMirror `Schema`, and the document line of a `Node` of it. docs/FORMATS.md
+// What a talk begins with: the schema line of a ProseMirror `Schema`, and the document line of a `Node` of it. docs/use/FORMATS.md
 // describes the lines. What the engine knows nothing of, such as `parseDOM` and `toDOM`, is left out.
 
 // ---- names and values

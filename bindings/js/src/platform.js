@@ -1,8 +1,9 @@
 // What node has and a page lacks. Nothing of node's is imported by name, so that the package loads in a page and in a bundle as it is.
 
 function builtin(name) {
-  const found = typeof process == "undefined" ? undefined : process.getBuiltinModule?.(name)
-  return found ?? (typeof process == "undefined" || !process.versions?.node ? null : import(/* webpackIgnore: true */ /* @vite-ignore */ name))
+  if (typeof process == "undefined") return null
+  const found = process.getBuiltinModule?.(name)
+  return found ?? (process.versions?.node ? import(/* webpackIgnore: true */ /* @vite-ignore */ name) : null)
 }
 
 /// The bytes of a file, by its address, or null where the address is no file's.

@@ -7,6 +7,8 @@ import {readFile} from "./platform.js"
 // The bytes of a line that the engine reads, its LF not counted. Of a longer one, which has a fault, one byte more is told.
 const LINE_LIMIT = 1048576
 const PAGE = 65536
+// A text of so many units has a place in the module's buffer as it always is, since a unit takes three bytes at most.
+const SHORT = 1365
 
 const OWN_MODULE = new URL("../gezhufet.wasm", import.meta.url)
 const encoder = new TextEncoder()
@@ -53,10 +55,10 @@ class WasmEngine {
   get kind() { return "wasm" }
 
   // Calls an export. After an exception memory may be half written, so the instance is never called again.
-  #call(name, ...numbers) {
+  #call(name, first, second) {
     if (this.#fault) throw new EndedError("the engine has stopped by a fault", {cause: this.#fault})
     try {
-      return this.#exports[name](...numbers) >>> 0
+      return this.#exports[name](first, second) >>> 0
     } catch (fault) {
       this.#fault = fault
       throw new EndedError(`the engine has stopped by a fault: ${fault.message}`, {cause: fault})
@@ -67,7 +69,7 @@ class WasmEngine {
   open(schema, document) {
     const lines = [bytesOf(schema), bytesOf(document)]
     const [first, second] = lines.map(it => it.length)
-    this.#write(first + second, lines)
+    this.#write(lines, first + second)
     const talk = this.#call("open", first, second)
     if (talk == 0) throw new MemoryError()
     return {talk, answer: this.#answer(talk)}
@@ -75,9 +77,7 @@ class WasmEngine {
 
   /// The answer to a line, without its LF.
   tell(talk, line) {
-    const bytes = bytesOf(line)
-    this.#write(bytes.length, [bytes])
-    this.#call("tell", talk, bytes.length)
+    this.#call("tell", talk, this.#put(line))
     return this.#answer(talk)
   }
 
@@ -89,9 +89,26 @@ class WasmEngine {
   /// The bytes that are in use, and those of the whole memory, which never shrinks.
   get memory() { return {used: this.#call("used"), size: this.#exports.memory.buffer.byteLength} }
 
-  #write(length, lines) {
-    let at = this.#call("room", length)
+  #room(length) {
+    const at = this.#call("room", length)
     if (at == 0) throw new MemoryError()
+    return at
+  }
+
+  // Puts a line into the buffer, and gives how many bytes it has.
+  #put(line) {
+    if (line.length <= SHORT) {
+      const room = 3 * line.length
+      return encoder.encodeInto(line, this.#bytes(this.#room(room), room)).written
+    }
+    const bytes = bytesOf(line)
+    this.#write([bytes], bytes.length)
+    return bytes.length
+  }
+
+  // Puts lines' bytes into the buffer, one after the other.
+  #write(lines, length) {
+    let at = this.#room(length)
     for (const bytes of lines) {
       this.#bytes(at, bytes.length).set(bytes)
       at += bytes.length

@@ -42,7 +42,8 @@ for (const kind of engines) describe(`the authority over ${kind}`, () => {
 
   it("tells the code of a fault", async () => {
     const authority = await opened()
-    const fails = (call, code, line) => assert.throws(call, error => error instanceof FaultError && error.code == code && error.line == line)
+    const fails = (call, code, line) =>
+      assert.throws(call, error => error instanceof FaultError && error.code == code && error.line == line)
     fails(() => authority.submit({version: 0, steps: [{stepType: "nothing"}], clientID: 1}), 7)
     fails(() => authority.submit({version: 0.5, steps: [], clientID: 1}), 6)
     fails(() => authority.since(-1), 6)

@@ -39,13 +39,15 @@ describe("the module", {skip: !engines.includes("wasm") && "gezhufet.wasm is not
 
   it("gives back the memory of what was closed", async () => {
     const engine = await openEngine({kind: "wasm"})
+    const short = text.slice(0, 10000)
     const turn = () => {
       const authority = engine.openAuthority(schemaJSON, docJSON)
-      for (let version = 0; version < 5; version++) authority.submit({version, steps: [insertion(1, text)], clientID: `${version}`})
+      for (let version = 0; version < 5; version++) authority.submit({version, steps: [insertion(1, short)], clientID: `${version}`})
       authority.doc()
       authority.close()
     }
-    turn()
+    // The buffer that carries lines finds its place within some turns.
+    for (let i = 0; i < 10; i++) turn()
     const {used, size} = engine.memory
     for (let i = 0; i < 1000; i++) turn()
     assert.deepEqual(engine.memory, {used, size})

@@ -45,7 +45,7 @@ module _ (s : Schema) (m : Marking) (from to : ℕ) (d : Doc) (v : Valid s d) (h
   after-pairs p = ap (λ z. parts_pair z p) (read-is (new_marks s m Inline) (d.kind ∷ []) from to d.tokens h) ∙ pairs-kept (new_marks s m Inline) (d.kind ∷ []) from to p d.tokens
 
   module _ (p : parts_pair d.tokens from ≡ false) (q : parts_pair d.tokens to ≡ false) where
-    -- a marking behind it gives the document exactly where it gives the tokens
+    -- a marking after it gives the document exactly where it gives the tokens
     pub back-gives : (b : Marking) → knows_step s (range_step b from to) ≡ true → gives (outcome s (range_step b from to) (with_tokens d after)) d.tokens ≡ same_tokens (marked_twice s m b (d.kind ∷ []) from to d.tokens) d.tokens
     back-gives b kb =
         let twice = marked_twice s m b (d.kind ∷ []) from to d.tokens in

@@ -72,14 +72,14 @@ module _ {Z : Type 0} {xs : List (Arc Node Z)} where
     | inr g ↦ absurd (omega (arith, h, w.at_end (omega (arith, g, w.within))))
   ]
 
-  -- a position behind another is in no earlier child
+  -- a position after another is in no earlier child
   stands-order : {p i r q j s : ℕ} → Stands xs p i r → Stands xs q j s → p ≤ q → i ≤ j
   stands-order {i = i} {j = j} v w h = elim (cases_lt j i) [
     | inl l ↦ absurd (omega (arith, h, v.offset, w.offset, in-child xs j (j + 1) _ w.inside (omega (arith, l, v.within)) refl, front-up xs (j + 1) i (omega (arith, l))))
     | inr g ↦ omega (arith, g)
   ]
 
-  -- the children behind a position begin at it or behind it
+  -- the children after a position begin at it or after it
   stands-stops : {p i r : ℕ} → Stands xs p i r → (to end : ℕ) → p ≡ min to (length (list_tokens xs)) → i ≤ end → (0 < r → end ≡ i + 1) → end < length xs → to ≤ length (front xs end)
   stands-stops {i = i} {r = r} w to end e o n l =
       let g = in-child xs i (i + 1) r w.inside (omega (arith, o, l)) refl in

@@ -106,7 +106,7 @@ module _ (s : Schema) where
         by true e x = marks-equal m g e
         by false e x = absurd (cc)
 
-    -- behind the first unit nothing is due, and the run stays
+    -- after the first unit nothing is due, and the run stays
     rest-due : (p : ℕ) (run : Option Run) (us : List ℕ) (d c : Bool) → differ m g ≡ d → continues run m g ≡ c
         → due_all s (p + 1) (next_run d true c run p m g) (text_tokens m us) (text_tokens g us) ≡ []
     rest-due p run us false c d e = ap (λ z. due_all s (p + 1) None (text_tokens m us) (text_tokens z us)) (sym (same-if d)) ∙ due-none (p + 1) (text_tokens m us)

@@ -1,4 +1,4 @@
--- The node that begins at a position: behind whole nodes, in one node, and in its content.
+-- The node that begins at a position: after whole nodes, in one node, and in its content.
 use Rattle.std.specs.Prelude.{◌≡◌, ℕ, ◌+◌, ◌-◌, ◌≤◌, ◌<◌, Option, Some, None, List, [], ◌∷◌, ◌++◌, length, take, drop, get_or}
 use Rattle.std.specs.Option.{option_map}
 use Rattle.std.specs.declared.sync.Arc.{Arc}

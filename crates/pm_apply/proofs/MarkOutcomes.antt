@@ -95,7 +95,7 @@ unless-also : (b : Bool) (r : Reason) (x : Result Doc Reason) → b ≡ true →
 unless-also b r (Ok d) h = passes b r (Ok d) h
 unless-also b r (Err e) h = refl
 
--- a step at a node changes the token behind the position alone
+-- a step at a node changes the token after the position alone
 first-marked : (s : Schema) (m : Marking) (ps : List ℕ) (ts : List Token) → with_node_marks (changed s m) ts ≡ with_marks (new_marks s m Nodes) ps (take 1 ts) ++ drop 1 ts
 first-marked s m ps [] = refl
 first-marked s (Add m) ps (Open k a n ∷ ts) = refl

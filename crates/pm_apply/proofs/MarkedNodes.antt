@@ -47,7 +47,7 @@ middle_is us made from to start end len e n m l =
 pub behind_is : (us made : List ℕ) (to end len : ℕ) → made ≡ part end len us → end ≡ min len to → len ≡ length us → made ≡ drop to us
 behind_is us made to end len e n l = e ∙ (ap (λ z. part z len us) (n ∙ ap (λ z. min z to) l) ∙ (ap (λ z. part (min (length us) to) z us) l ∙ cut-behind to us))
 
--- three texts, one put behind another
+-- three texts, one put after another
 pub three-texts : (h g m₁ m₂ m₃ : Marks) (a b c a' b' c' : List ℕ) (x₀ x₁ x₂ x₃ : List Token)
     → x₁ ≡ x₀ ++ text_tokens m₁ a → x₂ ≡ x₁ ++ text_tokens m₂ b → x₃ ≡ x₂ ++ text_tokens m₃ c → m₁ ≡ h → m₂ ≡ g → m₃ ≡ h → a ≡ a' → b ≡ b' → c ≡ c'
     → x₃ ≡ x₀ ++ (text_tokens h a' ++ (text_tokens g b' ++ text_tokens h c'))

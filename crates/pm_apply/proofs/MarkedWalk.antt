@@ -1,4 +1,4 @@
--- A walk over the children of a content that puts them, with the marks in a range changed, one behind another.
+-- A walk over the children of a content that puts them, with the marks in a range changed, one after another.
 use Rattle.std.specs.Prelude.{◌≡◌, ℕ, ◌+◌, ◌-◌, ◌≤◌, ◌<◌, List, [], ◌∷◌, ◌++◌, length, drop, get_or}
 use Rattle.std.specs.declared.sync.Arc.{Arc}
 use Rattle.std.specs.Arc.{arc_value}
@@ -51,7 +51,7 @@ module _ (f : ℕ → Token → Marks → Marks) (parent : ℕ) where
           whole = subst Balanced (sym g) (balanced-append w.whole bal);
         }
 
-    -- and so do those behind it
+    -- and so do those after it
     pub marked-end : (i s e n : ℕ) (m a : List Token) → Marked xs i from to s e m → n ≡ length xs → i ≤ n → (i < length xs → to ≤ length (front xs i)) → a ≡ m ++ list_tokens (part i n xs)
         → (ps : List ℕ) → a ≡ marked_in f (parent ∷ ps) from to (list_tokens xs)
     marked-end i s e n m a w l k stop g ps =

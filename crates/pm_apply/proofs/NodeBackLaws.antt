@@ -162,7 +162,7 @@ module _ (s : Schema) (m b : Marking) (pos : ℕ) (d : Doc) (old : Marks) (v : V
       ap (λ z. with_tokens d (z ++ with_node_marks g (drop pos after))) take-after
       ∙ ap (λ z. with_tokens d (a ++ with_node_marks g z)) drop-after
 
-  -- a marking behind it gives the document exactly where it gives the marks
+  -- a marking after it gives the document exactly where it gives the marks
   node-gives : knows_step s (node_step b pos) ≡ true → gives (outcome s (node_step b pos) (with_tokens d after)) d.tokens ≡ same_marks same_attrs (g (f old)) old
   node-gives kb =
       ap (λ z. gives z d.tokens)

@@ -1,4 +1,4 @@
--- A walk over the children of a content that tells whether a marking, behind another one, gives their marks back.
+-- A walk over the children of a content that tells whether a marking, after another one, gives their marks back.
 use Rattle.std.specs.Prelude.{◌≡◌, ℕ, ◌+◌, ◌-◌, ◌≤◌, ◌<◌, Bool, true, false, List, [], ◌∷◌, ◌++◌, length, drop, get_or}
 use Rattle.std.specs.declared.sync.Arc.{Arc}
 use Rattle.std.specs.Arc.{arc_value}
@@ -98,7 +98,7 @@ module _ (s : Schema) (m b : Marking) where
             ap (kept (twice s m b) (parent ∷ ps) from to) (list-split xs i x l r)
             ∙ lost-part (twice s m b) (parent ∷ ps) from to (front xs i) (node_tokens (arc_value x)) (list_tokens (drop (i + 1) xs)) w.whole bal (found i st e n x k w q f ps ∙ t))
 
-        -- and those behind it
+        -- and those after it
         pub restored-end : (i st e : ℕ) → Restored xs i from to st e → (i < length xs → to ≤ length (front xs i)) → (ps : List ℕ) → true ≡ are_back (parent ∷ ps) from to content
         restored-end i st e w stop = decided true
             (λ ps.

@@ -22,7 +22,7 @@ eqb-suc a b c d e f = by (a == b) refl
     by true p = eq-eqb c d (omega (arith, e, f, eqb-true a b p)) ∙ sym p
     by false p = ne_eqb c d (λ h. let same : a ≡ b = omega (arith, e, f, h) in let yes : (a == b) ≡ true = eq-eqb a b same in absurd (cc)) ∙ sym p
 
--- behind an open node, tokens that all stay open are opens alone
+-- after an open node, tokens that all stay open are opens alone
 opens-by-count : (k : ℕ) (s : List ℕ) (ts : List Token) → are_opens ts ≡ (unmet (suc (length s)) ts + length (unclosed (k ∷ s) ts) == suc (length s) + length ts)
 opens-by-count k s [] = sym (eq-eqb _ _ (omega arith))
 opens-by-count k s (Open j a m ∷ ts) =

@@ -126,7 +126,7 @@ module _ (s : Schema) where
       pub taken-left : (i place st e : ℕ) (mid : Runs) → Taken xs i at from to place st e old mid → place + length (rest xs i) ≡ at + length (list_tokens xs)
       taken-left i place st e mid w = omega (arith, w.stands, ap length (front-rest xs i), length-append (front xs i) (rest xs i))
 
-      -- and so do those behind it
+      -- and so do those after it
       pub taken-end : (i place st e count : ℕ) (mid new : Runs) (content : List Token) → Taken xs i at from to place st e old mid → (i < length xs → to ≤ length (front xs i))
           → count ≡ (at + length (list_tokens xs)) - place → ((ts : List Token) → length ts ≡ count → Took s place ts ts mid new) → list_tokens xs ≡ content
           → (ps : List ℕ) → Took s at content (marked_in f (parent ∷ ps) from to content) old new

@@ -126,7 +126,7 @@ sized-parts xs k x h g =
     let b = rest xs (k + 1) in
     omega (arith, ap length (list-split xs k x h g), length-append a (ts ++ b), length-append ts b)
 
--- the children before one, that one with the value, and those behind it
+-- the children before one, that one with the value, and those after it
 pub put-together : {Z : Type 0} (i : ℕ) (value : Plain) (xs : List (Arc Node Z)) (p k r n : ℕ) (x : Arc Node Z) (m₀ m₁ m₂ m₃ ts : List Token)
     → m₀ ≡ [] → m₁ ≡ m₀ ++ list_tokens (part 0 k xs) → m₂ ≡ m₁ ++ ts → m₃ ≡ m₂ ++ list_tokens (part (k + 1) n xs) → ts ≡ valued i value r (node_tokens (arc_value x))
     → n ≡ length xs → Stands xs p k r → k < length xs → x ≡ get_or xs k x → m₃ ≡ valued i value p (list_tokens xs)

@@ -22,15 +22,27 @@ use pm_schema::Schema;
 use pm_step::{Marking, Step};
 use std::alloc::{AllocError, Global};
 
-/// The document after a step, or the first reason why the step does not apply. Positions are in tokens. The reasons come in
-/// this order. Range: the positions are not in order or pass the size, or `insert` passes the slice. Structure: a range that a
-/// step with `structure` overwrites is not closes and then opens. Gap: the gap is no whole number of nodes. Depth: the open
-/// sides do not fit the depths of the ends. Pair: a position parts a surrogate pair, in the document or in the slice. Join: an
-/// open node meets a close whose owner's type is not compatible with its own. Large, Deep and Content: the result has too many
-/// tokens, nests too deep, or has a fault, of which the least place is named. NoNode: no node begins at the position. NoAttribute:
-/// the type of that node, or of the top node, declares no attribute of the name. BadValue: the attribute names kinds of values, and
-/// the value is of none of them. For a step that changes an attribute these three come before Large, Deep and Content. NotInSchema: the step's mark, or a node that is open at the start of its slice, has a type, attributes or marks that are none
-/// of the schema. So each step that applies can be written and is read back (`applied_can_be_written` of pm_stepjson).
+/// The document after a step. Positions are in tokens. Each step that applies can be written and is read back
+/// (`applied_can_be_written` of pm_stepjson).
+///
+/// # Errors
+///
+/// The first reason why the step does not apply, in this order; where it changes an attribute, the three of attributes come
+/// before `Large`.
+/// - `Range`: the positions are not in order or pass the size, or `insert` passes the slice.
+/// - `Structure`: a range that a step with `structure` overwrites is not closes and then opens.
+/// - `Gap`: the gap is no whole number of nodes.
+/// - `Depth`: the open sides do not fit the depths of the ends.
+/// - `Pair`: a position parts a surrogate pair, in the document or in the slice.
+/// - `Join`: an open node meets a close whose owner's type is not compatible with its own.
+/// - `Large`, `Deep`, `Content`: the result has too many tokens, nests too deep, or has a fault, of which the least place is named.
+/// - `NoNode`: no node begins at the position.
+/// - `NoAttribute`: the type of that node, or of the top node, declares no attribute of the name.
+/// - `BadValue`: the attribute names kinds of values, and the value is of none of them.
+/// - `NotInSchema`: the step's mark, or a node that is open at the start of its slice, has a type, attributes or marks that are
+///   none of the schema.
+///
+/// ProseMirror: `Step.apply`.
 pub fn apply(
     alloc: Global,
     schema: &Schema,

@@ -91,7 +91,7 @@ fn are_ordered(content: &Fragment, ends: Ends, slice: &Slice) -> bool
         && ends.insert <= added
 }
 
-/// Whether the step may overwrite what is before the gap and what is behind it: it has `structure` only where both are closes
+/// Whether the step may overwrite what is before the gap and what is after it: it has `structure` only where both are closes
 /// and then opens.
 fn keeps_around(
     alloc: Global,
@@ -124,7 +124,7 @@ fn part_no_pair(content: &Fragment, ends: Ends, slice: &Slice) -> bool
         && !parts_pair_in(slice, ends.insert)
 }
 
-/// Whether the place behind the slice's first `insert` tokens parts a pair.
+/// Whether the place after the slice's first `insert` tokens parts a pair.
 fn parts_pair_in(slice: &Slice, insert: usize) -> bool
     requires { insert ≤ slice_size slice.now }
     ensures { result ≡ parts_pair (slice_tokens slice.now) insert }
@@ -174,7 +174,7 @@ fn put_around(
 }
 
 /// The tokens before the range, the first `insert` ones of the slice, those of the gap, the other ones of the slice, and those
-/// behind the range. It is refused exactly where a close meets no open node of a compatible type.
+/// after the range. It is refused exactly where a close meets no open node of a compatible type.
 fn splice_around(
     alloc: Global,
     schema: &Schema,

@@ -21,6 +21,7 @@ use pm_step::Step;
 use std::alloc::{AllocError, Global};
 
 /// The steps that take a step back, to be made one after another on the document after it. `doc` is the document before it.
+/// ProseMirror: `Step.invert`.
 pub fn inverse(
     alloc: Global,
     schema: &Schema,

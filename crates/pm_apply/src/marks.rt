@@ -52,7 +52,7 @@ pub fn mark_content(
     Ok(made)
 }
 
-/// Puts a child with the marks of its tokens from..to changed behind the nodes that are made.
+/// Puts a child with the marks of its tokens from..to changed after the nodes that are made.
 #[cycle(mark)]
 fn mark_child(
     alloc: Global,
@@ -81,7 +81,7 @@ fn mark_child(
     mark_part(alloc, walk, node, from, to, reach, made)
 }
 
-/// Puts the node itself behind the nodes that are made.
+/// Puts the node itself after the nodes that are made.
 fn push_shared(
     alloc: Global,
     node: &Arc<Node, Global>,
@@ -160,7 +160,7 @@ fn mark_open(
     }
 }
 
-/// Puts a text behind the nodes that are made, with these marks on its units from..to.
+/// Puts a text after the nodes that are made, with these marks on its units from..to.
 fn mark_text(
     alloc: Global,
     head: &Node,
@@ -198,7 +198,7 @@ fn mark_text(
     )
 }
 
-/// Puts a node with the type and attributes of another one behind the nodes that are made.
+/// Puts a node with the type and attributes of another one after the nodes that are made.
 fn push_with(
     alloc: Global,
     head: &Node,

@@ -1,4 +1,4 @@
-//! Whether a marking gives the marks of a range back, behind another one.
+//! Whether a marking gives the marks of a range back, after another one.
 ghost use Rattle.std.specs.Prelude.{◌≡◌, ℕ, ◌<◌, ◌≤◌, ◌∷◌, true, List, length, IfOk};
 ghost use Rattle.pm_attrs.specs.Attrs.{same_attrs};
 ghost use Rattle.pm_marks.specs.Sets.{same_marks};
@@ -18,7 +18,7 @@ use pm_node::{Body, Fragment, Node};
 use pm_step::Marking;
 use std::alloc::{AllocError, Global};
 
-/// Whether the marking `back` gives the tokens from..to their marks back, behind the marking.
+/// Whether the marking `back` gives the tokens from..to their marks back, after the marking.
 #[cycle(restores)]
 pub fn restores(
     alloc: Global,
@@ -121,7 +121,7 @@ fn restores_open(
     }
 }
 
-/// Whether the marking `back` gives a token of this sort its marks back, behind the marking.
+/// Whether the marking `back` gives a token of this sort its marks back, after the marking.
 fn restores_marks(
     alloc: Global,
     walk: &Walk<'_>,

@@ -31,8 +31,8 @@ pub struct Runs {
     pub run: Option<Run>,
 }
 
-/// Puts the steps that give the old marks back behind the others: the new ones are removed in order, and then the old ones added
-/// in order.
+/// Appends the steps that give the old marks back to the others: the new ones are removed in order, and then the old ones
+/// added in order.
 pub fn give_back(
     alloc: Global,
     steps: &mut Vec<DocChange>,

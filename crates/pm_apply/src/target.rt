@@ -13,7 +13,7 @@ pub enum Target {
     Node { pos: usize },
 }
 
-/// Puts the step that does this to the target behind the others.
+/// Appends the step that does this to the target to the others.
 pub fn push_step(
     alloc: Global,
     steps: &mut Vec<DocChange>,

@@ -12,6 +12,7 @@ use pm_list::Listed;
 use std::alloc::{AllocError, Global};
 
 /// The first document, the log of steps since then, and the document that they give.
+/// ProseMirror: `Authority` of the guide.
 #[derive(Drop)]
 pub struct Authority<C: Change> {
     first: C::Doc,
@@ -57,11 +58,12 @@ impl<C: Change> Authority<C> {
     /// The answer to a message. A submission gets `WrongVersion` exactly where its version is not the log's length; else
     /// `StepRefused` exactly where one of its steps does not apply, by the first one's place, counted from 0, and its
     /// reason. Both change nothing. Else the steps are appended to the log, and the answer is `Accepted`. A request gets
-    /// `Entries`, the log from the place on that it names, and changes nothing. Want of memory changes nothing.
+    /// `Entries`, the log from the place on that it names, and changes nothing. Running out of memory changes nothing.
     ///
     /// `_client` is the client that presents the message. The answer does not depend on it; a history of calls records it.
     /// Under the rules that are lent, both documents must be good, and the log's steps must give the document. Each call
     /// keeps this.
+    /// ProseMirror: `Authority.receiveSteps` and `Authority.stepsSince` of the guide.
     pub fn present(
         &mut self,
         alloc: Global,
@@ -88,7 +90,8 @@ impl<C: Change> Authority<C> {
         }
     }
 
-    /// The answer to a submission. The steps are copied before anything changes, so that want of memory changes nothing.
+    /// The answer to a submission. The steps are copied before anything changes, so that running out of memory changes
+    /// nothing.
     fn submit(
         &mut self,
         alloc: Global,

@@ -17,7 +17,7 @@ times P Q f (suc n) w h = joined P (Times P n) Q (Times Q n) f (times P Q f n) w
 many : (P : List ℕ → Type 0) (Q : List ℕ → Type 0) (C : ℕ → Type 0) → ((v : List ℕ) → P v → Q v) → (w : List ℕ) → Many C P w → Many C Q w
 many P Q C f w h = (h.0, h.1, times P Q f h.0 w h.2)
 
--- a list in front of lists that are in turn
+-- a list before lists that are in turn
 abbrev Turns : List Core → List ℕ → Type 0
 Turns [] w = w ≡ []
 Turns (d ∷ ds) w = Joined (Lang d) (Turns ds) w
@@ -98,7 +98,7 @@ copies-times e n w h = nothing-before (Times (Lang e) n) w (lang-copies n core.E
 times-copies : (e : Core) (n : ℕ) (w : List ℕ) → Times (Lang e) n w → Lang (and_copies core.Empty n e) w
 times-copies e n w h = copies-lang n core.Empty e w (before-nothing (Times (Lang e) n) w h)
 
--- one list more in front
+-- one list more at the front
 times-more : (P : List ℕ → Type 0) (n : ℕ) (xs ys : List ℕ) → P xs → Times P n ys → Times P (suc n) (xs ++ ys)
 times-more P n xs ys p t = record { left = xs; right = ys; is = refl; in_left = p; in_right = t }
 

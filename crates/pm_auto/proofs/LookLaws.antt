@@ -30,7 +30,7 @@ length-places (Alt a b) f = ap length (map-join f (map inl (places a)) (map inr 
 length-places (Cat a b) f = ap length (map-join f (map inl (places a)) (map inr (places b))) ∙ rw (map-over f inl (λ p. f (inl p)) (λ p. refl) (places a), map-over f inr (λ p. f (inr p)) (λ p. refl) (places b), length-join (map (λ p. f (inl p)) (places a)) (map (λ p. f (inr p)) (places b)), length-places a (λ p. f (inl p)), length-places b (λ p. f (inr p))) refl
 length-places (Loop a) f = length-places a f
 
--- the rows of two parts, with what stands before and behind
+-- the rows of two parts, with what stands before and after
 two-parts : {A : Type 0} {B : Type 0} (f : A ⊎ B → Row) (as_ : List A) (bs : List B) (ys : List Row) → map f (map inl as_ ++ map inr bs) ++ ys ≡ map (λ p. f (inl p)) as_ ++ (map (λ p. f (inr p)) bs ++ ys)
 two-parts f as_ bs ys = ap (λ z. z ++ ys) (map-join f (map inl as_) (map inr bs)) ∙ rw (map-over f inl (λ p. f (inl p)) (λ p. refl) as_, map-over f inr (λ p. f (inr p)) (λ p. refl) bs) (append_assoc (map (λ p. f (inl p)) as_) (map (λ p. f (inr p)) bs) ys)
 

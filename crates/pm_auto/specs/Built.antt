@@ -10,7 +10,7 @@ use Rattle.pm_auto.specs.States.{start_of, Too_many}
 use Rattle.pm_auto.specs.Types.{Is_mixed}
 
 -- Mixed where both an inline and a block type occur; TooWide where not, and the expansion has more than 4,096 occurrences of types or more
--- than 1,000 states can be reached; want of memory at any time
+-- than 1,000 states can be reached; running out of memory at any time
 abbrev pub Is_fault : Expr → List Bool → AutoError → Type 0
 Is_fault e inline Mixed = Is_mixed e inline
 Is_fault e inline TooWide = (Is_mixed e inline → ⊥) × ((4096 < width (expand e)) ⊎ Too_many (rows 0 (trimmed e)) (start_of (trimmed e)))

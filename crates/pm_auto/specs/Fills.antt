@@ -13,7 +13,7 @@ kept can (e ∷ es) = cond (slice_index_or can e.kind false) (e ∷ kept can es)
 abbrev pub makeable : List Bool → List (List Edge) → List (List Edge)
 makeable can ess = map (kept can) ess
 
--- from the state these types fit one after another, and behind them the content may end where that is asked
+-- from the state these types fit one after another, and after them the content may end where that is asked
 abbrev pub fits_on : List PlaceSet → List (List Edge) → Bool → ℕ → List ℕ → Bool
 fits_on ss ess to_end s [] = not to_end || ends_at ss s
 fits_on ss ess to_end s (k ∷ w) = via (λ t. fits_on ss ess to_end t w) (target k (edges_at ess s))

@@ -29,7 +29,7 @@ Placed old s t new =
     ((new ≡ old) × (t < length old) × (set_at old t ≡ s))
     ⊎ ((new ≡ old ++ s ∷ []) × (t ≡ length old) × Apart s old × (length old < 1000))
 
--- the one cause that is said, besides want of memory
+-- the one cause that is said, besides running out of memory
 abbrev pub Only_wide : Type 0 → AutoError → Type 0
 Only_wide P Mixed = ⊥
 Only_wide P TooWide = P

@@ -13,7 +13,7 @@ has_list (Alt a b) = has_list a || has_list b
 has_list (Cat a b) = has_list a && has_list b
 has_list (Loop a) = has_list a
 
--- the expression without what stands before or behind a part that has no list
+-- the expression without what stands before or after a part that has no list
 abbrev pub trim : Core → Core
 trim Never = Never
 trim Empty = Empty
@@ -22,7 +22,7 @@ trim (Alt a b) = Alt (trim a) (trim b)
 trim (Cat a b) = cond (has_list a && has_list b) (Cat (trim a) (trim b)) Never
 trim (Loop a) = Loop (trim a)
 
--- The expression with each repetition written out, and then without what stands before or behind a part that has no list.
+-- The expression with each repetition written out, and then without what stands before or after a part that has no list.
 -- The occurrences of types in it are the places of the expression.
 abbrev pub trimmed : Expr → Core
 trimmed e = trim (expand e)

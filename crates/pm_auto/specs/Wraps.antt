@@ -11,7 +11,7 @@ abbrev pub Compatible : Auto → Auto → Type 0
 Compatible a b = (k : ℕ) × (has k (edge_kinds (edges_at a.edges 0)) ≡ true) × (has k (edge_kinds (edges_at b.edges 0)) ≡ true)
 
 -- the wrappers among the types of the edges, as links to the nodes of these types; where that is asked, the content must be
--- able to end behind the wrapper
+-- able to end after the wrapper
 abbrev pub wrappers : List Bool → ℕ → Bool → List PlaceSet → List Edge → List Edge
 wrappers may n to_end ss [] = []
 wrappers may n to_end ss (e ∷ es) =
@@ -21,7 +21,7 @@ wrappers may n to_end ss (e ∷ es) =
 abbrev pub inner_links : List Bool → ℕ → Auto → List Edge
 inner_links may n a = wrappers may n true a.sets (edges_at a.edges 0)
 
--- a node for each type, and behind them one for the given state
+-- a node for each type, and after them one for the given state
 abbrev pub wrap_links : Auto → ℕ → List Auto → List Bool → List (List Edge)
 wrap_links a s autos may = map (inner_links may (length autos)) autos ++ wrappers may (length autos) false a.sets (edges_at a.edges s) ∷ []
 

@@ -33,6 +33,7 @@ pub struct Edge {
 
 /// The automaton of a content expression. Each state is a set of places, and has a list of edges, each to a state of the
 /// automaton and no two of one type.
+/// ProseMirror: `ContentMatch`.
 #[derive(Drop, Debug)]
 pub struct Auto {
     pub(crate) sets: Listed<PlaceSet>,
@@ -65,7 +66,7 @@ impl Auto {
     /// block type occur; else `TooWide` exactly where the expansion has more than 4,096 occurrences of types or more than
     /// 1,000 states can be reached.
     ///
-    /// The places are the occurrences of types in the expansion, without what stands before or behind a part that has no list,
+    /// The places are the occurrences of types in the expansion, without what stands before or after a part that has no list,
     /// as a choice of nothing: so each place of a state is one that some list passes.
     pub fn build(alloc: Global, expr: &Expr, inline: &[bool]) -> Result<Auto, AutoError>
         ensures automaton { IfOk result (λ a. Is_automaton (rows 0 (trimmed expr.now)) (start_of (trimmed expr.now)) a) }
@@ -112,6 +113,7 @@ impl Auto {
     }
 
     /// The state after a child of the type; `None` exactly where the state has no edge of the type.
+    /// ProseMirror: `ContentMatch.matchType`.
     pub fn next(&self, state: State, kind: TypeId) -> Option<State>
         requires { state < length self.now.sets }
         ensures edge { result ≡ target kind (edges_at self.now.edges state) }
@@ -121,6 +123,7 @@ impl Auto {
     }
 
     /// Whether the content may end in the state.
+    /// ProseMirror: `ContentMatch.validEnd`.
     pub fn valid_end(&self, state: State) -> bool
         requires { state < length self.now.sets }
         ensures { result ≡ ends_at self.now.sets state }
@@ -143,9 +146,10 @@ impl Auto {
         share_type(self.edges(0), other.edges(0))
     }
 
-    /// The shortest list of types that can be made, by `can`, after which the types `after` fit, and behind them the content
+    /// The shortest list of types that can be made, by `can`, after which the types `after` fit, and after them the content
     /// may end where `to_end` is set. Of lists of one length it is the first by the order of edges at the first difference.
     /// `None` exactly where there is none. A type without an entry in `can` can't be made.
+    /// ProseMirror: `ContentMatch.fillBefore`, whose list need not be the shortest.
     pub fn fill(
         &self,
         alloc: Global,
@@ -177,6 +181,7 @@ impl Auto {
     /// the one before, which may then end, and the target may stand first in the last, or in the state where the list is
     /// empty. `autos` has the automaton of each type. Of lists of one length it is the first by the order of edges at the
     /// first difference. `None` exactly where there is none. A type without an entry wraps nothing.
+    /// ProseMirror: `ContentMatch.findWrapping`.
     pub fn wrapping(
         &self,
         alloc: Global,

@@ -5,6 +5,7 @@ use crate::copies::copy_expr;
 use std::alloc::{AllocError, Global};
 
 /// A node type: a number below the number of types of the schema, so an index into tables with one entry for each type.
+/// ProseMirror: `NodeType`.
 pub type TypeId = usize;
 
 /// What the children of a node may be, as a list of their types.

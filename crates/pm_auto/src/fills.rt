@@ -39,7 +39,7 @@ pub fn keep_all(
     Ok(list)
 }
 
-/// Whether these types fit from the state on, and behind them the content may end where that is asked.
+/// Whether these types fit from the state on, and after them the content may end where that is asked.
 fn fits(
     sets: &[PlaceSet],
     edges: &[Listed<Edge>],

@@ -47,7 +47,7 @@ fn slot_of(slots: &[usize], print: u64) -> usize {
     }
 }
 
-/// Puts the state behind the others, and into its slot.
+/// Appends the state to the others, and into its slot.
 pub(crate) fn remember(known: &mut KnownStates, state: Known) -> Result<(), AllocError>
     ensures { OnOk result (known.new.states ≡ known.old.states ++ state ∷ []) }
 {

@@ -11,7 +11,8 @@ use crate::places::{Part, either, no_places, one_place, repeat, then};
 use crate::width::width;
 use std::alloc::{AllocError, Global};
 
-/// The places of the expansion, numbered from `from` on, without what stands before or behind a part that has no list. No copy of an expression without places is written out.
+/// The places of the expansion, numbered from `from` on, without what stands before or after a part that has no list. No
+/// copy of an expression without places is written out.
 #[cycle(lay_out)]
 pub fn lay_out(alloc: Global, expr: &Expr, from: usize) -> Result<Part, AllocError>
     requires { from + places (expand expr.now) ≤ 4096 }

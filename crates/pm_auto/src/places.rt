@@ -9,7 +9,7 @@ use pm_list::Listed;
 use std::alloc::{AllocError, Global};
 
 /// A place: an occurrence of a type in the expansion, with the numbers of the places that may come next, and whether the
-/// content may end behind it.
+/// content may end after it.
 #[derive(Drop, Debug)]
 pub struct Row {
     pub kind: TypeId,

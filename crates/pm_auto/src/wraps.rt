@@ -11,7 +11,7 @@ use pm_list::Listed;
 use std::alloc::{AllocError, Global};
 
 /// The wrappers among the types of these edges, each as a link to the node of its type. Where `to_end` is set, the content
-/// must be able to end behind it.
+/// must be able to end after it.
 pub fn keep_wrappers(
     alloc: Global,
     may_wrap: &[bool],

@@ -14,7 +14,7 @@ use Rattle.pm_build.specs.declared.refused.Refused.{Refused}
 use Rattle.pm_build.proofs.SpanLaws.{run-whole, run-rest, across, across-whole, across-cut}
 use Rattle.pm_build.proofs.CrossLaws.{crossed-more, crossed-whole, crosses-more, stopped-first}
 
--- x is the node in which the part starts, and m is what is open behind it
+-- x is the node in which the part starts, and m is what is open after it
 module _ {Z : Type 0} (c : ℕ → ℕ → Bool) (b m : List ℕ) (xs : List (Arc Node Z)) (f t i r j s : ℕ) (from : Stands xs f i r) (to : Stands xs t j s) (lt : f < t) (n : IsNormal xs) (w : EachWhole xs) (l : i < j) (x : Arc Node Z) (h : i < length xs) (e : x ≡ get_or xs i x) where
   abbrev first : List Token
   first = node_tokens (arc_value x)

@@ -17,7 +17,7 @@ use Rattle.pm_build.proofs.FedLaws.{appended-more, appended-whole, fed-more, ref
 use Rattle.pm_tokens.proofs.SpliceLaws.{length-plain}
 use Rattle.pm_tokens.proofs.OwnedParts.{length-part}
 
--- a run of nodes after the first one: m is what the builder has behind the rest of the first one
+-- a run of nodes after the first one: m is what the builder has after the rest of the first one
 module _ {Z : Type 0} (c : ℕ → ℕ → Bool) (b m : List Token) (xs : List (Arc Node Z)) (i j r : ℕ) (x : Arc Node Z) (n : IsNormal xs) (w : EachWhole xs) (l : i < j) (h : i < length xs) (e : x ≡ get_or xs i x) (k : r ≤ length (node_tokens (arc_value x))) where
   abbrev first : List Token
   first = node_tokens (arc_value x)
@@ -36,7 +36,7 @@ module _ {Z : Type 0} (c : ℕ → ℕ → Bool) (b m : List Token) (xs : List (
       let p = part r (length first) (owned [] first) in
       omega (arith, k, ap length y.tokens, length-append b (plain p), length-plain p, length-part r (length first) (owned [] first), length-owned [] first, ap length (run-first xs i j x l h e), length-append first (list_tokens (part (i + 1) j xs)))
 
--- a part: m is what the builder has behind the run between its ends
+-- a part: m is what the builder has after the run between its ends
 module _ {Z : Type 0} (c : ℕ → ℕ → Bool) (b m : List Token) (xs : List (Arc Node Z)) (f t i r j s : ℕ) (from : Stands xs f i r) (to : Stands xs t j s) (lt : f < t) (w : EachWhole xs) (l : i < j) where
   abbrev run : List Token
   run = list_tokens (part i j xs)

@@ -43,7 +43,7 @@ module _ {Z : Type 0} (xs : List (Arc Node Z)) (pos i r : ℕ) (x : Arc Node Z) 
       let ys = n ++ rest xs (i + 1) in
       ap (λ z. unit_at z pos) (list-split xs i x h e) ∙ (unit-behind (front xs i) ys pos past ∙ (ap (unit_at ys) left ∙ unit-first n (rest xs (i + 1)) r (s.inside x h e)))
 
--- behind all of them
+-- after all of them
 module _ {Z : Type 0} (xs : List (Arc Node Z)) (pos i r : ℕ) (w : EachWhole xs) (s : Stands xs pos i r) (h : length xs ≤ i) where
   at-end : take pos (list_tokens xs) ≡ list_tokens xs
   at-end = take_all pos (list_tokens xs) (omega (arith, s.offset, ap (λ z. length (list_tokens z)) (take_all i xs h)))

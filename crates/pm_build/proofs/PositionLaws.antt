@@ -1,4 +1,4 @@
--- What stands at a position: behind whole nodes, in one node, and in its content.
+-- What stands at a position: after whole nodes, in one node, and in its content.
 use Rattle.std.specs.Prelude.{◌≡◌, ℕ, ◌+◌, ◌-◌, ◌≤◌, ◌<◌, false, ◌&&◌, Some, None, List, [], ◌∷◌, ◌++◌, length, take, drop, reverse, get_or}
 use Rattle.std.proofs.Common.{zero, suc, refl, ap, sym, ◌∙◌, arith, length-append}
 use Rattle.std.proofs.lemmas.List.{take_all, take-append-le, reverse-append, take-append-drop}
@@ -19,7 +19,7 @@ use Rattle.pm_node.proofs.TreeLaws.{node_tokens_at}
 use Rattle.pm_build.specs.Positions.{first_unit, unit_at, path, high_unit, low_unit}
 use Rattle.pm_tokens.proofs.PairLaws.{and-right}
 
--- ---- behind whole nodes
+-- ---- after whole nodes
 
 take-behind : (xs ys : List Token) (r : ℕ) → length xs ≤ r → take r (xs ++ ys) ≡ xs ++ take (r - length xs) ys
 take-behind xs ys r h = take_over r xs ys ∙ ap (λ z. z ++ take (r - length xs) ys) (take_all r xs h)

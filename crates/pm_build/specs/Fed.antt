@@ -5,7 +5,7 @@ use Rattle.pm_tokens.specs.Scan.{Owned, plain, joins, unclosed}
 use Rattle.pm_build.specs.declared.refused.Refused.{Refused}
 use Rattle.pm_build.specs.declared.refused.Refused.TheVariants.{Join, NoMemory}
 
--- a refusal for a join has the cause P; want of memory has none
+-- a refusal for a join has the cause P; running out of memory has none
 abbrev pub ForJoin : Type 0 → Refused → Type 0
 ForJoin P Join = P
 ForJoin P NoMemory = Unit {0}
@@ -18,7 +18,7 @@ pub record Appended (c : ℕ → ℕ → Bool) (before : List Token) (piece : Li
 abbrev pub Fed : (ℕ → ℕ → Bool) → List Token → List Owned → Result (Unit {0}) Refused → List Token → Type 0
 Fed c before piece r after = MatchResult r (λ _. Appended c before piece after) (ForJoin (joins c (unclosed [] before) piece ≡ false))
 
--- the piece was passed over: each of its closes met an open node of a fitting type, and these types are open behind it
+-- the piece was passed over: each of its closes met an open node of a fitting type, and these types are open after it
 pub record Crossed (c : ℕ → ℕ → Bool) (before : List ℕ) (piece : List Owned) (after : List ℕ) : Type 0 where
   pub opened : after ≡ unclosed before (plain piece)
   pub joined : joins c before piece ≡ true

@@ -12,7 +12,7 @@ first_unit (Close ∷ ts) = None
 first_unit (Leaf k a m ∷ ts) = None
 first_unit (CodeUnit u m ∷ ts) = Some u
 
--- the unit that is the token behind a position
+-- the unit that is the token after a position
 abbrev pub unit_at : List Token → ℕ → Option ℕ
 unit_at ts p = first_unit (drop p ts)
 

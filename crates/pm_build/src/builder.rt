@@ -71,7 +71,7 @@ impl Builder {
         }
     }
 
-    /// Puts a whole node behind what is there. After an error the builder may hold anything.
+    /// Appends a whole node to what is there. After an error the builder may hold anything.
     pub fn push(&mut self, alloc: Global, node: Arc<Node, Global>) -> Result<(), AllocError>
         requires { length self.old + length (node_tokens (arc_value node)) < 2 ^ 32 }
         ensures { OnOk result (self.new ≡ self.old ++ node_tokens (arc_value node)) }
@@ -88,7 +88,7 @@ impl Builder {
         Ok(())
     }
 
-    /// Puts the nodes from..to of others behind what is there, shared with them. After an error the builder may hold
+    /// Appends the nodes from..to of others to what is there, shared with them. After an error the builder may hold
     /// anything.
     pub(crate) fn append(
         &mut self,

@@ -42,7 +42,7 @@ fn depth_in(node: &Node, pos: usize) -> usize
     }
 }
 
-/// The unit behind the position, if the token there is one. It takes no memory.
+/// The unit after the position, if the token there is one. It takes no memory.
 #[cycle(unit)]
 pub fn unit_at(content: &Fragment, pos: usize) -> Option<u16>
     ensures { result ≡ unit_at content.now pos }
@@ -77,7 +77,7 @@ fn unit_in(node: &Node, pos: usize) -> Option<u16>
     }
 }
 
-/// Whether the position parts a pair: the token before it is a high surrogate, and the one behind it a low one. It takes no
+/// Whether the position parts a pair: the token before it is a high surrogate, and the one after it a low one. It takes no
 /// memory.
 pub fn parts_pair(content: &Fragment, pos: usize) -> bool
     ensures { result ≡ parts_pair content.now pos }

@@ -1,4 +1,4 @@
-//! Why a part of a content cannot be put behind another.
+//! Why a part of a content cannot be put after another.
 ghost use Rattle.std.specs.Prelude.{◌≡◌};
 ghost use Rattle.pm_build.specs.declared.refused.Refused.TheVariants.{NoMemory};
 

@@ -43,7 +43,7 @@ tells asked input ReadFault old new a = record { session = λ s is e. absurd (cc
 tells asked input WriteFault old new a = record { session = λ s is e. absurd (cc); refused = λ fault is e. absurd (cc) }
 tells asked input NoMemory old new a = record { session = λ s is e. absurd (cc); refused = λ fault is e. absurd (cc) }
 
--- an answer, or want of memory, is by case
+-- an answer, or running out of memory, is by case
 pub by-case : (asked : Command) (input : List ℕ) (status : Status) (old new : Option (List ℕ)) → Answered asked input status old new → IsAnswer status ⊎ (status ≡ NoMemory) → IsByCase (form_of asked) (file_of asked input) status
 by-case asked input status old new a (inl (inl e)) =
     let t = tells asked input status old new a in

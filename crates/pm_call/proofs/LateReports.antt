@@ -31,7 +31,7 @@ use Rattle.pm_script.specs.declared.session.Session.{Session}
 use Rattle.pm_script.specs.Held.{HoldsLate}
 use Rattle.pm_script.proofs.SessionLaws.{session-holds}
 use Rattle.pm_report.specs.Words.{◌&◌}
-use Rattle.pm_call.specs.Making.{makes}
+use Rattle.pm_making.specs.Making.{makes}
 use Rattle.pm_call.specs.Playing.{Room, room_of}
 use Rattle.pm_call.specs.LatePlaying.{late_playing, late_room_after, late_room_settled, version_line, past_line, IsTextAt, IsVersionText}
 use Rattle.pm_call.specs.LateSounds.{LateRoomsSound, AllLateSound}

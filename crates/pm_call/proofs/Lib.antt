@@ -9,11 +9,6 @@ pub mod Answered
 pub mod Obeyed
 pub mod Contents
 pub mod Cases
-pub mod TwinWraps
-pub mod SameWrappings
-pub mod SameSteps
-pub mod SameTexts
-pub mod Built
 pub mod SameReports
 pub mod RoomReports
 pub mod OneOutput

@@ -29,7 +29,7 @@ use Rattle.pm_script.specs.declared.session.Session.{Session}
 use Rattle.pm_script.specs.Held.{Holds}
 use Rattle.pm_script.proofs.SessionLaws.{session-holds}
 use Rattle.pm_report.specs.Words.{◌&◌, line}
-use Rattle.pm_call.specs.Making.{makes}
+use Rattle.pm_making.specs.Making.{makes}
 use Rattle.pm_call.specs.Playing.{Room, room_of, playing, room_after, room_settled}
 use Rattle.pm_call.specs.Sounds.{RoomsSound, AllSound}
 

@@ -14,7 +14,7 @@ use Rattle.pm_script.proofs.OwnLaws.{rooms-own, rooms-hold}
 use Rattle.pm_call.specs.RoomReports.{room_line, rooms_report}
 use Rattle.pm_call.specs.RoomSounds.{AllRoomsSound, AllRoomsApart}
 use Rattle.pm_call.specs.Sounds.{RoomsSound}
-use Rattle.pm_call.proofs.Built.{head-built}
+use Rattle.pm_same.proofs.Built.{head-built}
 use Rattle.pm_call.proofs.Reports.{rooms-sound, lines-suit}
 use Rattle.pm_call.proofs.SameReports.{reports-alike}
 

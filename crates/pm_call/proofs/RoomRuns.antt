@@ -25,7 +25,7 @@ use Rattle.pm_rooms.specs.declared.new_room.NewRoom.{NewRoom}
 use Rattle.pm_rooms.specs.Handed.{Matched}
 use Rattle.pm_rooms.specs.Opened.{CanOpen}
 use Rattle.pm_rooms.specs.Played.{RoomIsOrderly}
-use Rattle.pm_call.specs.Making.{makes}
+use Rattle.pm_making.specs.Making.{makes}
 use Rattle.pm_call.specs.Handing.{PlayedRoom, Opening, entry_of, opening_in, opening_of, EntriesTold}
 use Rattle.pm_call.specs.RoomRuns.{AreRun}
 use Rattle.pm_call.specs.Running.{IsRun, IsTold}

@@ -7,7 +7,7 @@ use Rattle.pm_call.specs.Handing.{PlayedRoom, EntriesTold}
 use Rattle.pm_call.specs.RoomReports.{room_line}
 use Rattle.pm_call.specs.Running.{IsTold}
 
--- the item at a place stands in front of what follows it
+-- the item at a place stands before what follows it
 pub front-of : {A : Type 0} (all : List A) (k : ℕ) (x : A) → k < length all → x ≡ get_or all k x → drop k all ≡ x ∷ drop (k + 1) all
 front-of all k x within is = rw add-one (drop-cons all k x within ∙ ap (λ y. y ∷ drop (suc k) all) (sym is))
 
@@ -26,7 +26,7 @@ joined : (text new line part more : List ℕ) → new ≡ text ++ (line ++ part)
 joined text new line part more is = rw is (simp append_assoc)
 
 -- Of all entries those before place k were told. The entry there is told of the room that comes next, so that what is told of the
--- later ones goes behind it.
+-- later ones goes after it.
 pub next-told : (all : List Entry) (played : List PlayedRoom) (k : ℕ) (entry : Entry) (t : PlayedRoom) (left rest : List PlayedRoom) (text new part : List ℕ)
     → drop k all ≡ entry ∷ drop (k + 1) all → left ≡ t ∷ rest
     → IsTold entry.clients t.rules t.lines.items t.outcomes.items (state_of t.room) part → new ≡ text ++ (room_line entry.name ++ part)
@@ -39,7 +39,7 @@ next-told all played k entry t left rest text new part front took told is before
     let there : EntriesTold (drop k all) left behind = subst (λ (es : List Entry). EntriesTold es left behind) (sym front) left_here in
     subst (λ (l : List ℕ). EntriesTold all played l) (joined text new (room_line entry.name) part more is) (before behind there)
 
--- behind the last entry all is told
+-- after the last entry all is told
 pub last-told : (all : List Entry) (played : List PlayedRoom) (k : ℕ) (left : List PlayedRoom) (text : List ℕ) → length all ≤ k → length (drop k all) ≡ length left
     → ((more : List ℕ) → EntriesTold (drop k all) left more → EntriesTold all played (text ++ more)) → EntriesTold all played text
 last-told all played k left text past count told =

@@ -21,7 +21,7 @@ use Rattle.pm_script.specs.declared.session.Session.{Session}
 use Rattle.pm_workers.specs.Merges.{numbers, merged, IsOrder}
 use Rattle.pm_workers.specs.Threads.{by_client, callers, in_order}
 use Rattle.pm_report.specs.Words.{◌&◌}
-use Rattle.pm_call.specs.Making.{makes}
+use Rattle.pm_making.specs.Making.{makes}
 use Rattle.pm_call.specs.Playing.{Room, LineOutcome, room_of, playing}
 use Rattle.pm_call.specs.Running.{reordered, IsTold, IsRun}
 use Rattle.pm_call.proofs.Reports.{rooms-sound}

@@ -27,9 +27,9 @@ use Rattle.pm_report.specs.Report.{report}
 use Rattle.pm_report.specs.Words.{◌&◌, line}
 use Rattle.pm_call.specs.Playing.{Room, playing, room_settled, report_of}
 use Rattle.pm_call.specs.LatePlaying.{late_playing, late_room_settled, late_report_of, version_line, past_line, IsVersionText}
-use Rattle.pm_call.proofs.Built.{session-built}
-use Rattle.pm_call.proofs.SameSteps.{makes-alike}
-use Rattle.pm_call.proofs.SameTexts.{doc-written-alike, report-alike}
+use Rattle.pm_same.proofs.Built.{session-built}
+use Rattle.pm_same.proofs.SameSteps.{makes-alike}
+use Rattle.pm_same.proofs.SameTexts.{doc-written-alike, report-alike}
 
 -- what changes mean to documents of this schema, whatever the rules
 abbrev by : documents.Schema → Meaning Schema Doc Reason Step

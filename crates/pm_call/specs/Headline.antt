@@ -13,7 +13,7 @@ Writes ReadFault old new output = new ≡ old
 Writes WriteFault old new output = (n : ℕ) × (n ≤ length output) × Adds old new (take n output)
 Writes NoMemory old new output = new ≡ old
 
--- An answer is the right one. Faults and want of memory are no answers.
+-- An answer is the right one. Faults and running out of memory are no answers.
 abbrev pub Agrees : Status → Status → Type 0
 Agrees Done right = right ≡ Done
 Agrees SessionRefused right = right ≡ SessionRefused

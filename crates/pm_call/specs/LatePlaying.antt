@@ -13,7 +13,7 @@ use Rattle.pm_script.specs.declared.session.Session.{Session}
 use Rattle.pm_report.specs.Outcomes.{with_numbers}
 use Rattle.pm_report.specs.Report.{doc_text, report}
 use Rattle.pm_report.specs.Words.{◌&◌, line}
-use Rattle.pm_call.specs.Making.{makes}
+use Rattle.pm_making.specs.Making.{makes}
 use Rattle.pm_call.specs.Playing.{Room, LineOutcome, room_of}
 
 -- what arises by playing the session's lines in file order, where clients enter late

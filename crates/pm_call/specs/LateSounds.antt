@@ -8,7 +8,7 @@ use Rattle.pm_session.specs.Sounds.{AllCaughtUp}
 use Rattle.pm_versions.specs.LateSessions.{AllHold, AllAsPulled}
 use Rattle.pm_script.specs.declared.session.Session.{Session}
 use Rattle.pm_script.specs.Sessions.{SessionIs}
-use Rattle.pm_call.specs.Making.{makes}
+use Rattle.pm_making.specs.Making.{makes}
 use Rattle.pm_call.specs.Playing.{room_of}
 use Rattle.pm_call.specs.LatePlaying.{late_playing, late_room_after, late_room_settled}
 

@@ -1,8 +1,6 @@
 pub mod Words
 pub mod Files
 pub mod Contents
-pub mod Making
-pub mod Makers
 pub mod Playing
 pub mod Sounds
 pub mod RoomReports

@@ -12,7 +12,7 @@ use Rattle.pm_session.specs.Sessions.{opened, session, settled}
 use Rattle.pm_script.specs.declared.session.Session.{Session}
 use Rattle.pm_report.specs.Outcomes.{with_numbers}
 use Rattle.pm_report.specs.Report.{report}
-use Rattle.pm_call.specs.Making.{makes}
+use Rattle.pm_making.specs.Making.{makes}
 
 -- a room, and what became of a line
 abbrev pub Room : Type 0

@@ -3,7 +3,7 @@ use Rattle.std.specs.Prelude.{◌≡◌, ℕ, List, [], ◌∷◌, ◌++◌, cod
 use Rattle.pm_script.specs.declared.session.Session.{Session}
 use Rattle.pm_selective.specs.Playing.{AreApartLines}
 use Rattle.pm_report.specs.Words.{line}
-use Rattle.pm_call.specs.Making.{makes}
+use Rattle.pm_making.specs.Making.{makes}
 use Rattle.pm_call.specs.Playing.{room_of, report_of}
 
 -- these numbers, a blank before each
@@ -15,7 +15,7 @@ words_of (n ∷ numbers) = (32 ∷ decimal n) ++ words_of numbers
 abbrev pub apart_line : List ℕ → List ℕ
 apart_line numbers = line (codes "apart" ++ words_of numbers)
 
--- The text is the session's report behind the line `apart`.
+-- The text is the session's report after the line `apart`.
 -- `apart`: the line has the numbers, in file order, of the lines that undid an event that lies apart. Each of these undos left
 -- the later steps, carried and spliced in order onto the document before the event.
 pub record IsSelected (s : Session) (text : List ℕ) : Type 0 where

@@ -12,10 +12,10 @@ ghost use Rattle.pm_call.specs.LateSounds.{AllLateSound};
 ghost use Rattle.pm_call.specs.RoomSounds.{AllRoomsSound, AllRoomsApart};
 ghost use Rattle.pm_call.specs.Headline.{Silent, number_of};
 
-use crate::making::EditMaker;
 use crate::obeying::{obey, obey_any};
 use crate::words::{Command, command_of, plain_command_of};
 use pm_io::{Gate, Sink, Source};
+use pm_making::EditMaker;
 use pm_workers::Crew;
 use std::alloc::Global;
 use std::sync::Wait;
@@ -99,7 +99,7 @@ pub fn run<R: Source, W: Sink, G: Gate + Sync, T: Threads + Wait + Sync>(
     // `gen` reads nothing.
     ensures made { (asked : Command) → command_of (map string_bytes words.now) ≡ Some asked
         → ReadsInput asked ⊎ ((R.left source.new ≡ R.left source.old) × (R.faults source.new ≡ R.faults source.old)) }
-    // Where no fault rose, the output and its status, or want of memory.
+    // Where no fault rose, the output and its status, or running out of memory.
     ensures complete { (asked : Command) → command_of (map string_bytes words.now) ≡ Some asked
         → ¬ Rose (R.faults source.old) (R.faults source.new)
         → ¬ Rose (W.faults sink.old) (W.faults sink.new)
@@ -108,7 +108,7 @@ pub fn run<R: Source, W: Sink, G: Gate + Sync, T: Threads + Wait + Sync>(
     // any other.
     ensures tells { (asked : Command) (input : List ℕ) → command_of (map string_bytes words.now) ≡ Some asked
         → R.left source.old ≡ Some input → Tells (form_of asked) (file_of asked input) result }
-    // By case, where no fault rose: for a session the whole output, for any other file its refusal, or want of memory.
+    // By case, where no fault rose: for a session the whole output, for any other file its refusal, or running out of memory.
     ensures by_case { (asked : Command) (input : List ℕ) → command_of (map string_bytes words.now) ≡ Some asked
         → R.left source.old ≡ Some input
         → ¬ Rose (R.faults source.old) (R.faults source.new)
@@ -172,7 +172,7 @@ pub fn plain<R: Source, W: Sink>(
     // `gen` reads nothing.
     ensures made { (asked : Command) → plain_command_of (map string_bytes words.now) ≡ Some asked
         → ReadsInput asked ⊎ ((R.left source.new ≡ R.left source.old) × (R.faults source.new ≡ R.faults source.old)) }
-    // Where no fault rose, the output and its status, or want of memory.
+    // Where no fault rose, the output and its status, or running out of memory.
     ensures complete { (asked : Command) → plain_command_of (map string_bytes words.now) ≡ Some asked
         → ¬ Rose (R.faults source.old) (R.faults source.new)
         → ¬ Rose (W.faults sink.old) (W.faults sink.new)
@@ -181,7 +181,7 @@ pub fn plain<R: Source, W: Sink>(
     // any other.
     ensures tells { (asked : Command) (input : List ℕ) → plain_command_of (map string_bytes words.now) ≡ Some asked
         → R.left source.old ≡ Some input → Tells (form_of asked) (file_of asked input) result }
-    // By case, where no fault rose: for a session the whole output, for any other file its refusal, or want of memory.
+    // By case, where no fault rose: for a session the whole output, for any other file its refusal, or running out of memory.
     ensures by_case { (asked : Command) (input : List ℕ) → plain_command_of (map string_bytes words.now) ≡ Some asked
         → R.left source.old ≡ Some input
         → ¬ Rose (R.faults source.old) (R.faults source.new)

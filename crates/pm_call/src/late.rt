@@ -10,10 +10,10 @@ ghost use Rattle.pm_script.specs.Held.{HoldsLate};
 ghost use Rattle.pm_call.specs.Playing.{room_of};
 ghost use Rattle.pm_call.specs.LatePlaying.{late_report_of, version_line, past_line, IsTextAt, IsVersionText};
 
-use crate::making::EditMaker;
 use crate::replaying::open;
 use pm_apply::DocChange;
 use pm_doctext::push_document;
+use pm_making::EditMaker;
 use pm_node::Document;
 use pm_report::{client_lines, report, with_numbers};
 use pm_schema::Schema;

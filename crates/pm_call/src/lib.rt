@@ -17,7 +17,6 @@ mod call;
 mod files;
 mod finding;
 mod late;
-mod making;
 mod obeying;
 mod one_output;
 mod replaying;

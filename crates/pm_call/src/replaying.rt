@@ -8,9 +8,9 @@ ghost use Rattle.pm_session.specs.Sounds.{Sound};
 ghost use Rattle.pm_call.specs.Playing.{room_of, playing, report_of};
 ghost use Rattle.pm_script.specs.Held.{Holds};
 
-use crate::making::EditMaker;
 use pm_apply::DocChange;
 use pm_head::raw_flags;
+use pm_making::EditMaker;
 use pm_report::{client_lines, report, with_numbers};
 use pm_script::Session;
 use pm_session::{Outcome, Room};

@@ -22,7 +22,7 @@ pub fn replay_rooms(alloc: Global, rooms: &[RoomSession]) -> Result<String, Allo
     Ok(text)
 }
 
-/// Puts the line of a room and the report of its session behind the text.
+/// Appends the line of a room and the report of its session to the text.
 fn push_room(alloc: Global, text: &mut String, room: &RoomSession) -> Result<(), AllocError>
     requires { Holds room.now.session }
     ensures { OnOk result (string_bytes text.new ≡ string_bytes text.old ++ room_line room.now.name ++ report_of room.now.session) }

@@ -10,10 +10,10 @@ use crate::answer::{Answer, refusal};
 use crate::call::Status;
 use crate::files::FileForm;
 use crate::finding::Found;
-use crate::making::EditMaker;
 use pm_apply::DocChange;
 use pm_head::{ClientEntry, Form, Head, raw_flags};
 use pm_io::Gate;
+use pm_making::EditMaker;
 use pm_ops::Op;
 use pm_report::{Numbered, client_lines, report, with_numbers};
 use pm_script::Session;
@@ -125,7 +125,7 @@ fn order_line(alloc: Global, lines: &[Line<Op, DocChange>]) -> Result<String, Al
     Ok(text)
 }
 
-/// Puts the number of each line behind the text, a blank before each.
+/// Appends the number of each line to the text, a blank before each.
 fn push_numbers(
     alloc: Global,
     text: &mut String,

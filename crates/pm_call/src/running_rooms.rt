@@ -16,13 +16,13 @@ use crate::answer::{Answer, refusal};
 use crate::call::Status;
 use crate::files::FileForm;
 use crate::finding::Found;
-use crate::making::EditMaker;
 use crate::rooms::room_line;
 use crate::running::told;
 use pm_apply::DocChange;
 use pm_head::{ClientEntry, Head, raw_flags};
 use pm_io::Gate;
 use pm_list::Listed;
+use pm_making::EditMaker;
 use pm_ops::Op;
 use pm_rooms::{NewRoom, play_rooms_on_threads};
 use pm_script::{RoomSession, Session};
@@ -114,7 +114,7 @@ fn part(alloc: Global, rooms: Vec<RoomSession>) -> Result<Parted, AllocError>
     })
 }
 
-/// A room as it is to be played, and its entry. The names of people who are new in it are put behind the others.
+/// A room as it is to be played, and its entry. The names of people who are new in it are put after the others.
 fn part_one(
     alloc: Global,
     names: &mut Vec<Text>,
@@ -142,7 +142,8 @@ fn part_one(
     Ok((Entry { name, clients }, room))
 }
 
-/// Of each client the number of its person, which is the place of its name among the names so far. A new name is put behind them.
+/// Of each client the number of its person, which is the place of its name among the names so far. A new name is put after
+/// them.
 fn people_of(
     alloc: Global,
     names: &mut Vec<Text>,
@@ -166,7 +167,7 @@ fn person_of(alloc: Global, names: &mut Vec<Text>, name: &str) -> Result<u32, Al
     u32::try_from(place).map_err(|_| AllocError)
 }
 
-/// What is told of each room that was played, behind the line with its name.
+/// What is told of each room that was played, after the line with its name.
 fn tell_rooms(
     alloc: Global,
     entries: &[Entry],
@@ -187,7 +188,7 @@ fn tell_rooms(
     Ok(text)
 }
 
-/// Puts the line of a room and what is told of it behind the text.
+/// Appends the line of a room and what is told of it to the text.
 fn push_told(
     alloc: Global,
     text: &mut String,

@@ -3,9 +3,9 @@ ghost use Rattle.std.specs.Prelude.{◌≡◌, ◌++◌, string_bytes, IfOk, OnO
 ghost use Rattle.pm_call.specs.Selecting.{IsSelected, apart_line, words_of};
 ghost use Rattle.pm_script.specs.Held.{Holds};
 
-use crate::making::EditMaker;
 use crate::replaying::{open, report_of};
 use crate::running::number_word;
+use pm_making::EditMaker;
 use pm_script::Session;
 use pm_selective::play_all;
 use std::alloc::{AllocError, Global};
@@ -34,7 +34,7 @@ fn apart_line(alloc: Global, numbers: &[u32]) -> Result<String, AllocError>
     Ok(text)
 }
 
-/// Puts each number behind the text, a blank before each.
+/// Appends each number to the text, a blank before each.
 fn push_numbers(alloc: Global, text: &mut String, numbers: &[u32]) -> Result<(), AllocError>
     ensures { OnOk result (string_bytes text.new ≡ string_bytes text.old ++ words_of numbers.now) }
 {

@@ -4,10 +4,10 @@ ghost use Rattle.pm_script.specs.Held.{Holds};
 ghost use Rattle.pm_session.specs.Events.{state_of};
 ghost use Rattle.pm_call.specs.Summing.{dropped_by, dropped_in, summary_in, summary_of};
 
-use crate::making::EditMaker;
 use crate::replaying::open;
 use pm_apply::DocChange;
 use pm_gen::{Asked, summary};
+use pm_making::EditMaker;
 use pm_script::Session;
 use pm_session::{Member, Room};
 use std::alloc::{AllocError, Global};

@@ -1,4 +1,4 @@
--- What a call answers, or want of memory.
+-- What a call answers, or running out of memory.
 use Rattle.std.specs.Prelude.{◌≡◌, Result, Ok, Err}
 use Rattle.pm_change.specs.declared.failed.Failed.{Failed}
 use Rattle.pm_change.specs.declared.failed.Failed.TheVariants.{Reason, NoMemory}

@@ -4,7 +4,7 @@ ghost use Rattle.pm_change.specs.declared.failed.Failed.TheVariants.{NoMemory};
 
 use std::alloc::{AllocError, AllocFailed};
 
-/// The reason why a change does not apply, or want of memory.
+/// The reason why a change does not apply, or running out of memory.
 #[derive(Drop, Debug)]
 pub enum Failed<R> {
     Reason(R),

@@ -25,7 +25,7 @@ pub trait Machine: Sized + Drop {
     // Which requests the caller with this number may make.
     ghost own: { ℕ → Self.Request → Type 0 };
 
-    /// The reply to a request. Want of memory leaves the machine as it is. The machine must be good under these rules,
+    /// The reply to a request. Running out of memory leaves the machine as it is. The machine must be good under these rules,
     /// and stays so.
     fn answer(
         &mut self,

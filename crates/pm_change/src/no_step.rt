@@ -17,7 +17,7 @@ pub enum NoStep {
     NoFit,
 }
 
-/// The steps of an op were not made: it makes none on this document, or want of memory.
+/// The steps of an op were not made: it makes none on this document, or running out of memory.
 #[derive(Clone, Copy, Debug, PartialEq, Eq, Error)]
 pub enum MakeError {
     #[error("{0}")]

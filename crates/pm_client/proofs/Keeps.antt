@@ -29,7 +29,7 @@ use Rattle.pm_history.proofs.Calls.{history-call}
 use Rattle.pm_client.specs.declared.client.Client.{Client}
 use Rattle.pm_client.specs.declared.taken.MessageKind.{MessageKind}
 use Rattle.pm_client.specs.declared.taken.MessageKind.TheVariants.{Submit as ToSubmit, Ask as ToAsk}
-use Rattle.pm_client.specs.Clients.{named, new_client, gone_on, tried, edited, message_of, composed, kept, confirmed, brought, cursor_set}
+use Rattle.pm_client.specs.Clients.{named, new_client, gone_on, tried, edited, message_of, composed, kept, forgotten, confirmed, brought, cursor_set}
 use Rattle.pm_client.specs.Kins.{IsOwn, IsForeign, IsPrefix, IsPart, MessageStands, AnswerStands, Past, Kin}
 use Rattle.pm_client.proofs.Lists.{All-more, All-push, Each-append, Each-front, Each-back, nothing}
 use Rattle.pm_client.specs.Serials.{Parted, Rises, own_serials, serials_of, merged}
@@ -249,6 +249,29 @@ module _ {Rules Doc Reason C : Type 0} (m : Meaning Rules Doc Reason C) (rules :
     history = kin.history;
     messages = kin.messages;
     answers = All-push (AnswerStands log c.version kin.standing) c.answers a kin.answers h;
+  }
+
+  -- messages and answers dropped
+  pub kin-forgotten : Kin m rules first log (forgotten c)
+  kin-forgotten = record {
+    before = kin.before;
+    past = kin.past;
+    standing = kin.standing;
+    log_is = kin.log_is;
+    version_is = kin.version_is;
+    base_is = kin.base_is;
+    doc_is = kin.doc_is;
+    first_good = kin.first_good;
+    log_applies = kin.log_applies;
+    own = kin.own;
+    cursors = kin.cursors;
+    parted = kin.parted;
+    stands = kin.stands;
+    timeline = kin.timeline;
+    timeline_is = kin.timeline_is;
+    history = kin.history;
+    messages = All-from_recursion _ [] tt;
+    answers = All-from_recursion _ [] tt;
   }
 
   -- entries that others named

@@ -88,7 +88,7 @@ stepped-in ranges so m None found ms xs h = (refl, omega arith)
 stepped-in ranges so m (Some gap) None ms xs h = (refl, omega arith)
 stepped-in ranges so m (Some gap) (Some r) ms xs h = (ap (λ l. at_pos so (result_start l r.range + r.offset)) (partner-in ms xs gap h.0), omega (arith, h.0))
 
--- a map behind a mapping
+-- a map after a mapping
 pub through-last : (ms : List Mirrored) (ss : List Span) (skip : ℕ) (b : Bool) (so : Moved) → ArePaired ms → skip ≤ length ms
     → (through_from (ms ++ entry ss None ∷ []) skip b so).pos ≡ (moved_from ss 0 0 0 (through_from ms skip b so).pos b).pos
 through-last [] ss zero b so h l = refl

@@ -24,7 +24,7 @@ pub record PastVersion {Rules Doc Reason C : Type 0} (c : Client C Rules Doc Rea
   pub are_foreign : Each (IsForeign c.name) foreign
 
 module _ {Rules Doc Reason C : Type 0} (m : Meaning Rules Doc Reason C) (rules : Rules) where
-  -- Own steps and then these steps of others are past the version. So many of the pending steps behind the own ones are lost
+  -- Own steps and then these steps of others are past the version. So many of the pending steps after the own ones are lost
   -- where they are carried over the others, which lead to the new base.
   abbrev pub AreLost : Client C Rules Doc Reason → List (Named C) → List (Named C) → ℕ → Type 0
   AreLost c own foreign dropped =
@@ -32,7 +32,7 @@ module _ {Rules Doc Reason C : Type 0} (m : Meaning Rules Doc Reason C) (rules :
 
   -- What is told of an answer. Stale comes where an Accepted or entries end at or before the version. Confirmed comes where
   -- an Accepted ends past the version, and tells its count, and where entries have own steps past the version and nothing
-  -- else, and tells how many. Rebased comes where entries have past the version at least one step of others, behind the own
+  -- else, and tells how many. Rebased comes where entries have past the version at least one step of others, after the own
   -- ones; it tells how many are own, how many are others', and how many pending steps are lost. Refused comes for
   -- WrongVersion and StepRefused, and for nothing else.
   abbrev pub IsTaken : Client C Rules Doc Reason → Answer C Rules Doc Reason → Taken → Type 0

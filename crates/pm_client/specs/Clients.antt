@@ -48,7 +48,7 @@ own_run client [] = 0
 own_run client (n ∷ ns) = if n.name.client == client then own_run client ns + 1 else 0
 
 -- In the history foreign steps with these ranges and the items of the steps kept stand in place of the last ones, or of all
--- where fewer are left. Each step kept undoes what it did before. What no undo looks at is let go.
+-- where fewer are left. Each step kept undoes what it did before. What no undo looks at is dropped.
 abbrev pub carried_history : {C : Type 0} → Branches C → ℕ → List (List Span) → List (Item C) → Branches C
 carried_history h gone foreign kept = trimmed (rebased_last h gone foreign (all_tied (last_items gone h.items) kept))
 
@@ -86,6 +86,10 @@ module _ {Rules Doc Reason C : Type 0} where
   -- an answer was kept
   abbrev pub kept : Client C Rules Doc Reason → Answer C Rules Doc Reason → Client C Rules Doc Reason
   kept c answer = record c { answers = c.answers ++ answer ∷ [] }
+
+  -- the messages and the answers were dropped
+  abbrev pub forgotten : Client C Rules Doc Reason → Client C Rules Doc Reason
+  forgotten c = record c { messages = []; answers = [] }
 
   -- one cursor more was set
   abbrev pub cursor_set : Client C Rules Doc Reason → ℕ → Side → Client C Rules Doc Reason
@@ -169,7 +173,7 @@ module _ {Rules Doc Reason C : Type 0} (m : Meaning Rules Doc Reason C) (rules :
   abbrev pub undone_event : Client C Rules Doc Reason → ℕ → Option (ℕ × Client C Rules Doc Reason)
   undone_event c k = turned_if c (UndoEvent k) (event_for (UndoEvent k) c.history)
 
-  -- an edit's error is the refusal, or want of memory
+  -- an edit's error is the refusal, or running out of memory
   abbrev pub IsRefusal : Result (Client C Rules Doc Reason) (Refusal Reason) → EditError Reason → Type 0
   IsRefusal r (RefusedAt index reason) = r ≡ Err (record { index = index; reason = reason })
   IsRefusal r NoMemory = Unit {0}
@@ -178,7 +182,7 @@ module _ {Rules Doc Reason C : Type 0} (m : Meaning Rules Doc Reason C) (rules :
   abbrev pub confirmed_first : Client C Rules Doc Reason → ℕ → Taken × Client C Rules Doc Reason
   confirmed_first c k = given c (fold m rules c.base (changes_of (take k c.pending))) (λ base. (Confirmed k, confirmed c k base))
 
-  -- The pending steps behind the first `own`, carried over others' steps that lead to this base.
+  -- The pending steps after the first `own`, carried over others' steps that lead to this base.
   abbrev pub carried : Client C Rules Doc Reason → ℕ → List (Named C) → Doc → Rebasing C Rules Doc Reason
   carried c own foreign base = rebased m rules (start m base (maps_of m foreign)) (drop own c.pending)
 
@@ -196,7 +200,7 @@ module _ {Rules Doc Reason C : Type 0} (m : Meaning Rules Doc Reason C) (rules :
     history = carried_history c.history (length c.pending - own) (ranges_of m foreign) r.items;
   }
 
-  -- These entries past the version have so many own ones in front, which are the first pending steps, and others after
+  -- These entries past the version have so many own ones at the front, which are the first pending steps, and others after
   -- them. The later pending steps are carried over the others.
   abbrev pub others_taken : Client C Rules Doc Reason → List (Named C) → ℕ → Taken × Client C Rules Doc Reason
   others_taken c rest own =
@@ -205,7 +209,7 @@ module _ {Rules Doc Reason C : Type 0} (m : Meaning Rules Doc Reason C) (rules :
       let r = carried c own (drop own rest) base in
       (Rebased own (length rest - own) (length r.dropped), brought c own (drop own rest) base r))
 
-  -- These entries past the version have so many own ones in front. Where there are no others, these are confirmed.
+  -- These entries past the version have so many own ones at the front. Where there are no others, these are confirmed.
   abbrev pub rest_taken : Client C Rules Doc Reason → List (Named C) → ℕ → Taken × Client C Rules Doc Reason
   rest_taken c rest own = if own == length rest then confirmed_first c own else others_taken c rest own
 

@@ -37,7 +37,7 @@ module _ {Rules Doc Reason C : Type 0} (m : Meaning Rules Doc Reason C) where
   abbrev pub start : Doc → List Mirrored → Rebasing C Rules Doc Reason
   start doc maps = record { doc = doc; maps = maps; kept = []; items = []; dropped = [] }
 
-  -- A step is lost: its map back stands in front, alone.
+  -- A step is lost: its map back stands at the front, alone.
   abbrev pub lost : Rebasing C Rules Doc Reason → Named C → Rebasing C Rules Doc Reason
   lost so n = record so {
     maps = fronted so.maps (inverted_ranges (m.step_map n.change));
@@ -45,7 +45,7 @@ module _ {Rules Doc Reason C : Type 0} (m : Meaning Rules Doc Reason C) where
   }
 
 module _ {Rules Doc Reason C : Type 0} (m : Meaning Rules Doc Reason C) (rules : Rules) where
-  -- A step is kept as the change c, which makes the document d: its map back stands in front, and the map of c behind as
+  -- A step is kept as the change c, which makes the document d: its map back stands at the front, and the map of c after as
   -- the mirror of that. Its item has the changes that undo c on the document before it.
   abbrev pub held : Rebasing C Rules Doc Reason → Named C → C → Doc → Rebasing C Rules Doc Reason
   held so n c d = record so {

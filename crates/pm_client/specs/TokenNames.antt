@@ -84,9 +84,9 @@ over_others [] carried kept made = made
 over_others (n ∷ others) carried kept made = carried ++ ((n ∷ others) ++ kept)
 
 -- The steps over which this client's cursors go while it passes these entries of the log and its pending steps become other
--- ones. Where no entry is another client's, those are the steps that it made: the ones pending after, behind as many as were
+-- ones. Where no entry is another client's, those are the steps that it made: the ones pending after, after as many as were
 -- pending before. So there are none where its own entries were confirmed, and none where nothing was done. Where others'
--- entries stand behind its own ones, those are the pending steps behind as many as its own entries, the others' entries, and
+-- entries stand after its own ones, those are the pending steps after as many as its own entries, the others' entries, and
 -- the steps pending after.
 abbrev pub gone_over : {C : Type 0} → ℕ → List (Named C) → List (Named C) → List (Named C) → List (Named C)
 gone_over client entries before after =

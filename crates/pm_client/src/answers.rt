@@ -32,9 +32,10 @@ impl<C: Change> Client<C> {
     /// are applied to the base, and each later pending step is carried over the maps back of those before it, others' maps
     /// and the maps of those kept so far. It is kept where something of it is left that applies; else its serial is among
     /// `dropped` from now on. Each cursor goes through that whole mapping by its side. Only `Confirmed` and `Rebased` change
-    /// the client, and want of memory does not.
+    /// the client, and running out of memory does not.
     ///
     /// Under the rules that are lent the client must stand to a log. Each call keeps this.
+    /// ProseMirror: `receiveTransaction`.
     pub fn take(&mut self, alloc: Global, rules: &C::Rules, i: u64) -> Result<Taken, AllocError>
         requires kept { (0 < i) × (i ≤ length self.old.answers) }
         requires stands { Stands C.means rules.now self.old }
@@ -54,7 +55,7 @@ impl<C: Change> Client<C> {
     }
 
     /// Takes the answer of this number, as `take` does, where the document is in hand that the answer's entries lead to. Then
-    /// no step of theirs is applied a second time. Other answers lead to no document, and `end` is let go.
+    /// no step of theirs is applied a second time. Other answers lead to no document, and `end` is dropped.
     ///
     /// Where the answer is entries, the client must stand to a log that they end, and that gives the document.
     pub fn take_to(
@@ -230,7 +231,7 @@ impl<C: Change> Client<C> {
         })
     }
 
-    /// The document behind the first pending steps. Behind all of them it is the client's own.
+    /// The document after the first pending steps. After all of them it is the client's own.
     fn base_behind(&self, alloc: Global, rules: &C::Rules, own: usize) -> Result<C::Doc, AllocError>
         requires { MayConfirm C.means rules.now self.now own }
         ensures { IfOk result (AllApply C.means rules.now self.now.base (take own self.now.pending)) }
@@ -241,7 +242,7 @@ impl<C: Change> Client<C> {
         advance(alloc, rules, &self.base, &self.pending.as_slice()[..own])
     }
 
-    /// Carries a plan out, and tells what it did. For want of memory the client is as it was.
+    /// Carries a plan out, and tells what it did. Out of memory, the client is as it was.
     fn carry_out(&mut self, alloc: Global, plan: Plan<C>) -> Result<Taken, AllocError>
         requires { MayCarryOut self.old plan }
         ensures does { IfOk result (λ t. (t, self.new) ≡ carried_out self.old plan) }
@@ -291,7 +292,7 @@ impl<C: Change> Client<C> {
 }
 
 /// Puts foreign steps with these maps, and the steps kept, in place of the last items of a history, or of all where fewer are
-/// left. Each step kept undoes what it did before. For want of memory the history is as it was.
+/// left. Each step kept undoes what it did before. Out of memory, the history is as it was.
 fn carry_history<C: Change>(
     alloc: Global,
     history: &mut Branches<C>,

@@ -20,6 +20,7 @@ use std::alloc::{AllocError, Global};
 /// steps. It keeps the messages that it composed and the answers that it was given, each under a number from 1 on. A cursor
 /// is a position in the document, in tokens, and a side. `history` stands for the client's timeline: the log's first
 /// `version` steps, and then the pending ones.
+/// ProseMirror: `collab`, the plugin and its state.
 #[derive(Drop)]
 pub struct Client<C: Change> {
     pub(crate) name: u32,
@@ -76,6 +77,7 @@ impl<C: Change> Client<C> {
     }
 
     /// The client's name.
+    /// ProseMirror: `clientID`.
     pub fn name(&self) -> u32
         ensures { result ≡ self.now.name }
     {
@@ -83,6 +85,7 @@ impl<C: Change> Client<C> {
     }
 
     /// How many steps of the log the base has.
+    /// ProseMirror: `getVersion`.
     pub fn version(&self) -> u64
         ensures { result ≡ self.now.version }
     {
@@ -146,7 +149,7 @@ impl<C: Change> Client<C> {
     }
 
     /// Sets one cursor more, at this position of the client's document and with this side. `Range` comes exactly where
-    /// the position passes the document's size. Then, and for want of memory, the client is as it was.
+    /// the position passes the document's size. Then, and out of memory, the client is as it was.
     ///
     /// The document must be smaller than 2^32 tokens, as each good one is.
     pub fn set_cursor(&mut self, pos: u64, side: Side) -> Result<(), CursorError>
@@ -166,7 +169,8 @@ impl<C: Change> Client<C> {
         Ok(())
     }
 
-    /// Composes a message of this kind, and tells its number, from 1. For want of memory the client is as it was.
+    /// Composes a message of this kind, and tells its number, from 1. Out of memory, the client is as it was.
+    /// ProseMirror: `sendableSteps`.
     pub fn compose(&mut self, alloc: Global, kind: MessageKind) -> Result<u64, AllocError>
         ensures number { IfOk result (λ n. n ≡ length self.old.messages + 1) }
         ensures composed { IfOk result (λ n. self.new ≡ composed self.old kind) }
@@ -210,7 +214,7 @@ impl<C: Change> Client<C> {
         self.message_at(j).copy(alloc)
     }
 
-    /// Keeps an answer, and tells its number, from 1. For want of memory the client is as it was.
+    /// Keeps an answer, and tells its number, from 1. Out of memory, the client is as it was.
     pub fn keep(&mut self, answer: Answer<C>) -> Result<u64, AllocError>
         ensures number { IfOk result (λ n. n ≡ length self.old.answers + 1) }
         ensures kept { IfOk result (λ n. self.new ≡ kept self.old answer) }

@@ -7,7 +7,7 @@ use pm_list::Listed;
 use pm_map::{Positions, Side};
 use std::alloc::{AllocError, Global};
 
-/// A position, in tokens, that goes over the steps, and its side: what is put in right there comes behind it by
+/// A position, in tokens, that goes over the steps, and its side: what is put in right there comes after it by
 /// `Before` and before it by `After`.
 #[derive(Clone, Copy, Debug, PartialEq, Eq)]
 pub struct Cursor {

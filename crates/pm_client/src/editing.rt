@@ -22,7 +22,7 @@ impl<C: Change> Client<C> {
     /// Makes these steps, one after another, on the client's document, and tells their number. They are pending under the
     /// next serials, and each cursor goes through their maps by its side. They join the last event to undo where that is open
     /// and has this event number; else they are a new one. Nothing can be redone then. `Refused` comes exactly where one of
-    /// them does not apply, and names the first. Then, and for want of memory, the client is as it was. There is no serial
+    /// them does not apply, and names the first. Then, and out of memory, the client is as it was. There is no serial
     /// past 2^64 - 1: asked for one, the client answers `NoMemory`.
     ///
     /// There must be at least one step. The client's document must be good under these rules, and its cursors within it, as

@@ -6,8 +6,9 @@
 //! Proved: each call is a function of the client's record. `take` reports Stale, Confirmed, Rebased or Refused exactly
 //! by their causes. In a rebase the pending steps are carried over the maps back, the others' maps and the kept steps'
 //! maps, paired. An undo is the same as over the client's whole timeline, and with nothing changed since gives the
-//! document before the event, under loose rules or where the stored inverses apply. A cursor with side `After` stays
-//! before its token, where no step on the way has ranges that touch.
+//! document before the event, under loose rules or where the stored inverses apply. After `undo`, `redo` and
+//! `undo_event` the steps made are the last ones of each timeline of the client, and each was made to undo a step of the
+//! event (`tied`). A cursor with side `After` stays before its token, where no step on the way has ranges that touch.
 //!
 //! Not promised: that a dropped step could not have been kept by another rule.
 #![tactic(auto)]
@@ -17,6 +18,7 @@ pub mod client;
 pub mod cursors;
 pub mod editing;
 pub mod failing;
+pub mod forgetting;
 pub mod making;
 pub mod naming;
 pub mod plan;

@@ -14,7 +14,7 @@ use pm_list::Listed;
 use pm_map::StepMap;
 use std::alloc::{AllocError, Global};
 
-/// The document behind the steps made, and their items.
+/// The document after the steps made, and their items.
 #[derive(Drop)]
 pub struct Made<D, C> {
     pub doc: D,

@@ -55,7 +55,7 @@ impl<C: Change> Rebaser<C> {
         }
     }
 
-    /// Lets the step of this serial go, whose map back stands in front from now on.
+    /// Drops the step of this serial, whose map back stands at the front from now on.
     fn lose(&mut self, alloc: Global, back: StepMap, serial: u64) -> Result<(), AllocError>
         requires small { AreSmall back }
         ensures { OnOk result ((so : Rebasing C C.Rules C.Doc C.Reason) (n k : ℕ) → k < 2 ^ 32 → FitsSizes back k n → IsAt C.means self.old so n
@@ -66,7 +66,7 @@ impl<C: Change> Rebaser<C> {
         Ok(())
     }
 
-    /// Keeps a step in its carried form, which makes this document. Its map stands behind, as the mirror of the map back.
+    /// Keeps a step in its carried form, which makes this document. Its map stands after, as the mirror of the map back.
     fn hold(
         &mut self,
         alloc: Global,
@@ -121,6 +121,7 @@ fn rebase<C: Change>(
 }
 
 /// Carries pending steps over others' steps, which lead to this base.
+/// ProseMirror: `rebaseSteps`.
 pub fn rebase_over<C: Change>(
     alloc: Global,
     rules: &C::Rules,

@@ -31,12 +31,13 @@ impl<C: Change> Client<C> {
     /// maps, where an own step that undoes another is its mirror, and what is lost or does not apply is left out. The steps
     /// made are pending under the next serials, each cursor goes through their maps by its side, and they are an event to
     /// redo, with the number of the event undone. No event is open then. `NothingToUndo` comes exactly where there is no
-    /// event to undo. Then, and for want of memory, the client is as it was, the open event included.
+    /// event to undo. Then, and out of memory, the client is as it was, the open event included.
     ///
     /// An undo goes over the maps of the later steps where the history keeps them, and copies none. For each change that it
     /// carries, where one of these steps undid another and put tokens in, it makes a table of those that undid one.
     ///
     /// Under the rules that are lent the client must stand to a log. Each call keeps this.
+    /// ProseMirror: `undo`.
     pub fn undo(&mut self, alloc: Global, rules: &C::Rules) -> Result<u64, UndoError>
         requires { Stands C.means rules.now self.old }
         ensures undone { IfOk result (λ n. undone_last C.means rules.now self.old ≡ Some (n, self.new)) }
@@ -63,6 +64,7 @@ impl<C: Change> Client<C> {
 
     /// Redoes the last event that was undone, as `undo` undoes one, with the events to undo and to redo exchanged. It costs the
     /// same.
+    /// ProseMirror: `redo`.
     pub fn redo(&mut self, alloc: Global, rules: &C::Rules) -> Result<u64, UndoError>
         requires { Stands C.means rules.now self.old }
         ensures redone { IfOk result (λ n. redone_last C.means rules.now self.old ≡ Some (n, self.new)) }
@@ -152,7 +154,7 @@ impl<C: Change> Client<C> {
         undo_event(alloc, rules, self.name, names, items, doc, serial)
     }
 
-    /// The steps that undo the event were made. For want of memory the client is as it was.
+    /// The steps that undo the event were made. Out of memory, the client is as it was.
     fn take_turn(
         &mut self,
         alloc: Global,

@@ -162,7 +162,7 @@ module _ {M R Q : Type 0} (next : R → M → Q → M) (good : R → M → Type 
       unmoved s r id m at ne = subst (λ (t : List ℕ × List V). Rule record { words = t.0; homes = s.homes; views = t.1 })
           (λ i. (sym (ap (λ b. set s.words 0 (either b 1 (turn_of s))) (ne_eqb (turn_of s) 0 ne) ∙ set-get_or s.words 0 0) i, sym (set_again s.views id m.0 at) i)) r
 
-  -- the view of a seat that lets the turn go
+  -- the view of a seat that releases the turn
   fits_released : (turn : ℕ) (log : List (Past Q)) (v : V) → Fits turn log v → Fits 0 log (without_turn v)
   fits_released turn log v f = record { seen = f.seen; calls = f.calls; had = f.had; had_calls = f.had_calls; turn_is = λ e. absurd (off e); first = λ z. first_same log v false v.seen [] (f.first z) }
 
@@ -194,7 +194,7 @@ module _ {M R Q : Type 0} (next : R → M → Q → M) (good : R → M → Type 
   one_more : (log : List (Past Q)) (e : Past Q) → log ≡ log ++ e ∷ [] → ⊥
   one_more log e is = let l = ap length is in omega (arith, length-append log (e ∷ []))
 
-  -- the seat that has the turn lets it go, with the history as it found it
+  -- the seat that has the turn drops it, with the history as it found it
   pub releases_as_found : (slots id : ℕ) (m : Sat M R Q) (x : S) → slots ≡ 1 → m.0.desk ≡ Some about → m.0.turn ≡ true → m.1 ≡ (0, x) ∷ [] → AtEnd next good about m.0.kept x
       → Allows Rule slots id m 0 (λ _. 0) (λ _. released own (step slots 0 0 0 none) m 0)
   releases_as_found slots id m x one live has holds right = subst (λ (c : List (ℕ × S)). Allows Rule slots id (m.0, c) 0 (λ _. 0) (λ _. released own (step slots 0 0 0 none) (m.0, c) 0)) (sym holds)

@@ -123,7 +123,7 @@ module _ {M R Q : Type 0} where
   abbrev pub Counted : (ℕ → Q → Type 0) → List (Past Q) → View M R Q → View M R Q → Type 0
   Counted own log v w = (w ≡ without_turn (counting v log)) × StartsWith v.kept v.seen × (calls_of v.number v.kept ≡ calls_of v.number v.seen) × Owned own v.kept
 
-  -- What a release tells. The value that the seat lets go has the history as the seat found it, or one call more.
+  -- What a release tells. The value that the seat releases has the history as the seat found it, or one call more.
   pub record Released (own : ℕ → Q → Type 0) (m n : Sat M R Q) : Type 0 where
     pub rests : n.1 ≡ rest m.1
     pub as_found : (x : Stored M Q) → m.1 ≡ (0, x) ∷ [] → x.history.items ≡ m.0.kept → n.0 ≡ without_turn m.0

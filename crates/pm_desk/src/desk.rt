@@ -100,7 +100,7 @@ impl<M: Machine> Desk<M> {
     }
 
     /// The machine's reply at the call's place in the history. The history up to there begins with all that the seat had
-    /// seen, and has no other call of the seat. `Back` comes only from want of memory, gives the request back, and
+    /// seen, and has no other call of the seat. `Back` comes only from running out of memory, gives the request back, and
     /// leaves history and machine as they were. The call tries until it has the turn: nothing is promised of how long
     /// that takes, or of who comes first. The request must be one that a seat with this number may make.
     pub fn call<R: Wait>(

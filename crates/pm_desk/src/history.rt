@@ -9,7 +9,7 @@ pub struct Past<Q> {
     pub request: Q,
 }
 
-/// A request that got no reply for want of memory.
+/// A request that got no reply because memory ran out.
 #[derive(Drop)]
 pub struct Back<Q> {
     pub request: Q,

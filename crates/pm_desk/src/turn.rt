@@ -174,7 +174,7 @@ impl<M: Machine> Desk<M> {
         }
     }
 
-    /// Takes the turn, answers the request, and lets the turn go. With that a call that got a reply stands in the history.
+    /// Takes the turn, answers the request, and releases it. With that a call that got a reply stands in the history.
     pub fn call<R: Wait>(
         &self,
         alloc: Global,

@@ -31,7 +31,7 @@ use Rattle.pm_docjson.specs.Writing.{typed, with_attrs, with_content, with_marks
 use Rattle.pm_docjson.proofs.Writables.{content-writable}
 use Rattle.std.proofs.lemmas.Bool.{and_parts}
 
--- the depth in front is no deeper than the greatest
+-- the depth at the front is no deeper than the greatest
 deep-low : (d : ℕ) (ts : List Token) → d ≤ deepest d ts
 deep-low d [] = omega arith
 deep-low d (Open k a m ∷ ts) = let i = deep-low (suc d) ts in omega (arith, i)

@@ -17,7 +17,7 @@ peel : (b : Bool) (r : Option Fault) (at : ℕ) → cond b r (Some (Pair at)) �
 peel true r at h = (refl, h)
 peel false r at h = absurd (cc)
 
--- the first token, and those behind it
+-- the first token, and those after it
 pub first_whole : (at : ℕ) (high : Option Marks) (t : Token) (ts : List Token) → first_broken at high (t ∷ ts) ≡ None → pair_fits high t ts ≡ true
 first_whole at high t ts h = (peel (pair_fits high t ts) (first_broken (at + 1) (high_of t) ts) at h).0
 
@@ -32,7 +32,7 @@ pub from_place : (ts : List Token) (at n : ℕ) (high : Option Marks) → first_
 from_place [] at n high h = refl
 from_place (t ∷ ts) at n high h = joined n high t ts (first_whole at high t ts h) (from_place ts (at + 1) (n + 1) (high_of t) (later at high t ts h))
 
--- the tokens behind
+-- the tokens after
 pub broken-behind : (xs ys : List Token) (at : ℕ) (high : Option Marks) → first_broken at high (xs ++ ys) ≡ None → (n : ℕ) × (first_broken n (last_high high xs) ys ≡ None)
 broken-behind [] ys at high h = (at, h)
 broken-behind (t ∷ xs) ys at high h = broken-behind xs ys (at + 1) (high_of t) (later at high t (xs ++ ys) h)

@@ -14,7 +14,7 @@ use Rattle.pm_tokens.specs.Faults.{low_next, high_of, pair_fits, last_high, firs
 use Rattle.pm_tokens.proofs.FaultLaws.{text-whole}
 use Rattle.pm_docjson.proofs.Pairs.{NoBroken, first_whole, later, joined}
 
--- ---- one list behind another
+-- ---- one list after another
 
 low-more : (m : Marks) (xs ys : List Token) → low_next m xs ≡ true → low_next m (xs ++ ys) ≡ true
 low-more m [] ys h = absurd (cc)

@@ -10,7 +10,7 @@ abbrev pub AllAfter : List ℕ → Members → Type 0
 AllAfter k no_members = Unit {0}
 AllAfter k (member l d ms) = (slice_cmp nat_cmp k l ≡ Less) × AllAfter k ms
 
--- in each object of the value, however deep, the key of each member comes before those of the members behind it
+-- in each object of the value, however deep, the key of each member comes before those of the members after it
 abbrev mutual
   pub HasOrderedKeys : Data → Type 0
   HasOrderedKeys null = Unit {0}

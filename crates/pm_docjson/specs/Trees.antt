@@ -30,7 +30,7 @@ abbrev pub innermost : Levels → Trees
 innermost [] = none
 innermost (ts ∷ levels) = ts
 
--- a token before what was read behind it: a close begins the content of a node, and its open ends it
+-- a token before what was read after it: a close begins the content of a node, and its open ends it
 abbrev pub with_token : Token → Levels → Levels
 with_token (Open k a m) [] = []
 with_token (Open k a m) (inner ∷ []) = inner ∷ []
@@ -41,7 +41,7 @@ with_token (Leaf k a m) (ts ∷ levels) = tree (branch k a m none) ts ∷ levels
 with_token (CodeUnit u m) [] = []
 with_token (CodeUnit u m) (ts ∷ levels) = with_unit u m ts ∷ levels
 
--- what is read of tokens from the last to the first, before what was read behind them
+-- what is read of tokens from the last to the first, before what was read after them
 abbrev pub read_back : List Token → Levels → Levels
 read_back [] levels = levels
 read_back (t ∷ ts) levels = with_token t (read_back ts levels)

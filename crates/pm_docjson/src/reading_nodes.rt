@@ -22,11 +22,18 @@ use std::alloc::Global;
 /// The greatest number of tokens in a list of nodes.
 const MAX_TOKENS: usize = 4_294_967_295;
 
-/// The node of a JSON value, or its first fault, depth first in the order `type`, `text` (of a text alone), `attrs`,
-/// `marks`, `content` (of a text not read). `Shape` comes where a field is missing that must be there, or is of another
-/// kind; `UnknownType` where no type has the name; `EmptyText` at an empty text; `Attr` as in `read_mark`; `NotASet` where
-/// the marks are no set; `Large` after the last node of a list of more than 4,294,967,295 tokens. Neighbouring texts with
-/// equal marks are one text. Content that a leaf type has all the same is kept, so that a check of the document finds it.
+/// The node of a JSON value. Neighbouring texts with equal marks are one text. Content that a leaf type has all the same is kept,
+/// so that a check of the document finds it. ProseMirror: `Node.fromJSON`.
+///
+/// # Errors
+///
+/// The first fault, depth first in the order `type`, `text` (of a text alone), `attrs`, `marks`, `content` (of a text not read).
+/// - `Shape`: a field is missing that must be there, or is of another kind.
+/// - `UnknownType`: no type has the name.
+/// - `EmptyText`: a text is empty.
+/// - `Attr`: as in `read_mark`.
+/// - `NotASet`: the marks are no set.
+/// - `Large`: a list has more than 4,294,967,295 tokens; it comes after the list's last node.
 pub fn read_node<J: JsonRef>(alloc: Global, schema: &Schema, json: J) -> Result<Node, DocReadError>
     ensures { Gives (λ n. n) result (node_of schema.now.spec Kept (J.seen json)) }
 {

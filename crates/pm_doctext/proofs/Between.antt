@@ -28,7 +28,7 @@ document-is s d ps b are =
     branch-is s d.kind d.attrs d.marks (nodes_written s d.tokens)
     ∙ ap (λ z. front_text s d.kind d.attrs ++ (z ++ back_text s d.kind d.marks)) (sym (content-is s d.tokens ps b are))
 
--- what stands in front of it, behind it, and between both, one after another
+-- what stands before it, after it, and between both, one after another
 pub text-after : (s : SchemaSpec) (d : Doc) (ps : List Seen) → Balanced d.tokens → ArePartsOf (known [] d.tokens) ps
     → {E : Type 0} (r : Result (Unit {0}) E) (old before inner new : List ℕ) → before ≡ old ++ front_text s d.kind d.attrs → inner ≡ before ++ content_text s true ps
     → OnOk r (new ≡ inner ++ back_text s d.kind d.marks) → OnOk r (new ≡ old ++ compact_text (doc_written s d))

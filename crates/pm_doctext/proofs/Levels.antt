@@ -166,7 +166,7 @@ read_back-append [] ys levels = refl
 read_back-append (x ∷ xs) ys levels = ap (with_token x) (read_back-append xs ys levels)
 
 module _ (s : SchemaSpec) where
-  -- the trees of each level, each but the last with the end of its node behind it
+  -- the trees of each level, each but the last with the end of its node after it
   abbrev pub levels_text : Bool → List Head → Levels → List ℕ
   levels_text first open_nodes [] = []
   levels_text first [] (ts ∷ levels) = list_text first (trees_written s ts)
@@ -227,7 +227,7 @@ module _ (s : SchemaSpec) where
       ∙ (ap (λ z. start ++ (z ++ rest)) (sym (text-is s (u ∷ us) m))
       ∙ (sym (tree-before first hs (text (u ∷ us) m) t levels) ∙ ap (levels_text first hs) (sym (one-text u us m t levels e))))
 
-  -- the parts behind a part, whose text is that of the levels that they make
+  -- the parts after a part, whose text is that of the levels that they make
   abbrev Told : Bool → List Head → List Token → List Seen → Type 0
   Told first hs ts ps = content_text s first ps ≡ levels_text first hs (read ts)
 

@@ -13,7 +13,7 @@ use Rattle.pm_docjson.specs.Values.{keys}
 use Rattle.pm_docjson.specs.Writing.{mark_written}
 use Rattle.pm_view.specs.Seen.{Seen, Opens, Closes, Atom, Run}
 
--- ---- the members of an object, each with the comma behind it; the type is the last
+-- ---- the members of an object, each with the comma after it; the type is the last
 
 -- the attributes, where the type has some
 abbrev pub attrs_text : List (List ℕ) → List Plain → List ℕ
@@ -29,12 +29,12 @@ abbrev pub start_text : Bool → List ℕ
 start_text true = codes "\"content\":["
 start_text false = codes ","
 
--- behind the children, where there were some
+-- after the children, where there were some
 abbrev pub end_text : Bool → List ℕ
 end_text true = []
 end_text false = codes "],"
 
--- behind this part stands a node that has had no child yet
+-- after this part stands a node that has had no child yet
 abbrev pub opens : Seen → Bool
 opens (Opens h) = true
 opens (Closes h) = false
@@ -52,7 +52,7 @@ module _ (s : SchemaSpec) where
   marks_text [] = []
   marks_text (m ∷ ms) = codes "\"marks\":[" ++ mark_text false (m ∷ ms)
 
-  -- ---- what stands before the content of a node and behind it
+  -- ---- what stands before the content of a node and after it
 
   abbrev pub front_text : ℕ → List Plain → List ℕ
   front_text kind attrs = codes "{" ++ attrs_text (keys (node_at s kind).attrs) attrs

@@ -17,7 +17,7 @@ use pm_value::Value;
 use serde_json::{Map, Value as Json, put};
 use std::alloc::{AllocError, Global};
 
-/// Puts the member `attrs` of a node behind the text, where its type has some: as many as it declares and values are there.
+/// Puts the member `attrs` of a node after the text, where its type has some: as many as it declares and values are there.
 #[tactic(auto, using(crate::proofs::Whole::filled))]
 pub(crate) fn push_attrs(
     alloc: Global,
@@ -35,7 +35,7 @@ pub(crate) fn push_attrs(
     push_member(text, written.as_str())
 }
 
-/// The member `attrs` with this value, and the comma behind it.
+/// The member `attrs` with this value, and the comma after it.
 fn push_member(text: &mut String, value: &str) -> Result<(), AllocError>
     ensures { OnOk result (string_bytes text.new ≡ string_bytes text.old ++ (codes "\"attrs\":" ++ (value.now ++ codes ","))) }
 {

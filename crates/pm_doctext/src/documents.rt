@@ -13,8 +13,8 @@ use pm_schema::Schema;
 use pm_view::{SliceView, Tokens, view};
 use std::alloc::{AllocError, Global};
 
-/// Puts the text of a document behind the text: the bytes of `document_text` of pm_docjson, the compact text of the document's
-/// JSON value. It goes over the document's parts once, and copies no node. For want of memory a part of it may stand behind
+/// Appends the text of a document to the text: the bytes of `document_text` of pm_docjson, the compact text of the document's
+/// JSON value. It goes over the document's parts once, and copies no node. Out of memory, a part of it may stand after
 /// the text.
 pub fn push_document(
     alloc: Global,
@@ -42,7 +42,7 @@ fn push_top(
     push_front(alloc, schema, text, document.kind(), document.attrs())
 }
 
-/// What stands behind it.
+/// What stands after it.
 fn push_bottom(
     alloc: Global,
     schema: &Schema,
@@ -75,7 +75,7 @@ fn whole_view(document: &Document) -> SliceView<'_>
     }
 }
 
-/// Puts the parts of a content behind the text, up to its end.
+/// Appends the parts of a content to the text, up to its end.
 fn push_parts(
     alloc: Global,
     schema: &Schema,

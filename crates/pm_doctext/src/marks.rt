@@ -10,7 +10,7 @@ use pm_marks::Mark;
 use pm_schema::Schema;
 use std::alloc::{AllocError, Global};
 
-/// Puts the member `marks` behind the text, where there are some.
+/// Puts the member `marks` after the text, where there are some.
 pub(crate) fn push_marks(
     alloc: Global,
     schema: &Schema,

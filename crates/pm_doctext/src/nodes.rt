@@ -15,7 +15,7 @@ use pm_schema::Schema;
 use pm_view::{Part, TextRun};
 use std::alloc::{AllocError, Global};
 
-/// Puts a part behind the text. `first` says that the node in which it stands has had no child yet.
+/// Appends a part to the text. `first` says that the node in which it stands has had no child yet.
 pub(crate) fn push_part(
     alloc: Global,
     schema: &Schema,
@@ -67,7 +67,7 @@ fn push_start(text: &mut String, first: bool) -> Result<(), AllocError>
     }
 }
 
-/// What stands behind the children, where there were some.
+/// What stands after the children, where there were some.
 pub(crate) fn push_end(text: &mut String, first: bool) -> Result<(), AllocError>
     ensures { OnOk result (string_bytes text.new ≡ string_bytes text.old ++ end_text first) }
 {
@@ -88,7 +88,7 @@ pub(crate) fn push_front(
     push_attrs(alloc, schema, text, kind, attrs)
 }
 
-/// What stands behind the content of a node: its marks, its type, and the end of its object.
+/// What stands after the content of a node: its marks, its type, and the end of its object.
 pub(crate) fn push_back(
     alloc: Global,
     schema: &Schema,

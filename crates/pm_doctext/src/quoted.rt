@@ -8,7 +8,7 @@ use pm_node::Units;
 use serde_json::Value as Json;
 use std::alloc::{AllocError, Global};
 
-/// Puts a word behind the text, as a string of JSON: in quotes, with the shortest escapes.
+/// Appends a word to the text, as a string of JSON: in quotes, with the shortest escapes.
 pub(crate) fn push_quoted(alloc: Global, text: &mut String, word: &str) -> Result<(), AllocError>
     ensures { OnOk result (string_bytes text.new ≡ string_bytes text.old ++ quoted word.now) }
 {
@@ -57,7 +57,7 @@ fn is_escaped(byte: u8) -> bool
     byte < 32 || byte == 34 || byte == 92
 }
 
-/// Puts the text that the units from..to spell after the text, as a string of JSON, with U+FFFD for each unit of no pair.
+/// Appends the text that the units from..to spell to the text, as a string of JSON, with U+FFFD for each unit of no pair.
 pub(crate) fn push_units(
     alloc: Global,
     text: &mut String,

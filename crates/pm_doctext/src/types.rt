@@ -28,7 +28,7 @@ pub(crate) fn text_name(schema: &Schema) -> &str
     schema.node_name(schema.text_type())
 }
 
-/// Puts the last member of an object behind the text, which is the name of its type.
+/// Appends the last member of an object to the text, which is the name of its type.
 pub(crate) fn push_type(alloc: Global, text: &mut String, name: &str) -> Result<(), AllocError>
     ensures { OnOk result (string_bytes text.new ≡ string_bytes text.old ++ type_text name.now) }
 {

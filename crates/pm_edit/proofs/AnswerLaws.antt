@@ -17,7 +17,7 @@ use Rattle.pm_edit.specs.Ops.{answer_of, one, steps_of, Answers, AnswersEdited, 
 abbrev Listed : Type 0
 Listed = Result (List steps.Step) NoStep
 
--- the step was put behind no others
+-- the step was put after no others
 pub listed-is : (step : Step) (none items : List Step) → none ≡ [] → items ≡ none ++ (step ∷ []) → ◌≡◌ {A = Listed} (Ok (step_of step ∷ [])) (Ok (map step_of items))
 listed-is step none items e h =
     let f : List Step → Listed = λ z. Ok (map step_of z) in

@@ -1,4 +1,4 @@
--- Whether a node begins at a position: behind whole nodes, in one node, and in its content.
+-- Whether a node begins at a position: after whole nodes, in one node, and in its content.
 use Rattle.std.specs.Prelude.{◌≡◌, ℕ, ◌+◌, ◌-◌, ◌≤◌, ◌<◌, Bool, true, false, List, [], ◌∷◌, ◌++◌, length, take, drop, get_or}
 use Rattle.std.specs.declared.sync.Arc.{Arc}
 use Rattle.std.specs.Arc.{arc_value}

@@ -92,7 +92,7 @@ module _ (d : Doc) (p j count : ℕ) where
       let no : slice_size (sides twice count count) ≡ 0 → ⊥ = λ e. omega (arith, e, h, length-twice) in
       ap (λ b. cond b no_slice (sides twice count count)) (ne_eqb (slice_size (sides twice count count)) 0 no)
 
--- two contents that were pushed one behind the other, below the depth `around` - `depth`
+-- two contents that were pushed one after the other, below the depth `around` - `depth`
 pub twice-is : (d : Doc) (p n around depth : ℕ) (none a b : List Token) → around ≡ n → depth ≤ n → none ≡ []
     → a ≡ none ++ hollow d p (around - depth) (n - (around - depth)) → b ≡ a ++ hollow d p (around - depth) (n - (around - depth))
     → b ≡ hollow d p (n - depth) depth ++ hollow d p (n - depth) depth

@@ -21,11 +21,11 @@ opened_node (CodeUnit u m ∷ ts) = None
 abbrev pub node_at : Doc → ℕ → Option Doc
 node_at d pos = opened_node (drop pos d.tokens)
 
--- the position behind a node that begins at `pos`
+-- the position after a node that begins at `pos`
 abbrev pub behind : ℕ → Doc → ℕ
 behind pos node = pos + length (whole_tokens node)
 
--- so many closes stand before the position, and so many opens behind it
+-- so many closes stand before the position, and so many opens after it
 abbrev pub meet : Doc → ℕ → ℕ → Bool
 meet d pos depth = closes_last depth (take pos d.tokens) && opens_first depth (drop pos d.tokens)
 

@@ -17,6 +17,7 @@ use std::alloc::Global;
 /// Gives an attribute of the node that begins at a position another value. `Range` comes exactly where the position passes the
 /// size, and `NotThere` where no node begins there. Whether the node's type has the attribute, and whether it may have the value,
 /// is asked where the step is applied.
+/// ProseMirror: `Transform.setNodeAttribute`.
 pub fn set_attr(
     alloc: Global,
     schema: &Schema,
@@ -42,6 +43,7 @@ pub fn set_attr(
 
 /// Gives an attribute of the document's top node another value. There is always a step; whether the top type has the attribute,
 /// and whether it may have the value, is asked where it is applied.
+/// ProseMirror: `Transform.setDocAttribute`.
 pub fn set_doc_attr(
     alloc: Global,
     schema: &Schema,

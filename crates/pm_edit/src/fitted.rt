@@ -23,6 +23,7 @@ use std::alloc::Global;
 
 /// Puts a text in place of from..to, with the marks that stand at `from`; an empty text takes the range out. `Range` comes
 /// exactly where not from <= to <= size, `NotThere` where the range and the text are empty, and `NoFit` where nothing fits.
+/// ProseMirror: `Transaction.insertText`, which may take other marks where it overwrites a range.
 pub fn insert_text(
     alloc: Global,
     schema: &Schema,
@@ -39,6 +40,7 @@ pub fn insert_text(
 
 /// Takes from..to out. `Range` comes exactly where not from <= to <= size, `NotThere` where the range is empty, and `NoFit`
 /// where the nodes around its ends can't be joined or closed.
+/// ProseMirror: `Transform.delete`.
 pub fn delete(
     alloc: Global,
     schema: &Schema,
@@ -54,6 +56,7 @@ pub fn delete(
 
 /// Puts a slice in place of from..to, fitted to the place. `Range` comes exactly where not from <= to <= size, `NotThere`
 /// where the range and the slice are empty, and `NoFit` where nothing fits.
+/// ProseMirror: `Transform.replace`.
 pub fn paste(
     alloc: Global,
     schema: &Schema,
@@ -70,6 +73,7 @@ pub fn paste(
 
 /// Puts a node in at a position, fitted to the place. `Range` comes exactly where the position passes the size, and `NoFit`
 /// where nothing fits; `NotThere` never comes.
+/// ProseMirror: `Transform.insert` of one node.
 pub fn insert_node(
     alloc: Global,
     schema: &Schema,

@@ -17,6 +17,7 @@ use std::alloc::{AllocError, Global};
 
 /// Joins the nodes that end at a position with those that begin there, `depth` of them within one another. `Range` comes
 /// exactly where the position passes the size, and `NotThere` where `depth` is 0, or fewer nodes end there, or fewer begin.
+/// ProseMirror: `Transform.join`. Neither asks `canJoin`.
 pub fn join(
     alloc: Global,
     schema: &Schema,
@@ -46,8 +47,8 @@ pub fn join(
     }))
 }
 
-/// Whether so many closes stand before the position, and so many opens behind it: as many nodes more are around the positions
-/// so far before and behind.
+/// Whether so many closes stand before the position, and so many opens after it: as many nodes more are around the positions
+/// so far before and after.
 fn meet(alloc: Global, doc: &Document, pos: u64, depth: u64) -> Result<bool, AllocError>
     requires whole { is_whole doc.now.tokens ≡ true }
     requires within { pos ≤ length doc.now.tokens }

@@ -15,6 +15,7 @@ use std::alloc::Global;
 
 /// Puts the content of the node that begins at a position in its place. `Range` comes exactly where the position passes the
 /// size, and `NotThere` where no node begins there, or a leaf or a text does.
+/// ProseMirror: `Transform.lift` of the whole content of one node, by one level. Neither asks `liftTarget`.
 pub fn lift(alloc: Global, schema: &Schema, doc: &Document, pos: u64) -> Result<Step, MakeError>
     requires { Valid (documents_of schema.now.spec) doc.now }
     ensures { Answers (lift doc.now pos) result }

@@ -15,6 +15,7 @@ use std::alloc::Global;
 
 /// Adds a mark to what is inline from..to. `Range` comes exactly where not from <= to <= size, and `NotThere` where the range
 /// is empty.
+/// ProseMirror: `Transform.addMark`, which may take several steps.
 pub fn add_mark(
     alloc: Global,
     schema: &Schema,
@@ -39,6 +40,7 @@ pub fn add_mark(
 
 /// Takes a mark from what is inline from..to. `Range` comes exactly where not from <= to <= size, and `NotThere` where the
 /// range is empty.
+/// ProseMirror: `Transform.removeMark`, which may take several steps.
 pub fn remove_mark(
     alloc: Global,
     schema: &Schema,

@@ -12,7 +12,7 @@ use pm_slice::Slice;
 use pm_step::{ReplaceAroundStep, Step};
 use std::alloc::{AllocError, Global};
 
-/// A node that is no leaf, and the position behind it.
+/// A node that is no leaf, and the position after it.
 #[derive(Drop)]
 pub struct Found<'a> {
     pub node: &'a Node,

@@ -21,6 +21,7 @@ use std::alloc::{AllocError, Global};
 /// Splits the `depth` innermost nodes around a position: they end there, and nodes with the same types, attributes and marks
 /// begin. `Range` comes exactly where the position passes the size, and `NotThere` where `depth` is 0 or fewer nodes are
 /// around the position.
+/// ProseMirror: `Transform.split`. Neither asks `canSplit`.
 pub fn split(
     alloc: Global,
     schema: &Schema,

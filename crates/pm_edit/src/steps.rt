@@ -42,6 +42,7 @@ pub fn steps_for(
 
 /// The step of an op on a document, and the document that it makes, where the edit has made it; or why the op's edit makes
 /// none. An edit that fits something in has made it: text, a slice or a node that is put in, and a range that is taken out.
+/// ProseMirror: the methods of `Transform`.
 pub fn edit_for(
     alloc: Global,
     schema: &Schema,

@@ -19,6 +19,7 @@ use std::alloc::Global;
 /// Gives the node that begins at a position another type and attributes; it keeps its marks and its content. `Range` comes
 /// exactly where the position passes the size, and `NotThere` where no node begins there, or a leaf or a text does, or the
 /// type is a leaf or none of the schema's.
+/// ProseMirror: `Transform.setNodeMarkup` of a node that is no leaf.
 pub fn set_type(
     alloc: Global,
     schema: &Schema,

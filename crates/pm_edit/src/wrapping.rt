@@ -17,6 +17,7 @@ use std::alloc::Global;
 
 /// Puts a node of the type, without marks, around from..to. `Range` comes exactly where not from <= to <= size, and `NotThere`
 /// where the range is empty, or is not a whole number of nodes, or the type is a leaf or none of the schema's.
+/// ProseMirror: `Transform.wrap` in one node. Neither asks `findWrapping`.
 pub fn wrap(
     alloc: Global,
     schema: &Schema,

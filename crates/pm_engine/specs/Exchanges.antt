@@ -24,8 +24,8 @@ module _ {Rules Doc Reason C : Type 0} (m : Meaning Rules Doc Reason C) (rules :
     pub answers : after ≡ answered.1
     pub takes : (told, next) ≡ taken m rules keeper answered.0
 
-  -- What want of memory leaves: nothing was done, or the message was composed, or it was answered too, or the answer was kept
-  -- too. The answer was not taken.
+  -- What running out of memory leaves: nothing was done, or the message was composed, or it was answered too, or the answer
+  -- was kept too. The answer was not taken.
   abbrev pub LeftExchanging : Authority C Rules Doc Reason → Client C Rules Doc Reason → Type 0
   LeftExchanging after next =
       ((after ≡ a) × (next ≡ c))

@@ -12,8 +12,12 @@
 //! let after = DocChange::new(alloc, step)?.apply(alloc, &schema, &before);
 //! ```
 //!
-//! Proved: `standing::edit` and `standing::undo` make what `Client::edit` and `Client::undo` make, and the client goes
-//! on standing to the authority's log. `standing::exchange` presents the client's message and lets it take the answer.
+//! Proved: `edit`, `undo` and `undo_event` of `standing` make what those of `Client` make, and the client goes on
+//! standing to the authority's log. An undo, also of a numbered event, is the same as over the client's whole timeline
+//! (`whole`). With nothing changed since the event it gives the document before the event, under loose rules or where the
+//! stored inverses apply (`restores`). A cursor with side `After` stays before its token, where that is still there and no
+//! step on the way has ranges that touch (`tokens`). `standing::exchange` presents the client's message and lets it take
+//! the answer.
 //!
 //! Whole callers are in docs/embed/LIBRARY.md.
 #![tactic(auto)]

@@ -22,7 +22,7 @@ use std::alloc::{AllocError, Global};
 
 /// Makes these steps on the client's document, as `Client::edit` does, in an event of their own. The client must stand to
 /// the authority's log, and goes on standing to it. There must be at least one step. It tells the number of steps. `Refused`
-/// comes exactly where one of the steps does not apply, and names the first. Then, and for want of memory, the client is as it
+/// comes exactly where one of the steps does not apply, and names the first. Then, and out of memory, the client is as it
 /// was.
 pub fn edit<C: Change>(
     alloc: Global,
@@ -48,7 +48,8 @@ pub fn edit<C: Change>(
 
 /// Undoes the client's last event, as `Client::undo` does, and tells by how many steps. The client must stand to the
 /// authority's log, and goes on standing to it. `NothingToUndo` comes exactly where there is no event to undo. Then, and for
-/// want of memory, the client is as it was.
+/// running out of memory, the client is as it was.
+/// ProseMirror: `undo`.
 pub fn undo<C: Change>(
     alloc: Global,
     rules: &C::Rules,
@@ -77,7 +78,7 @@ pub fn undo<C: Change>(
 
 /// Undoes the last of the client's events to undo that has this number, as `Client::undo_event` does, amid whatever came since,
 /// and tells by how many steps. The client must stand to the authority's log, and goes on standing to it. `NothingToUndo` comes
-/// exactly where no event to undo has the number. Then, and for want of memory, the client is as it was.
+/// exactly where no event to undo has the number. Then, and out of memory, the client is as it was.
 pub fn undo_event<C: Change>(
     alloc: Global,
     rules: &C::Rules,
@@ -108,8 +109,9 @@ pub fn undo_event<C: Change>(
 /// One exchange: the client composes a message of this kind, the authority answers it, and the client keeps the answer and
 /// takes it. The client must stand to the authority's log. It goes on standing to it, and so does each client of another
 /// name, whatever comes. `Refused` is told exactly of a submission at a version that is not the log's length: ask, and submit
-/// again. What else is told is as `Client::take` tells it of the authority's answer. Want of memory leaves the first of these
-/// parts done and the others not.
+/// again. What else is told is as `Client::take` tells it of the authority's answer. Running out of memory leaves the first
+/// of these parts done and the others not.
+/// ProseMirror: `sendableSteps`, and then `receiveTransaction`.
 pub fn exchange<C: Change>(
     alloc: Global,
     rules: &C::Rules,

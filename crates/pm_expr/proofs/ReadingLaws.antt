@@ -104,11 +104,11 @@ module _ (types : List Named) where
   deep-is None x P p = p
   deep-is (Some f) x P p = refl
 
-  -- what is said of the tokens behind these
+  -- what is said of the tokens after these
   abbrev onward : (size : ℕ) (left ts : List Token) (t : Token) → State → Result Tree ExprError
   onward size left ts t z = unless_fault (depth_flaw (levels_of ts) t) (outcome types size left (counted (levels_of ts) t) z)
 
-  -- that it is the reading of the tokens behind these
+  -- that it is the reading of the tokens after these
   abbrev Onward : (size : ℕ) (left ts : List Token) (t : Token) → Result Tree ExprError → Type 0
   Onward size left ts t r = Unless (depth_flaw (levels_of ts) t) r (Reading types size (ts ++ t ∷ []) left r)
 

@@ -8,7 +8,7 @@ use Rattle.pm_expr.specs.Tokens.{Token, name, bracket, end_bracket, plus, star, 
 abbrev pub max_levels : ℕ
 max_levels = 500
 
--- The levels of items that were read. A name has none. A suffix has one more than the item it stands behind. A pair of
+-- The levels of items that were read. A name has none. A suffix has one more than the item it stands after. A pair of
 -- brackets has one more than the deepest item inside, or those of the one item where there is no other.
 pub record Levels : Type 0 where
   -- for each open bracket, the innermost first, the levels of the deepest item before it in its choice

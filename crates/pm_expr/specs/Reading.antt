@@ -67,7 +67,7 @@ Reading types size seen (t ∷ left) r =
 abbrev pub Reads : List Named → (text : List ℕ) → Result Tree ExprError → Type 0
 Reads types text r = Reading types (length text) [] (tokens text) r
 
--- an answer is the reading; want of memory may come with any
+-- an answer is the reading; running out of memory may come with any
 abbrev pub Is : {X : Type 0} → (X → Tree) → Result X ExprError → Result Tree ExprError → Type 0
 Is view (Ok x) r = r ≡ Ok (view x)
 Is view (Err NoMemory) r = Unit {0}

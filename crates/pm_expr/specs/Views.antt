@@ -46,7 +46,7 @@ frame_of f = frame (map tree f.done.items) (map tree f.items.items)
 abbrev pub state_of : Reader → State
 state_of r = state (reverse (map frame_of r.over.items)) (map tree r.done.items) (map tree r.items.items) (option_map tree r.last) (point_of r.point)
 
--- the answer of a step that leads to this state; want of memory may come with any
+-- the answer of a step that leads to this state; running out of memory may come with any
 abbrev pub Steps : {X : Type 0} → Result X ExprError → State → Result State ExprError → Type 0
 Steps (Ok x) s r = r ≡ Ok s
 Steps (Err NoMemory) s r = Unit {0}
@@ -56,7 +56,7 @@ Steps (Err f) s r = r ≡ Err f
 abbrev pub levels_in : Counter → Levels
 levels_in l = levels (reverse l.over.items) l.before l.last
 
--- the answer of counting a token; want of memory may come with any
+-- the answer of counting a token; running out of memory may come with any
 abbrev pub Counts : {X : Type 0} → Result X ExprError → Levels → Levels → Token → Type 0
 Counts (Ok x) new old t = (new ≡ counted old t) × (depth_flaw old t ≡ None) × IsShallow new.last
 Counts (Err NoMemory) new old t = Unit {0}

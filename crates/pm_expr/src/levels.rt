@@ -13,7 +13,7 @@ use std::alloc::Global;
 /// is such a walk, so a deeper expression could end the process.
 const MAX_LEVELS: usize = 500;
 
-/// The levels of what was read. A name has none. A suffix has one more than the item it stands behind. A pair of brackets has
+/// The levels of what was read. A name has none. A suffix has one more than the item it stands after. A pair of brackets has
 /// one more than the deepest item inside, or those of the one item where there is no other.
 #[derive(Drop)]
 pub(crate) struct Levels {

@@ -126,7 +126,7 @@ impl Reader {
         }
     }
 
-    /// Puts an item behind the last one.
+    /// Appends an item.
     fn put(&mut self, item: Expr) -> Result<(), AllocError>
         ensures { OnOk result (let s = state_of self.old in state_of self.new ≡ state s.over s.done (settled s.items s.last) (Some (tree item)) s.point) }
     {

@@ -20,8 +20,8 @@ use std::alloc::Global;
 /// of one part is that part.
 ///
 /// `Deep` comes where an item gets more than 500 levels, since walks over an expression take stack for each of its levels. A
-/// name has no level. A suffix has one more than the item it stands behind. A pair of brackets has one more than the deepest
-/// item inside, or those of the one item where there is no other. Want of memory may come at any point.
+/// name has no level. A suffix has one more than the item it stands after. A pair of brackets has one more than the deepest
+/// item inside, or those of the one item where there is no other. Running out of memory may come at any point.
 pub fn parse(alloc: Global, text: &str, names: &Names) -> Result<Expr, ExprError>
     // The answer is a reading of the text by the grammar, and every reading of it is the answer.
     ensures told { (r : Result Tree Fault) × Reads names.now text.now r × Is tree result r }

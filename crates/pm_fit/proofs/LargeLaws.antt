@@ -68,7 +68,7 @@ deep-from : (d : ℕ) (ts : List Token) → deepest 0 ts ≤ deepest d ts
 deep-from zero ts = omega arith
 deep-from (suc d) ts = let i = deep-from d ts in let j = deep-more d ts in omega (arith, i, j)
 
--- what stands behind a list is at least as deep there as by itself
+-- what stands after a list is at least as deep there as by itself
 deep-behind : (d : ℕ) (xs ys : List Token) → deepest 0 ys ≤ deepest d (xs ++ ys)
 deep-behind d [] ys = deep-from d ys
 deep-behind d (Open k a m ∷ xs) ys = deep-behind (suc d) xs ys

@@ -43,7 +43,7 @@ abbrev pub wrapping_in : Schema → Auto → List ℕ → ℕ → Option (List �
 wrapping_in s a before to =
     option_and_then (λ state. shortest (wrap_links a state s.autos (map can_wrap s.spec.nodes)) (wrap_goals a state to s.autos) (length s.autos)) (state_after a.edges 0 before)
 
--- The wrapping towards the type `to` in a node of the type `kind`, behind children of the types `before`. A type that is none
+-- The wrapping towards the type `to` in a node of the type `kind`, after children of the types `before`. A type that is none
 -- of the schema's wraps nothing; no valid document has one.
 abbrev pub wrapping_of : Schema → ℕ → List ℕ → ℕ → Option (List ℕ)
 wrapping_of s kind before to = option_and_then (λ a. wrapping_in s a before to) (slice_get s.autos kind)

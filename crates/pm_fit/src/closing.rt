@@ -16,7 +16,7 @@ use pm_resolve::Place;
 use std::alloc::{AllocError, Global};
 use std::sync::Arc;
 
-/// Puts the nodes around the place below the depth behind what is there, without content, each in the one before.
+/// Appends the nodes around the place below the depth to what is there, without content, each in the one before.
 pub fn push_hollow(
     alloc: Global,
     place: &Place<'_>,
@@ -36,7 +36,7 @@ pub fn push_hollow(
     push_around(alloc, head, content, made)
 }
 
-/// Puts a node with the head of another one around the content, behind what is there.
+/// Appends a node with the head of another one around the content, to what is there.
 fn push_around(
     alloc: Global,
     head: &Node,

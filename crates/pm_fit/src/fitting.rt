@@ -22,11 +22,12 @@ use std::alloc::{AllocError, Global};
 /// start a goes from its own, or m where that is smaller, down to 0, and the open end is n - m + a, where that is not below 0
 /// and the content has such open sides.
 ///
-/// Then, for each k again, where m = n, the content in the wrapping from from's parent, behind the children that begin before
+/// Then, for each k again, where m = n, the content in the wrapping from from's parent, after the children that begin before
 /// from, towards the content's first type, if that isn't empty: in nodes with default attributes and with open sides 0.
 ///
 /// Then, where the slice is empty, for j from the smaller of m and n down to h, the nodes around from at depths j + 1 to m
 /// without content, each in the one before, and those around to at depths j + 1 to n, with the open sides m - j and n - j.
+/// ProseMirror: `replaceStep`, which uses a `Fitter`. The rule is not ProseMirror's in every case.
 pub fn fit(
     alloc: Global,
     schema: &Schema,

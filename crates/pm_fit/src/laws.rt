@@ -9,7 +9,7 @@ ghost use Rattle.pm_fit.specs.Wrappings.{state_after, wrapping_of};
 use pm_auto::TypeId;
 use pm_schema::Schema;
 
-/// The wrapping towards the type `to` in a node of the type `parent`, behind children of the types `before`, is the least list
+/// The wrapping towards the type `to` in a node of the type `parent`, after children of the types `before`, is the least list
 /// of wrappers: it leads to `to`, and any other list that does is longer, or as long and later by the order of edges at the
 /// first difference. There is none exactly where no list leads there.
 pub fn wrapping_is_least(schema: &Schema, parent: TypeId, before: &[TypeId], to: TypeId)

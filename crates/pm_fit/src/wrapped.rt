@@ -53,7 +53,7 @@ impl Target<'_> {
     }
 
     /// The first step that fits of this content and the contents that are peeled out of it, each in the wrapping at the range's
-    /// start: in a node of the type `parent`, behind children of the types `before`.
+    /// start: in a node of the type `parent`, after children of the types `before`.
     fn fit_wrapped(
         &self,
         alloc: Global,

@@ -8,10 +8,11 @@ use pm_list::Listed;
 use pm_schema::Schema;
 use std::alloc::{AllocError, Global};
 
-/// The wrapping towards the type `to` in a node of the type `parent`, behind children of the types `before`: the shortest list
+/// The wrapping towards the type `to` in a node of the type `parent`, after children of the types `before`: the shortest list
 /// of types that may be put around others, of which the first may come next there, each later one stands first in the one
 /// before, which may then end, and `to` may stand first in the last. Of lists of one length it is the first by the order of
 /// edges. None where there is none.
+/// ProseMirror: `ContentMatch.findWrapping`.
 pub fn wrapping(
     alloc: Global,
     schema: &Schema,

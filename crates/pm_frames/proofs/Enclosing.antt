@@ -31,7 +31,7 @@ unpaired ms front behind paired b x =
     ∙ ap (λ t. place_of (joined m t)) (one-behind ms behind b m.pos paired)
     ∙ three m (through_from ms 0 b (kept_at m.pos)) (moved_from behind 0 0 0 (through_from ms 0 b (kept_at m.pos)).pos b)
 
--- over one map in front alone
+-- over one map at the front alone
 or-false : (t : Bool) → t ≡ (t || false)
 or-false true = refl
 or-false false = refl

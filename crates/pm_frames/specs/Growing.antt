@@ -5,12 +5,12 @@ use Rattle.pm_map.specs.declared.mapping.Mirrored.{Mirrored}
 use Rattle.pm_map.specs.Mirrors.{pushed, fronted, enclosed}
 use Rattle.pm_map.specs.Fits.{FitsSizes}
 
--- A map was put behind each mapping for which the value stood, where the sizes fit.
+-- A map was put after each mapping for which the value stood, where the sizes fit.
 abbrev pub HasPushed : {P : Type 0} → (P → List Mirrored → ℕ → ℕ → Type 0) → P → List Span → P → Type 0
 HasPushed leads old map new =
     (ms : List Mirrored) (n l k : ℕ) → k < 2 ^ 32 → FitsSizes map l k → leads old ms n l → leads new (pushed ms map) n k
 
--- and one in front
+-- and one at the front
 abbrev pub HasFronted : {P : Type 0} → (P → List Mirrored → ℕ → ℕ → Type 0) → P → List Span → P → Type 0
 HasFronted leads old front new =
     (ms : List Mirrored) (n m k : ℕ) → n < 2 ^ 32 → FitsSizes front n m → leads old ms m k → leads new (fronted ms front) n k

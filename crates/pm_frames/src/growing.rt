@@ -16,17 +16,17 @@ pub trait Growing: Positions {
     fn for_steps(alloc: Global, foreign: usize, pending: usize) -> Self
         ensures { (n : ℕ) → n < 2 ^ 32 → Self.leads result [] n n };
 
-    /// A map more behind the others, in no pair.
+    /// A map more after the others, in no pair.
     fn push(&mut self, alloc: Global, map: &StepMap) -> Result<(), AllocError>
         requires { AreSmall map.now }
         ensures { OnOk result (HasPushed Self.leads self.old map.now self.new) };
 
-    /// A map more in front of the others, in no pair.
+    /// A map more before the others, in no pair.
     fn put_front(&mut self, alloc: Global, front: &StepMap) -> Result<(), AllocError>
         requires { AreSmall front.now }
         ensures { OnOk result (HasFronted Self.leads self.old front.now self.new) };
 
-    /// A map more in front of the others, and its mirror behind them.
+    /// A map more before the others, and its mirror after them.
     fn enclose(
         &mut self,
         alloc: Global,

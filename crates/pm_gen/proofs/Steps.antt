@@ -17,6 +17,6 @@ pub turns-none : (clients i n x : ℕ) → n ≡ 0 → turn_lines clients i n x 
 unfolding turn_lines
 turns-none clients i n x is = rw is refl
 
--- a text that is put behind another one, and what is still to come
+-- a text that is put after another one, and what is still to come
 pub onto : (old piece new rest more all : List ℕ) → new ≡ old ++ piece → more ≡ piece ++ rest → old ++ more ≡ all → new ++ rest ≡ all
 onto old piece new rest more all put next is = ap (λ t. t ++ rest) put ∙ (append_assoc old piece rest ∙ (ap (λ t. old ++ t) (sym next) ∙ is))

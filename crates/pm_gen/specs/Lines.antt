@@ -22,7 +22,7 @@ number n = decimal n ∷ []
 abbrev pub name : ℕ → List (List ℕ)
 name client = codes "c" ∷ decimal client ∷ []
 
--- a member of an object, behind another one
+-- a member of an object, after another one
 abbrev pub member : List ℕ → List (List ℕ) → List (List ℕ)
 member key value = codes "," ∷ (word key ++ codes ":" ∷ value)
 

@@ -11,7 +11,7 @@ schema_text = SCHEMA.now
 abbrev pub document_text : List ℕ
 document_text = DOCUMENT.now
 
--- a name behind another one
+-- a name after another one
 abbrev pub further_name : ℕ → List ℕ
 further_name client = joined (codes "," ∷ quoted (name client))
 

@@ -34,7 +34,7 @@ marking x = AddMark (1 + draw 30 x) (1 + draw 30 x + 1 + draw 5 (next x)) (not (
 abbrev pub losing : ℕ → Turn
 losing x = Push (draw 2 x == 0)
 
--- what a number below 16 stands for, where `x` is the number behind its draw
+-- what a number below 16 stands for, where `x` is the number after its draw
 unfoldable pub chosen : ℕ → ℕ → Turn
 chosen k x =
     if nat_le k 5 then typing x
@@ -47,7 +47,7 @@ chosen k x =
     else (if nat_le k 14 then Pull
     else losing x)))))))
 
--- the number behind all its draws
+-- the number after all its draws
 unfoldable pub behind : ℕ → ℕ → ℕ
 behind k x =
     if nat_le k 7 then next (next x)

@@ -33,7 +33,7 @@ pub fn generate(alloc: Global, clients: u32, rounds: u32, number: u64) -> Result
     Ok(text)
 }
 
-/// Puts the clients' names as a list behind the text.
+/// Appends the clients' names as a list to the text.
 fn push_names(alloc: Global, text: &mut String, clients: u32) -> Result<(), AllocError>
     ensures { OnOk result (string_bytes text.new ≡ string_bytes text.old ++ names clients) }
 {
@@ -42,7 +42,7 @@ fn push_names(alloc: Global, text: &mut String, clients: u32) -> Result<(), Allo
     text.push_str("]")
 }
 
-/// Puts the names from client 2 on behind the text.
+/// Appends the names from client 2 on to the text.
 fn push_further_names(alloc: Global, text: &mut String, clients: u32) -> Result<(), AllocError>
     ensures { OnOk result (string_bytes text.new ≡ string_bytes text.old ++ further_names 2 (clients - 1)) }
 {
@@ -52,14 +52,14 @@ fn push_further_names(alloc: Global, text: &mut String, clients: u32) -> Result<
     Ok(())
 }
 
-/// A name behind another one.
+/// A name after another one.
 fn further_name(alloc: Global, client: u32) -> Result<String, AllocError>
     ensures { IfOk result (λ s. string_bytes s ≡ further_name client) }
 {
     format!(in alloc; ",\"c{client}\"")
 }
 
-/// Puts so many op lines behind the text.
+/// Appends so many op lines to the text.
 fn push_turns(
     alloc: Global,
     text: &mut String,

@@ -15,7 +15,7 @@ use Rattle.pm_head.specs.declared.code.Code.{Code}
 use Rattle.pm_head.specs.declared.code.Code.TheVariants.{TooManyLines}
 use Rattle.pm_head.specs.declared.clients.ClientEntry.{ClientEntry}
 use Rattle.pm_head.specs.Lines.{json_line, lines_of}
-use Rattle.pm_script.specs.Ops.{text_op, delete_op, split_op, add_mark_op}
+use Rattle.pm_opjson.specs.Ops.{text_op, delete_op, split_op, add_mark_op}
 use Rattle.pm_script.specs.Acts.{edit_in}
 use Rattle.pm_script.specs.Lines.{is_raw, is_late, op_in, op_line}
 use Rattle.pm_script.specs.Sessions.{at_line, ops_of}

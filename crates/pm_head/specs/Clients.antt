@@ -58,13 +58,13 @@ abbrev pub bounded : Items → Result Items Code
 bounded ds = if nat_lt 0 (count_of ds) && nat_le (count_of ds) MAX_CLIENTS then Ok ds else Err BadClients
 
 module _ (form : Form) where
-  -- an entry behind these earlier ones
+  -- an entry after these earlier ones
   abbrev pub next_client : List ClientEntry → Data → Result ClientEntry Code
   next_client earlier d = do
     entry ← or_fault WrongShape (entry_of form d)
     if is_new earlier entry then Ok entry else Err BadClients
 
-  -- the entries behind these earlier ones, from the front
+  -- the entries after these earlier ones, from the front
   unfoldable pub entries_of : List ClientEntry → Items → Result (List ClientEntry) Code
   entries_of earlier no_items = Ok []
   entries_of earlier (item d ds) = do

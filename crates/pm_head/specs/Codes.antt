@@ -1,4 +1,4 @@
--- The codes of faults. Want of memory has none.
+-- The codes of faults. Running out of memory has none.
 use Rattle.std.specs.Prelude.{Option, Some, None}
 use Rattle.pm_auto.specs.declared.error.AutoError.{AutoError}
 use Rattle.pm_auto.specs.declared.error.AutoError.TheVariants as auto

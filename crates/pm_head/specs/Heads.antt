@@ -14,19 +14,19 @@ use Rattle.pm_head.specs.Schemas.{SchemaLine}
 use Rattle.pm_head.specs.Documents.{DocLine}
 use Rattle.pm_head.specs.Clients.{clients_line}
 
--- what line 3 is, behind this schema and document
+-- what line 3 is, after this schema and document
 abbrev pub with_clients : Schema → Doc → Result (List ClientEntry) Code → Result Head Refusal
 with_clients s doc (Ok clients) = Ok (record { schema = s; doc = doc; clients = clients })
 with_clients s doc (Err code) = Err (refused 3 code)
 
 module _ (form : Form) where
-  -- what the lines behind line 2 are, which gave this
+  -- what the lines after line 2 are, which gave this
   abbrev pub AfterDoc : Schema → Result Doc Code → List (List ℕ) → Result Head Refusal → Type 0
   AfterDoc s (Err code) lines r = r ≡ Err (refused 2 code)
   AfterDoc s (Ok doc) [] r = r ≡ Err (refused 3 MissingLine)
   AfterDoc s (Ok doc) (line ∷ lines) r = r ≡ with_clients s doc (clients_line form line)
 
-  -- what the lines behind line 1 are, which gave this
+  -- what the lines after line 1 are, which gave this
   abbrev pub AfterSchema : Result Schema Code → List (List ℕ) → Result Head Refusal → Type 0
   AfterSchema (Err code) lines r = r ≡ Err (refused 1 code)
   AfterSchema (Ok s) [] r = r ≡ Err (refused 2 MissingLine)

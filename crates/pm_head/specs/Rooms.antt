@@ -20,13 +20,13 @@ is_new_name earlier name = is_name name && not (list_any (λ other. pointwise na
 abbrev pub few_rooms : Items → Result Items Code
 few_rooms ds = if nat_lt 0 (count_of ds) && nat_le (count_of ds) MAX_ROOMS then Ok ds else Err BadRooms
 
--- an entry behind these earlier names
+-- an entry after these earlier names
 abbrev pub next_room : List (List ℕ) → Data → Result (List ℕ) Code
 next_room earlier d = do
   name ← or_fault WrongShape (as_str d)
   if is_new_name earlier name then Ok name else Err BadRooms
 
--- the entries behind these earlier names, from the front
+-- the entries after these earlier names, from the front
 unfoldable pub rooms_from : List (List ℕ) → Items → Result (List (List ℕ)) Code
 rooms_from earlier no_items = Ok []
 rooms_from earlier (item d ds) = do

@@ -75,7 +75,7 @@ fn entries_of(alloc: Global, form: Form, items: &[Value]) -> Result<Listed<Clien
     Ok(clients)
 }
 
-/// The entry, behind these.
+/// The entry, after these.
 fn next_client(
     alloc: Global,
     form: Form,

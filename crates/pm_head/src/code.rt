@@ -11,7 +11,7 @@ pub enum Code {
     MissingLine,
     /// The line passes 1,048,576 bytes, its LF not counted.
     LineTooLong,
-    /// The line is behind the 100,000th op line that there may be.
+    /// The line is after the 100,000th op line that there may be.
     TooManyLines,
     /// The line is not UTF-8 or no JSON, or nests more than 127 lists and objects.
     NotJson,

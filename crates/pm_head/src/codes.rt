@@ -33,7 +33,7 @@ fn build_code(error: SchemaError) -> Option<Code>
     }
 }
 
-/// The code of a value that is no schema; `None` for want of memory.
+/// The code of a value that is no schema; `None` when out of memory.
 pub(crate) fn schema_code(error: SchemaReadError) -> Option<Code>
     ensures { result ≡ code_of_schema error }
 {
@@ -48,7 +48,7 @@ pub(crate) fn schema_code(error: SchemaReadError) -> Option<Code>
     }
 }
 
-/// The code of a value that is no node; `None` for want of memory.
+/// The code of a value that is no node; `None` when out of memory.
 pub fn node_code(error: DocReadError) -> Option<Code>
     ensures { result ≡ code_of_node error }
 {
@@ -63,7 +63,7 @@ pub fn node_code(error: DocReadError) -> Option<Code>
     }
 }
 
-/// The code of a type that can't be filled; `None` for want of memory.
+/// The code of a type that can't be filled; `None` when out of memory.
 pub(crate) fn fill_code(error: FillError) -> Option<Code>
     ensures { result ≡ code_of_fill error }
 {

@@ -29,10 +29,13 @@ pub struct Head {
     pub clients: Listed<ClientEntry>,
 }
 
-/// What the first three lines of the input say, in a file of this form, and the rest of the input behind them. A line ends at
-/// LF, and a last piece without one is a line where it isn't empty. Else the least faulty of the three with the code of its
-/// first fault; each code but `InputTooLong`, `TooManyLines`, `NoSuchMessage`, `OpNotAllowed` and `WrongEnter` may come. A late
-/// client's entry is `WrongShape` where the form is `Plain`. The rest is part of the input, and takes no memory.
+/// What the first three lines of the input say, in a file of this form, and the rest of the input after them. A line ends at
+/// LF, and a last piece without one is a line where it isn't empty. The rest is part of the input, and takes no memory.
+///
+/// # Errors
+///
+/// The least faulty of the three lines, with the code of its first fault. Each code may come but `InputTooLong`, `TooManyLines`,
+/// `NoSuchMessage`, `OpNotAllowed` and `WrongEnter`. A late client's entry is `WrongShape` where the form is `Plain`.
 pub fn read_head(alloc: Global, form: Form, input: &[u8]) -> Result<(Head, &[u8]), SessionError>
     ensures read { Reads (λ p. p.0) (HeadIs form (lines_of input.now)) result }
     ensures rest { IfOk result (λ p. lines_of p.1.now ≡ drop 3 (lines_of input.now)) }
@@ -52,7 +55,7 @@ pub fn read_head(alloc: Global, form: Form, input: &[u8]) -> Result<(Head, &[u8]
     }
 }
 
-/// The head behind line 1.
+/// The head after line 1.
 fn after_schema(
     alloc: Global,
     form: Form,
@@ -77,7 +80,7 @@ fn after_schema(
     }
 }
 
-/// The head behind line 2.
+/// The head after line 2.
 fn after_doc(
     alloc: Global,
     form: Form,

@@ -58,7 +58,7 @@ fn names_of(alloc: Global, items: &[Value]) -> Result<Listed<Text>, LineError>
     Ok(names)
 }
 
-/// The entry, behind these names.
+/// The entry, after these names.
 fn next_room(alloc: Global, earlier: &[Text], json: &Value) -> Result<Text, LineError>
     ensures { Gives (λ t. t) result (room_behind earlier.now (view json.now)) }
 {

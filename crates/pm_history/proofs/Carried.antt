@@ -1,4 +1,4 @@
--- Lemmas: a history from which items were let go goes on standing for its timeline when the pending steps are rebased.
+-- Lemmas: a history from which items were dropped goes on standing for its timeline when the pending steps are rebased.
 use Rattle.std.specs.Prelude.{◌≡◌, ℕ, ◌≤◌, true, false, List, [], ◌∷◌, ◌++◌, length, Some, refl}
 use Rattle.std.specs.List.{AllByRecursion as Each}
 use Rattle.std.proofs.Common.{sym, ap, subst, ◌∙◌, length-append, arith}
@@ -45,7 +45,7 @@ module _ {C : Type 0} where
       held i k is ks' (n ∙ sym h.0.name_is) (u ∙ sym h.0.undoes_is) (λ e. r (sym h.0.map_is ∙ e)) (comes-stand live js' ks' c is h.1)
 
 module _ {Rules Doc Reason C : Type 0} (m : Meaning Rules Doc Reason C) (rules : Rules) where
-  -- all items of the timeline: those that were let go, and those that are left
+  -- all items of the timeline: those that were dropped, and those that are left
   abbrev pub all_items : (first : Doc) (steps : List (Step C)) (live : List Name) (items : List (Item C)) → Remembers m rules live first steps items → List (Item C)
   all_items first steps live items R = items_from m rules first R.gone ++ items
 
@@ -112,7 +112,7 @@ module _ {Rules Doc Reason C : Type 0} (m : Meaning Rules Doc Reason C) (rules :
       history-ties m rules client drawn first base end A G (all_of client drawn first (A ++ G) h k) (history-all client drawn first (A ++ G) h k) eA eG
       (all-enough client drawn first base end A G h k eA eG) own
 
-  -- The last steps are rebased over foreign ones, whether their items were let go or not, and the history is trimmed.
+  -- The last steps are rebased over foreign ones, whether their items were dropped or not, and the history is trimmed.
   pub history-carried : (client drawn : ℕ) (first base end mid doc : Doc) (A G F K : List (Step C)) (h : Branches C) (k : IsHistoryOf m rules client drawn first (A ++ G) h)
       → fold m rules first (changes_of A) ≡ Some base → fold m rules base (changes_of G) ≡ Some end → Each (λ s. s.own ≡ false) F → fold m rules base (changes_of F) ≡ Some mid
       → fold m rules mid (changes_of K) ≡ Some doc → KeptOf m G K → (xs : List (Item C))

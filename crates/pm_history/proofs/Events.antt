@@ -120,7 +120,7 @@ module _ {C : Type 0} where
       two : (k : ℕ) → suc (k + 1) ≡ suc k + 1
       two k = omega arith
 
-  -- the maps behind the item that was found
+  -- the maps after the item that was found
   pub later-at : (n : Name) (items its : List (Item C)) (o : Option ℕ) (k : ℕ) (ms : List Mirrored) → find n its ≡ item_from its o → o ≡ Some k → k < length its
       → ms ≡ paired (drop (k + 1) its) → its ≡ items → Some ms ≡ later_of (find n items)
   later-at n items its o k ms f s l e same =

@@ -25,7 +25,7 @@ module _ {Rules Doc Reason C : Type 0} (m : Meaning Rules Doc Reason C) (rules :
       → i.map ≡ m.step_map c → (i.inverse ≡ m.inverse rules c doc) ⊎ (i.inverse ≡ []) → ShowsTo m rules (items ++ i ∷ []) next
   shows-more items doc next c i h e map inv = (h.0, h.1, shows-append h.0 doc next items (i ∷ []) h.2 (c, next, e, map, inv, refl))
 
-  -- the document behind the items is good
+  -- the document after the items is good
   pub shows-end : Laws m → (items : List (Item C)) (doc : Doc) → ShowsTo m rules items doc → m.is_good rules doc
   shows-end laws items doc h = shows-good laws h.0 doc items h.1 h.2
 

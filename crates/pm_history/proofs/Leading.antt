@@ -17,7 +17,7 @@ use Rattle.pm_history.specs.Items.{one_step}
 use Rattle.pm_history.specs.Laters.{entry_at}
 use Rattle.pm_history.specs.Pairs.{later_in, one_more, paired}
 
--- the item of a slice at a place, and those behind it
+-- the item of a slice at a place, and those after it
 pub drop-next : {A : Type 0} (xs : List A) (k : ℕ) (x : A) → x ≡ get_or xs k x → k < length xs → drop k xs ≡ x ∷ drop (k + 1) xs
 drop-next xs k x e l = drop-cons xs k x l ∙ ap (λ y. y ∷ drop (suc k) xs) (sym e) ∙ ap (λ j. x ∷ drop j xs) (one-more k)
   where
@@ -74,7 +74,7 @@ module _ {C : Type 0} where
   drop-paired (suc k) [] = refl
   drop-paired (suc k) (i ∷ is) = drop-paired k is
 
-  -- where it has a mirror, that stands among the items behind it
+  -- where it has a mirror, that stands among the items after it
   pub entry-fits : (is : List (Item C)) (k : ℕ) → k < length is → IsPairedAt (entry_at is k).map (entry_at is k).later (paired (drop (k + 1) is))
   entry-fits [] k l = absurd (omega (arith, l))
   entry-fits (i ∷ is) zero l = subst (λ j. IsPairedAt i.map (later_in i.name i.map is) (paired (drop j (i ∷ is)))) one (pairs-fit (i ∷ is)).0

@@ -1,4 +1,4 @@
--- Lemmas: own items with serials one after another, behind a timeline whose serials are lower.
+-- Lemmas: own items with serials one after another, after a timeline whose serials are lower.
 use Rattle.std.specs.Prelude.{◌≡◌, ℕ, ◌+◌, ◌≤◌, ◌<◌, ◌==◌, ◌&&◌, ◌||◌, Bool, true, false, List, [], ◌∷◌, ◌++◌, length, Option, Some, None, refl}
 use Rattle.std.specs.List.{AllByRecursion as Each}
 use Rattle.std.proofs.Common.{sym, ap, subst, ◌∙◌, arith}

@@ -165,7 +165,7 @@ module _ {Rules Doc Reason C : Type 0} (m : Meaning Rules Doc Reason C) (rules :
     pub first_stand : StandFor live (take (length items - length G) items) (items_from m rules mid front)
     pub last_stand : StandFor live (last_items (length G) items) (items_from m rules base G)
 
-  -- no item of theirs has been let go
+  -- no item of theirs has been dropped
   pub seam : (client drawn : ℕ) (first base end : Doc) (A G : List (Step C)) (h : Branches C) (k : IsHistoryOf m rules client drawn first (A ++ G) h)
       → fold m rules first (changes_of A) ≡ Some base → fold m rules base (changes_of G) ≡ Some end → length G ≤ length h.items
       → Seam (live_names h) k.remembers.mid base k.remembers.gone k.remembers.kept A G h.items
@@ -197,7 +197,7 @@ module _ {Rules Doc Reason C : Type 0} (m : Meaning Rules Doc Reason C) (rules :
         last_stand = subst (StandFor live (last_items (length G) h.items)) (drop_at I1 IG at n) (stand-drop live at h.items (I1 ++ IG) stands);
       }
 
-  -- The last steps are rebased over foreign ones. No item of theirs has been let go.
+  -- The last steps are rebased over foreign ones. No item of theirs has been dropped.
   pub history-rebased : (client drawn : ℕ) (first base end mid doc : Doc) (A G F K : List (Step C)) (h : Branches C) → IsHistoryOf m rules client drawn first (A ++ G) h
       → fold m rules first (changes_of A) ≡ Some base → fold m rules base (changes_of G) ≡ Some end → Each (λ s. s.own ≡ false) F → fold m rules base (changes_of F) ≡ Some mid
       → fold m rules mid (changes_of K) ≡ Some doc → KeptOf m G K → length G ≤ length h.items

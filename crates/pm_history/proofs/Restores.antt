@@ -22,7 +22,7 @@ use Rattle.pm_history.proofs.Folding.{some-same}
 use Rattle.pm_history.specs.Undos.{find, none_made, own_item, where_applies, tried, put, undo_steps, undo_found, undo_event}
 
 module _ {Rules Doc Reason C : Type 0} (m : Meaning Rules Doc Reason C) (rules : Rules) where
-  -- how a step of an event stands among the items: nothing behind it, up to the event's next step, moves anything
+  -- how a step of an event stands among the items: nothing after it, up to the event's next step, moves anything
   pub record Turn (items : List (Item C)) (first : Bool) (doc : Doc) (n : Name) (ns : List Name) (is : List (Item C)) : Type 0 where
     pub change : C
     pub next : Doc

@@ -1,4 +1,4 @@
--- Lemmas: what is left of a history of which nothing was left to let go.
+-- Lemmas: what is left of a history of which nothing was left to drop.
 use Rattle.std.specs.Prelude.{◌≡◌, ℕ, zero, suc, ◌<◌, ◌==◌, ◌||◌, Bool, true, false, is_some, if◌then◌else◌, List, [], ◌∷◌, ◌++◌, length, take, drop, map, Option, Some, None, refl}
 use Rattle.std.specs.List.{AllByRecursion as Each}
 use Rattle.std.proofs.Common.{sym, ap, ◌∙◌, append-nil, arith}
@@ -84,7 +84,7 @@ module _ {C : Type 0} where
   stay-map live [] h = refl
   stay-map live (i ∷ is) h = ap (λ j. j ∷ map (thinned live) is) h.0 ∙ ap (λ js. i ∷ js) (stay-map live is h.1)
 
-  -- where the first item is live and each stays, nothing is let go
+  -- where the first item is live and each stays, nothing is dropped
   settled : (live : List Name) (is : List (Item C)) → start_of live is ≡ 0 → Each (Stays live) is → trimmed_items live is ≡ is
   settled live is e h = ap (λ k. map (thinned live) (drop k is)) e ∙ stay-map live is h
 
@@ -131,7 +131,7 @@ module _ {C : Type 0} where
   each-among xs ys [] f h = tt
   each-among xs ys (i ∷ is) f h = (f i.name h.0, each-among xs ys is f h.1)
 
-  -- the live names behind an edit
+  -- the live names after an edit
   edit-names : (h : Branches C) (event : Option ℕ) (first : Bool) (ns : List Name) → live_with h ns ≡ live_names (recorded_where h ns (Edit event first))
   edit-names h event first [] = refl
   edit-names h event first (n ∷ ns) =
@@ -144,7 +144,7 @@ module _ {C : Type 0} where
   edit-live h [] e = ap (λ es. names_of h.undo ++ names_of es) e
   edit-live h (n ∷ ns) e = refl
 
-  -- Behind an edit nothing is let go where nothing was left to let go, and nothing could be redone.
+  -- After an edit nothing is dropped where nothing was left to drop, and nothing could be redone.
   pub edit_settled : (h : Branches C) (event : Option ℕ) (first : Bool) (is : List (Item C)) → IsTrimmed h → h.redo ≡ [] → are_own is ≡ true
       → IsTrimmed (noted_all h is (Edit event first))
   edit_settled h event first is t e own =
@@ -156,7 +156,7 @@ module _ {C : Type 0} where
       ap (λ xs. trimmed_items xs (h.items ++ is)) (sym names)
       ∙ settled-append (live_names h) live h.items is more t (each-among ns live is (among-behind (names_of h.undo) ns) (own-named is own))
 
-  -- Behind a foreign step, where an item is left, nothing is let go, and where none is, the foreign step.
+  -- After a foreign step, where an item is left, nothing is dropped, and where none is, the foreign step.
   note-some : (live : List Name) (ranges : List Span) (is : List (Item C)) → trimmed_items live is ≡ is → 0 < length is
       → trimmed_items live (is ++ foreign_item ranges ∷ []) ≡ is ++ foreign_item ranges ∷ []
   note-some live ranges [] h l = absurd (omega (arith, l))
@@ -180,7 +180,7 @@ module _ {C : Type 0} where
   pub trimmed_settled : (h : Branches C) → IsTrimmed (trimmed h)
   trimmed_settled h = trimmed-twice (live_names h) h.items
 
-  -- Other items in place of the last ones, of which those that are left are not let go.
+  -- Other items in place of the last ones, of which those that are left are not dropped.
   rebase-some : (live : List Name) (is js : List (Item C)) (at : ℕ) → trimmed_items live is ≡ is → 0 < at → 0 < length is
       → trimmed_items live (take at is ++ js) ≡ take at is ++ map (thinned live) js
   rebase-some live [] js at h k l = absurd (omega (arith, l))

@@ -29,7 +29,7 @@ over-none p side = ap kept_at (same p)
     same : (p : ℕ) → (p + 0) - 0 ≡ p
     same p = omega arith
 
--- in front of the first range a position stays
+-- before the first range a position stays
 pub before-still : (rs : List Span) (still p : ℕ) (side : Side) → StartsFrom still rs → p < still → moved rs p side ≡ kept_at p
 before-still [] still p side h l = over-none p side
 before-still (r ∷ rs) still p side h l =

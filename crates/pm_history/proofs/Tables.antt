@@ -72,7 +72,7 @@ drop-none (i ∷ is) n rs lo e = absurd (cc)
 
 module _ {C : Type 0} where
   -- A search from the item at place `lo` on for the mirror of a step goes over all items whose serials leave the remainder r.
-  -- It has come to this one, with `left` items behind it.
+  -- It has come to this one, with `left` items after it.
   pub record Stands (n : Option Name) (size r lo : ℕ) (rs : List Span) (all : List (Item C)) (left : ℕ) : Type 0 where
     pub front : List (Item C)
     pub item : Item C
@@ -91,7 +91,7 @@ module _ {C : Type 0} where
       → later_in (Some name) rs (i ∷ is) ≡ past 1 (later_in (Some name) rs is)
   later-past name rs i is h = ap (λ t. if t then Some 0 else one_more (later_in (Some name) rs is)) h ∙ past-one (later_in (Some name) rs is)
 
-  -- an item in front of which, or at which, the search is not to look
+  -- an item before which, or at which, the search is not to look
   past-first : (n : Option Name) (size r : ℕ) (rs : List Span) (i : Item C) (is : List (Item C)) (o : Option ℕ) → later_in n rs (i ∷ is) ≡ past 1 (later_in n rs is)
       → Reaches n size r 0 rs is o → Reaches n size r 0 rs (i ∷ is) o
   past-first n size r rs i is None e h = e ∙ ap (past 1) h
@@ -230,7 +230,7 @@ module _ {C : Type 0} where
       let b = nearest-below size (name.serial % size) h.rest in
       subst (λ o. left_of o < suc left) (next-is name size lo rs all left h next d n) (omega (arith, b, h.left_is))
 
-  -- where the item is not the mirror, or stands in front of place `lo`, the search goes on
+  -- where the item is not the mirror, or stands before place `lo`, the search goes on
   past-item : (name : Name) (lo : ℕ) (rs : List Span) (item : Item C) (rest : List (Item C)) (place : ℕ) → (nat_lt lo (suc place) && (one_step (Some name) item.undoes && may_mirror rs item.map)) ≡ false
       → later_in (Some name) rs (drop (lo - place) (item ∷ rest)) ≡ past (1 - (lo - place)) (later_in (Some name) rs (drop (lo - suc place) rest))
   past-item name lo rs item rest place e = ⊎_elim
@@ -299,7 +299,7 @@ later-untold n rs (i ∷ is) h =
     nobody None = refl
     nobody (Some a) = refl
 
--- A table with an item more in front.
+-- A table with an item more at the front.
 pub table-put : {C : Type 0} (i : Item C) (is : List (Item C)) (old new : Undoers) (n : Name) → IsTableOf old is → i.undoes ≡ Some n
     → new.nearest.items ≡ set old.nearest.items (n.serial % length old.nearest.items) (Some (length is))
     → new.next.items ≡ old.next.items ++ get_or old.nearest.items (n.serial % length old.nearest.items) None ∷ [] → IsTableOf new (i ∷ is)

@@ -28,7 +28,7 @@ any-later k (suc i) (e ∷ es) h = or-later (has_number k e) (any_numbered k es)
 
 module _ (k : ℕ) where
   -- The event that stands at a place is the last one that has the number, where one of the events from there on has it, and none
-  -- of those behind it.
+  -- of those after it.
   pub lost-at : (es : List Event) (i : ℕ) (e : Event) → i < length es → e ≡ get_or es i e → any_numbered k (drop i es) ≡ true → any_numbered k (drop (i + 1) es) ≡ false
       → HaveLostNumbered k es (Some e) (take i es ++ drop (i + 1) es)
   lost-at es i e l at some none =
@@ -38,7 +38,7 @@ module _ (k : ℕ) where
         none,
       )
 
-  -- one more event in front of those that are known not to have the number
+  -- one more event before those that are known not to have the number
   pub none-next : (es : List Event) (i : ℕ) (e : Event) → i < length es → e ≡ get_or es i e → has_number k e ≡ false → any_numbered k (drop i es) ≡ any_numbered k (drop (i + 1) es)
   none-next es i e l at f = ap (any_numbered k) (drop_more es i e l ∙ ap (λ x. x ∷ drop (i + 1) es) (sym at)) ∙ ap (λ t. t || any_numbered k (drop (i + 1) es)) f
 

@@ -117,7 +117,7 @@ split-undo live front last back redo e d =
       right_apart = tt;
     }
 
--- an event to redo, behind the events to undo
+-- an event to redo, after the events to undo
 split-redo : (live undo front last back : List Name) → live ≡ undo ++ (front ++ (last ++ back)) → Differ live → IsSplit live undo (front ++ back) last
 split-redo live undo front last back e d =
     let a = differ-parts undo (front ++ (last ++ back)) (subst Differ e d) in
@@ -174,7 +174,7 @@ module _ {C : Type 0} where
   )
 
 module _ {Rules Doc Reason C : Type 0} (m : Meaning Rules Doc Reason C) (rules : Rules) where
-  -- Own steps with new names stand behind the timeline. They undo steps of the last event, which has left the live names, and
+  -- Own steps with new names stand after the timeline. They undo steps of the last event, which has left the live names, and
   -- each at most once.
   history-more : (client drawn more serial : ℕ) (first doc : Doc) (steps made : List (Step C)) (h g : Branches C) (left right last : List Name) (js : List (Item C))
       → IsHistoryOf m rules client drawn first steps h → fold m rules first (changes_of steps) ≡ Some doc → IsSplit (live_names h) left right last
@@ -268,7 +268,7 @@ module _ {Rules Doc Reason C : Type 0} (m : Meaning Rules Doc Reason C) (rules :
   module _ (laws : Laws m) (client drawn more serial : ℕ) (first doc : Doc) (steps : List (Step C)) (h : Branches C) (e made : Event) (w : Undone Doc C)
       (good : m.is_good rules first) (k : IsHistoryOf m rules client drawn first steps h) (f : fold m rules first (changes_of steps) ≡ Some doc) (low : drawn < serial)
       (is : w ≡ undo_event m rules client e.names h.items doc serial) (made_is : IsMade m rules client doc serial w) (count : w.serial ≡ more + 1) (names : made.names ≡ names_in w.items) where
-    -- a history in which the steps made stand behind the timeline, and the event's names have left the live ones
+    -- a history in which the steps made stand after the timeline, and the event's names have left the live ones
     history-goes-on : (g : Branches C) (left right : List Name) → IsSplit (live_names h) left right e.names → g.items ≡ h.items ++ w.items
         → live_names g ≡ (left ++ names_in w.items) ++ right → IsHistoryOf m rules client more first (steps ++ made_steps client serial w.made w.items) g
     history-goes-on g left right split items_are live_are =
@@ -306,7 +306,7 @@ module _ {Rules Doc Reason C : Type 0} (m : Meaning Rules Doc Reason C) (rules :
         history-goes-on g (names_of h.undo) (names_of l.front ++ names_of l.back)
         (split-redo (live_names h) (names_of h.undo) (names_of l.front) e.names (names_of l.back) live k.tidy.differ) items_are new
 
-    -- The event that is taken was undone, or redone, on the document behind the timeline: the steps made stand behind it, and
+    -- The event that is taken was undone, or redone, on the document after the timeline: the steps made stand after it, and
     -- are an event of the other branch. Their names are new, and `more` is the last serial drawn.
     pub history-undone : (turn : Turn) → event_for turn h ≡ Some e → IsHistoryOf m rules client more first (steps ++ made_steps client serial w.made w.items) (undone turn h made w.items)
     history-undone Undo it = undo-goes-on (undone Undo h made w.items) (left_of Undo h) (taken Undo h e it) refl refl refl

@@ -90,7 +90,7 @@ module _ {C : Type 0} where
   holds-not n [] h = refl
   holds-not n (i ∷ is) h = ap (λ t. t || holds n is) h.0 ∙ holds-not n is h.1
 
-  -- dead items in front do not matter to a trimming
+  -- dead items at the front do not matter to a trimming
   first-past : (live : List Name) (ps is : List (Item C)) → Each (IsDead live) ps → from_first_live live (ps ++ is) ≡ from_first_live live is
   first-past live [] is h = refl
   first-past live (p ∷ ps) is h =
@@ -112,7 +112,7 @@ module _ {C : Type 0} where
   tied-twice old more [] = refl
   tied-twice old more (i ∷ is) = ap (λ js. tied_as old i ∷ js) (tied-twice old more is)
 
-  -- what stands behind the items of other names says what a step undoes
+  -- what stands after the items of other names says what a step undoes
   undoes-past : (n : Name) (ps is : List (Item C)) → Lacks ps n → undoes_of (Some n) (ps ++ is) ≡ undoes_of (Some n) is
   undoes-past n [] is h = refl
   undoes-past n (p ∷ ps) is h = ap (λ t. if t then p.undoes else undoes_of (Some n) (ps ++ is)) h.0 ∙ undoes-past n ps is h.1
@@ -184,7 +184,7 @@ module _ {C : Type 0} where
       no n k = absurd (cc)
   comes-apart ds ys zs (held x z ys' zs' e f r c) h = ((λ n k. h.0 n (sym e ∙ k)), comes-apart ds ys' zs' c h.1)
 
-  -- so what they undo is said behind
+  -- so what they undo is said after
   tied-past : (ds old zs : List (Item C)) → Each (IsApart ds) zs → all_tied (ds ++ old) zs ≡ all_tied old zs
   tied-past ds old [] h = refl
   tied-past ds old (z ∷ zs) h = ap (λ o. record z { undoes = o } ∷ all_tied (ds ++ old) zs) (from z.name refl) ∙ ap (λ xs. tied_as old z ∷ xs) (tied-past ds old zs h.1)

@@ -68,7 +68,7 @@ module _ {C : Type 0} (h : Branches C) where
     pub moved_back : (e : Event) (n : Name) (ns : List Name) → names_in items ≡ n ∷ ns
         → (undone Redo h (event_of e.number (names_in items)) items).undo ≡ h.undo ++ event_of e.number (n ∷ ns) ∷ []
     pub lost_redo : (e : Event) → names_in items ≡ [] → (undone Redo h (event_of e.number (names_in items)) items).undo ≡ h.undo
-    -- The same of an undo of the last event that has a number. The events in front of it and those behind it stay.
+    -- The same of an undo of the last event that has a number. The events before it and those after it stay.
     pub taken : (k : ℕ) (front back : List Event) (e : Event) → IsLastOf k front back e → event_for (UndoEvent k) h ≡ Some e
     pub left_event : (k : ℕ) (front back : List Event) (e : Event) → IsLastOf k front back e
         → ((undone (UndoEvent k) h (event_of e.number (names_in items)) items).undo ≡ front ++ back) × ((undone (UndoEvent k) h (event_of e.number (names_in items)) items).is_open ≡ false)

@@ -133,7 +133,7 @@ module _ {C : Type 0} where
     is_open = h.is_open;
   }
 
-  -- the maps behind an item that was found
+  -- the maps after an item that was found
   abbrev pub later_of : Option (Item C × List (Item C)) → Option (List Mirrored)
   later_of None = None
   later_of (Some p) = Some (paired p.1)

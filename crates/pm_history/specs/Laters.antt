@@ -1,4 +1,4 @@
--- The items behind a step, and how positions go over their maps.
+-- The items after a step, and how positions go over their maps.
 use Rattle.std.specs.Prelude.{◌≡◌, Bool, true, false, ℕ, zero, suc, List, [], ◌∷◌, ◌++◌, Option, Some, None}
 use Rattle.std.specs.List.{AllByRecursion as Each}
 use Rattle.std.specs.Option.{is_some}

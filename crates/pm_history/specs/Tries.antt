@@ -13,7 +13,7 @@ module _ {C : Type 0} where
   first_of [] = None
   first_of (i ∷ is) = Some (i, is)
 
-  -- the item at this place, and those behind it
+  -- the item at this place, and those after it
   abbrev pub item_from : List (Item C) → Option ℕ → Option (Item C × List (Item C))
   item_from is None = None
   item_from is (Some k) = first_of (drop k is)

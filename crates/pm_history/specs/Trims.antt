@@ -21,7 +21,7 @@ module _ {C : Type 0} where
   abbrev pub trimmed_items : List Name → List (Item C) → List (Item C)
   trimmed_items live is = map (thinned live) (from_first_live live is)
 
-  -- A step is live where its name stands in an event, to undo or to redo. All items before the first live step are let go,
+  -- A step is live where its name stands in an event, to undo or to redo. All items before the first live step are dropped,
   -- or all where there is none, and so are the changes that undo steps that are not live. The other items keep their names
   -- and maps, and what they were made to undo.
   abbrev pub trimmed : Branches C → Branches C
@@ -65,7 +65,7 @@ module _ {C : Type 0} where
   are_own [] = true
   are_own (i ∷ is) = is_some i.name && are_own is
 
-  -- The live names behind an edit of these steps. Where it has an own one, nothing can be redone.
+  -- The live names after an edit of these steps. Where it has an own one, nothing can be redone.
   abbrev pub live_with : Branches C → List Name → List Name
   live_with h [] = live_names h
   live_with h (n ∷ ns) = names_of h.undo ++ n ∷ ns

@@ -26,7 +26,7 @@ abbrev pub without_numbered : ℕ → List Event → List Event
 without_numbered k [] = []
 without_numbered k (e ∷ es) = if any_numbered k es then e ∷ without_numbered k es else (if has_number k e then es else e ∷ es)
 
--- the place of that one: one of the events from there on has this number, and none of those behind it
+-- the place of that one: one of the events from there on has this number, and none of those after it
 abbrev pub IsPlaceOf : ℕ → List Event → Option ℕ → Type 0
 IsPlaceOf k es None = any_numbered k es ≡ false
 IsPlaceOf k es (Some i) = (i < length es) × (any_numbered k (drop i es) ≡ true) × (any_numbered k (drop (i + 1) es) ≡ false)

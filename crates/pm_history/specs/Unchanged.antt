@@ -32,7 +32,7 @@ module _ {Rules Doc Reason C : Type 0} (m : Meaning Rules Doc Reason C) (rules :
   Reads first doc (n ∷ ns) ss = (t : Stands first doc n ss) × Reads false t.next ns t.rest
 
   -- Nothing has changed since the event with these names: from its first step on, the timeline reads the event's steps, each
-  -- followed by an idle stretch. The earlier document, `before`, is the one before that first step; `end` is that behind all.
+  -- followed by an idle stretch. The earlier document, `before`, is the one before that first step; `end` is that after all.
   pub record NothingSince (ns : List Name) (first : Doc) (steps : List (Step C)) (before end : Doc) : Type 0 where
     pub earlier : List (Step C)
     pub since : List (Step C)

@@ -9,7 +9,7 @@ abbrev pub leaves : ℕ → ℕ → Option Name → Bool
 leaves size r None = false
 leaves size r (Some n) = n.serial % size == r
 
--- the number of items behind the first one that undoes a step whose serial leaves this remainder
+-- the number of items after the first one that undoes a step whose serial leaves this remainder
 abbrev pub nearest : {C : Type 0} → ℕ → ℕ → List (Item C) → Option ℕ
 nearest size r [] = None
 nearest size r (i ∷ is) = if leaves size r i.undoes then Some (length is) else nearest size r is
@@ -19,7 +19,7 @@ abbrev pub nearest_for : {C : Type 0} → ℕ → Option Name → List (Item C) 
 nearest_for size None is = None
 nearest_for size (Some n) is = nearest size (n.serial % size) is
 
--- for each item, the last one first, the nearest one behind it that undoes a step with the same remainder
+-- for each item, the last one first, the nearest one after it that undoes a step with the same remainder
 abbrev pub chain : {C : Type 0} → ℕ → List (Item C) → List (Option ℕ)
 chain size [] = []
 chain size (i ∷ is) = chain size is ++ nearest_for size i.undoes is ∷ []

@@ -7,7 +7,7 @@ use Rattle.pm_history.specs.declared.undoing.Undone.{Undone}
 use Rattle.pm_history.specs.Items.{one_step}
 use Rattle.pm_history.specs.Pairs.{paired}
 
--- the item of this name, and the items behind it
+-- the item of this name, and the items after it
 abbrev pub find : {C : Type 0} → Name → List (Item C) → Option (Item C × List (Item C))
 find n [] = None
 find n (i ∷ is) = if one_step (Some n) i.name then Some (i, is) else find n is
@@ -17,7 +17,7 @@ module _ {Doc C : Type 0} where
   abbrev pub none_made : Doc → ℕ → Undone Doc C
   none_made doc serial = record { doc = doc; serial = serial; made = []; items = [] }
 
-  -- the steps made first, and then those made behind them
+  -- the steps made first, and then those made after them
   abbrev pub then_made : Undone Doc C → Undone Doc C → Undone Doc C
   then_made w v = record { doc = v.doc; serial = v.serial; made = w.made ++ v.made; items = w.items ++ v.items }
 
@@ -55,7 +55,7 @@ module _ {Rules Doc Reason C : Type 0} (m : Meaning Rules Doc Reason C) (rules :
   undo_steps n (b ∷ bs) later doc serial =
       put (tried (m.carry b (paired later)) doc) n later doc serial (λ l d s. undo_steps n bs l d s)
 
-  -- The step n, where it stands in the timeline. The later items are those behind it and those made so far.
+  -- The step n, where it stands in the timeline. The later items are those after it and those made so far.
   abbrev pub undo_found : Name → Option (Item C × List (Item C)) → List (Item C) → Doc → ℕ → Undone Doc C
   undo_found n None made doc serial = none_made doc serial
   undo_found n (Some p) made doc serial = undo_steps n p.0.inverse (p.1 ++ made) doc serial

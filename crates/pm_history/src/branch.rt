@@ -11,6 +11,7 @@ use std::marker::Model;
 
 /// An event: the steps that are undone together. `number`: the number that its edits gave, if any. `names`: the names of its
 /// steps, in order.
+/// ProseMirror: `newGroupDelay` and `closeHistory` decide what is one event. Here the numbers of edits decide it.
 #[derive(Drop)]
 pub struct Event {
     pub number: Option<u32>,
@@ -18,6 +19,7 @@ pub struct Event {
 }
 
 /// Events, oldest first, seen as their list.
+/// ProseMirror: `Branch`.
 #[derive(Drop)]
 pub struct Branch {
     events: Vec<Event>,
@@ -77,7 +79,7 @@ impl Branch {
         }
     }
 
-    /// Steps that open an event, or join the last one. For want of memory the branch stays as it was.
+    /// Steps that open an event, or join the last one. Out of memory, the branch stays as it was.
     pub(crate) fn put(
         &mut self,
         opens: bool,
@@ -104,7 +106,7 @@ impl Branch {
         self.events[last].names.append(names)
     }
 
-    /// An event more, unless it has no step. For want of memory the branch stays as it was.
+    /// An event more, unless it has no step. Out of memory, the branch stays as it was.
     pub(crate) fn add(&mut self, event: Event) -> Result<(), AllocError>
         ensures ok { OnOk result (self.new ≡ with_event self.old event) }
         ensures err { OnErr result (self.new ≡ self.old) }

@@ -30,11 +30,12 @@ pub enum MadeBy {
 
 /// A client's history: items for the timeline's last steps, the events that can be undone and those that can be redone,
 /// oldest first, and whether the last event to undo is open. A step is live where its name stands in an event. What no undo
-/// looks at is let go: the items before the first live step, and the changes that undo steps that are not live.
+/// looks at is dropped: the items before the first live step, and the changes that undo steps that are not live.
 ///
-/// `is_trimmed`: it is known that nothing is left to let go. Then a call that makes no step leave an event looks at its own
+/// `is_trimmed`: it is known that nothing is left to drop. Then a call that makes no step leave an event looks at its own
 /// steps alone, and else at each item and each live name once. So a history is gone through at most once for each undo, each
 /// redo and each dropped step.
+/// ProseMirror: `HistoryState`.
 #[derive(Drop)]
 pub struct Branches<C> {
     items: Listed<Item<C>>,
@@ -79,6 +80,7 @@ impl<C> Branches<C> {
     }
 
     /// The events that can be undone, oldest first.
+    /// ProseMirror: `undoDepth` is their number.
     pub fn undo_events(&self) -> &[Event]
         ensures { result.now ≡ self.now.undo }
     {
@@ -86,20 +88,21 @@ impl<C> Branches<C> {
     }
 
     /// The events that can be redone, oldest first.
+    /// ProseMirror: `redoDepth` is their number.
     pub fn redo_events(&self) -> &[Event]
         ensures { result.now ≡ self.now.redo }
     {
         self.redo.events()
     }
 
-    /// Whether it is known that nothing is left to let go.
+    /// Whether it is known that nothing is left to drop.
     pub(crate) fn is_settled(&self) -> bool
         ensures { IsTrue result → IsTrimmed self.now }
     {
         self.is_trimmed
     }
 
-    /// From now on it is known that nothing is left to let go.
+    /// From now on it is known that nothing is left to drop.
     pub(crate) fn settle(&mut self)
         requires { IsTrimmed self.old }
         ensures { self.new ≡ self.old }

@@ -16,7 +16,7 @@ pub const NOT_HELD: u8 = 255;
 
 /// How an item is held. `Still`: another's step without a range. `Ranged`: another's step with one range, whose numbers are
 /// small. `Whole`: any other, in memory of its own, which most calls need not read: `brings_back` tells whether it was made to
-/// undo another and puts tokens in, and a position in front of `start` stays where it is. Where `old_size` is not `NOT_HELD`, its
+/// undo another and puts tokens in, and a position before `start` stays where it is. Where `old_size` is not `NOT_HELD`, its
 /// map is the one range with these numbers.
 #[derive(Drop)]
 pub enum Form<C> {

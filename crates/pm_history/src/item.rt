@@ -14,8 +14,9 @@ use std::alloc::{AllocError, Global};
 use std::marker::Model;
 
 /// A step of the timeline. `name`: its name, None for a step of another client. `map`: its map. `inverse`: the changes that
-/// undo it, made one after another right behind it; a foreign step has none. `undoes`: the name of the own step that it was
+/// undo it, made one after another right after it; a foreign step has none. `undoes`: the name of the own step that it was
 /// made to undo. Most steps of a long timeline are others' with at most one range: such an item takes no memory of its own.
+/// ProseMirror: `Item`.
 #[derive(Drop)]
 pub struct Item<C> {
     form: Form<C>,
@@ -111,7 +112,8 @@ impl<C> Item<C> {
         self.map().map(pos, side)
     }
 
-    /// Where a position goes that stands before or behind all ranges of the step, as most do. None where this is not seen at once.
+    /// Where a position goes that stands before or after all ranges of the step, as most do. None where this is not seen at
+    /// once.
     pub(crate) fn passed(&self, pos: u64) -> Option<u64>
         requires { ((side : Side) × ((moved self.now.map pos side).pos < 2 ^ 64)) }
         ensures { IfSome result (λ p. (side : Side) → moved self.now.map pos side ≡ kept_at p) }
@@ -141,7 +143,7 @@ impl<C> Item<C> {
         }
     }
 
-    /// The changes that undo the step, to be made one after another right behind it. A foreign step has none.
+    /// The changes that undo the step, to be made one after another right after it. A foreign step has none.
     pub fn inverse(&self) -> &[C]
         ensures { result.now ≡ self.now.inverse }
     {

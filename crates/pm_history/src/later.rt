@@ -1,4 +1,4 @@
-//! The items behind a step, over whose maps positions go.
+//! The items after a step, over whose maps positions go.
 ghost use Rattle.std.specs.Prelude.{◌≡◌, ◌<◌, ◌≤◌, ◌+◌, ◌++◌, ◌^◌, ◌&&◌, drop, length, nat_lt, slice_index_or, Some, IfOk};
 ghost use Rattle.pm_map.specs.Moves.{moved, is_before, kept_at};
 ghost use Rattle.pm_map.specs.Mirrors.{may_mirror};
@@ -15,7 +15,7 @@ use pm_change::Name;
 use pm_map::{Mirrored, Moved, Positions, Recover, Side};
 use std::alloc::{AllocError, Global};
 
-/// The items behind a step, lent: `items` of the timeline and, behind them, those that an undo has `made`. `undoers`: the table
+/// The items after a step, lent: `items` of the timeline and, after them, those that an undo has `made`. `undoers`: the table
 /// of those that undo steps; None where it is not needed. It stands for the mapping of their maps, and copies none of them.
 #[derive(Drop)]
 pub struct Later<'a, C> {
@@ -97,7 +97,8 @@ impl<'a, C> Later<'a, C> {
         }
     }
 
-    /// The number of items between number `i` and the first one behind it that can be the mirror of `item`, which has this name.
+    /// The number of items between number `i` and the first one after it that can be the mirror of `item`, which has this
+    /// name.
     fn search(&self, undoers: &Undoers, item: &Item<C>, name: Name, i: usize) -> Option<usize>
         requires named { item.now.name ≡ Some name }
         requires table { IsTableOf undoers.now (items_of self.now) }
@@ -115,7 +116,7 @@ impl<'a, C> Later<'a, C> {
         None
     }
 
-    /// Whether item number `place` stands behind number `i` and can be the mirror of `item`.
+    /// Whether item number `place` stands after number `i` and can be the mirror of `item`.
     fn pairs(&self, item: &Item<C>, i: usize, place: usize) -> bool
         requires { place < length (items_of self.now) }
         ensures { (x : Item C) → x ≡ slice_index_or (items_of self.now) place x
@@ -125,8 +126,8 @@ impl<'a, C> Later<'a, C> {
         i < place && one_step(item.name(), other.undoes()) && other.map().mirrors(&item.map())
     }
 
-    /// Where the position `pos` goes over all maps by its side, as `Mapping::map` says it. Most maps it stands in front of or
-    /// behind: then it stays whole, and only its place changes.
+    /// Where the position `pos` goes over all maps by its side, as `Mapping::map` says it. Most maps it stands before or
+    /// after: then it stays whole, and only its place changes.
     fn map(&self, pos: u64, side: Side) -> Moved
         requires room { HasRoom (paired (items_of self.now)) 0 (is_before side) (kept_at pos) }
         requires told { IsTold self.now.undoers (items_of self.now) }

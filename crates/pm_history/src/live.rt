@@ -29,7 +29,7 @@ impl Live {
         }
     }
 
-    /// Puts a name in front of `behind`, whose table this is.
+    /// Puts a name before `behind`, whose table this is.
     fn put(&mut self, name: &Name, behind: &[Name]) -> Result<(), AllocError>
         requires { IsTableOfNames self.old behind.now }
         ensures { OnOk result (IsTableOfNames self.new (name.now ∷ behind.now)) }
@@ -97,7 +97,7 @@ pub fn live_names(alloc: Global, undo: &[Event], redo: &[Event]) -> Result<Liste
     Ok(names)
 }
 
-/// Puts the names of the steps of these events behind.
+/// Puts the names of the steps of these events after.
 pub fn put_names_of(names: &mut Listed<Name>, events: &[Event]) -> Result<(), AllocError>
     ensures { OnOk result (names.new ≡ names.old ++ names_of events.now) }
 {
@@ -107,7 +107,7 @@ pub fn put_names_of(names: &mut Listed<Name>, events: &[Event]) -> Result<(), Al
     Ok(())
 }
 
-/// Puts these names behind.
+/// Puts these names after.
 pub fn put_names(names: &mut Listed<Name>, more: &[Name]) -> Result<(), AllocError>
     ensures { OnOk result (names.new ≡ names.old ++ more.now) }
 {

@@ -7,7 +7,7 @@ ghost use Rattle.pm_history.specs.Forms.{StartsFrom};
 
 use pm_map::{Span, StepMap};
 
-/// Where a position goes that stands before or behind the one range of this map, or over a map without ranges.
+/// Where a position goes that stands before or after the one range of this map, or over a map without ranges.
 pub fn passed_by(map: &StepMap, pos: u64) -> Option<u64>
     requires { ((side : Side) × ((moved map.now pos side).pos < 2 ^ 64)) }
     ensures { IfSome result (λ p. (side : Side) → moved map.now pos side ≡ kept_at p) }
@@ -20,7 +20,7 @@ pub fn passed_by(map: &StepMap, pos: u64) -> Option<u64>
     }
 }
 
-/// Where a position goes that stands before or behind this range.
+/// Where a position goes that stands before or after this range.
 pub fn shifted(range: Span, pos: u64) -> Option<u64>
     requires end { range.start + range.old_size < 2 ^ 64 }
     requires room { ((side : Side) × ((moved (range ∷ []) pos side).pos < 2 ^ 64)) }
@@ -35,7 +35,7 @@ pub fn shifted(range: Span, pos: u64) -> Option<u64>
     None
 }
 
-/// A place in front of which a position stays where it is, over the ranges of this map: where the first one starts.
+/// A place before which a position stays where it is, over the ranges of this map: where the first one starts.
 pub fn still_before(map: &StepMap) -> u32
     ensures { StartsFrom result map.now }
 {

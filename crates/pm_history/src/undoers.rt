@@ -9,8 +9,8 @@ use crate::item::Item;
 use std::alloc::{AllocError, Global};
 
 /// The items of a list that were made to undo steps, found by the serials of these steps. An item is counted by the number of
-/// items behind it, so that more can come in front. `nearest`: for each remainder that a serial can leave the first item.
-/// `next`: for each item, the last one first, the next behind it whose serial leaves the same remainder.
+/// items after it, so that more can come at the front. `nearest`: for each remainder that a serial can leave the first item.
+/// `next`: for each item, the last one first, the next after it whose serial leaves the same remainder.
 #[derive(Drop)]
 pub struct Undoers {
     pub nearest: Vec<Option<usize>>,
@@ -18,8 +18,8 @@ pub struct Undoers {
 }
 
 impl Undoers {
-    /// The table of `items` and, behind them, `made`. Steps follow one another by their serials, so that with as many remainders
-    /// as items few share one.
+    /// The table of `items` and, after them, `made`. Steps follow one another by their serials, so that with as many
+    /// remainders as items few share one.
     pub fn of<C>(alloc: Global, items: &[Item<C>], made: &[Item<C>]) -> Result<Undoers, AllocError>
         requires { 0 < length (items.now ++ made.now) }
         ensures { IfOk result (λ u. IsTableOf u (items.now ++ made.now)) }
@@ -34,7 +34,7 @@ impl Undoers {
         Ok(undoers)
     }
 
-    /// Puts items in front, the last one first.
+    /// Prepends items, the last one first.
     fn put_all<C>(&mut self, items: &[Item<C>]) -> Result<(), AllocError>
         requires { 0 < length self.old.nearest.items }
         ensures size { OnOk result (length self.new.nearest.items ≡ length self.old.nearest.items) }
@@ -48,7 +48,7 @@ impl Undoers {
         Ok(())
     }
 
-    /// Puts an item in front.
+    /// Prepends an item.
     fn put<C>(&mut self, item: &Item<C>) -> Result<(), AllocError>
         requires { 0 < length self.old.nearest.items }
         ensures size { OnOk result (length self.new.nearest.items ≡ length self.old.nearest.items) }

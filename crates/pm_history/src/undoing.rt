@@ -16,7 +16,7 @@ use pm_change::{Change, Failed, Name};
 use pm_list::Listed;
 use std::alloc::{AllocError, Global};
 
-/// What an undo has made. `doc`: the document behind it. `serial`: the next serial. `made`: the changes made, in order, and
+/// What an undo has made. `doc`: the document after it. `serial`: the next serial. `made`: the changes made, in order, and
 /// `items`: their items.
 #[derive(Drop)]
 pub struct Undone<D, C> {
@@ -26,11 +26,11 @@ pub struct Undone<D, C> {
     pub items: Listed<Item<C>>,
 }
 
-/// What `client` makes to undo the steps of these names, from the last to the first, on the document behind the timeline
+/// What `client` makes to undo the steps of these names, from the last to the first, on the document after the timeline
 /// `items`. Each change that undoes a step is carried over the maps of all later items, those made by this call among them;
 /// one that is lost or does not apply is left out. The changes made are named by `client` and serials from `serial` on. The
 /// items must stand for steps that lead to `doc`. Where nothing has changed since, the document is the one before the first
-/// of these steps. A serial past 2^64 counts as want of memory.
+/// of these steps. A serial past 2^64 counts as running out of memory.
 pub fn undo_event<C: Change>(
     alloc: Global,
     rules: &C::Rules,
@@ -196,7 +196,7 @@ fn make_one<C: Change>(
     }
 }
 
-/// A change that was made, and the document behind it.
+/// A change that was made, and the document after it.
 fn made_one<C: Change>(
     alloc: Global,
     rules: &C::Rules,

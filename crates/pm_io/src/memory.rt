@@ -93,7 +93,7 @@ impl MemSink {
     ghost use Rattle.pm_io.specs.Memory.{sink_room, writes_made, writes_to_fail};
 
     /// An empty sink with room for so many bytes. `fail` lists the numbers of the writes, counted
-    /// from 1, that answer `Failed`. The error is want of memory for the room.
+    /// from 1, that answer `Failed`. The error is running out of memory for the room.
     pub fn new(alloc: Global, room: usize, fail: Vec<u64>) -> Result<MemSink, AllocError>
         ensures written { IfOk result (λ s. ⟦<MemSink as Sink>⟧.written s ≡ Some []) }
         ensures faults { IfOk result (λ s. ⟦<MemSink as Sink>⟧.faults s ≡ 0) }

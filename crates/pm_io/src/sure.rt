@@ -63,7 +63,7 @@ impl SureSink {
     ghost use Rattle.std.specs.Prelude.{◌≡◌, [], Some, IfOk, option_map};
     ghost use Rattle.pm_io.specs.Sure.{sure_room};
 
-    /// An empty sink with room for so many bytes. The error is want of memory for the room.
+    /// An empty sink with room for so many bytes. The error is running out of memory for the room.
     pub fn new(alloc: Global, room: usize) -> Result<SureSink, AllocError>
         ensures written { IfOk result (λ s. ⟦<SureSink as Sink>⟧.written s ≡ Some []) }
         ensures room { IfOk result (λ s. sure_room s ≡ room) }

@@ -49,7 +49,7 @@ const PIECE: usize = 4096;
 
 /// Reads to the end of input and gives all its bytes, of which there are at most `limit`.
 /// `ReadFault` comes only where the source's faults rose in this call, and `TooLong` only where
-/// more than `limit` bytes came; `NoMemory` is want of memory for the bytes. Whatever the answer
+/// more than `limit` bytes came; `NoMemory` is running out of memory for the bytes. Whatever the answer
 /// is, at most one byte more than `limit` was taken.
 pub fn read_all<R: Source>(
     alloc: Global,

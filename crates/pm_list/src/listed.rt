@@ -68,7 +68,7 @@ impl<T> Listed<T> {
         self.items.is_empty()
     }
 
-    /// Puts `item` behind the last one. For want of memory the list stays as it was, and the item is let go.
+    /// Puts `item` after the last one. Out of memory, the list stays as it was, and the item is dropped.
     pub fn push(&mut self, item: T) -> Result<(), AllocError>
     where
         T: Drop,
@@ -79,8 +79,8 @@ impl<T> Listed<T> {
         Ok(())
     }
 
-    /// Puts the items of `other` behind the last one, in their order. For want of memory the list stays as it was, and
-    /// the items of `other` are let go.
+    /// Puts the items of `other` after the last one, in their order. Out of memory, the list stays as it was, and
+    /// the items of `other` are dropped.
     pub fn append(&mut self, other: Listed<T>) -> Result<(), AllocError>
     where
         T: Drop,
@@ -92,8 +92,8 @@ impl<T> Listed<T> {
         Ok(())
     }
 
-    /// Puts the items of `other` in place of the last `count`, in their order. For want of memory the list stays as it was,
-    /// and the items of `other` are let go.
+    /// Puts the items of `other` in place of the last `count`, in their order. Out of memory, the list stays as it was,
+    /// and the items of `other` are dropped.
     pub fn replace_last(&mut self, count: usize, other: Listed<T>) -> Result<(), AllocError>
     where
         T: Drop,

@@ -11,7 +11,7 @@ Repeats text a s = (t : ℕ) → target text (edges_at a.edges s) ≡ Some t →
 abbrev pub LeadsUpTo : Auto → ℕ → ℕ → Type 0
 LeadsUpTo a s n = (k t : ℕ) → target k (edges_at a.edges s) ≡ Some t → t ≤ n
 
--- up to some state no edge leads behind it, and texts repeat
+-- up to some state no edge leads after it, and texts repeat
 pub record RepeatsTexts (text : ℕ) (a : Auto) : Type 0 where
   pub last : ℕ
   pub closed : (s : ℕ) → s ≤ last → LeadsUpTo a s last

@@ -7,10 +7,10 @@ ghost use Rattle.pm_loose.specs.Repeats.{CountsTexts, LeadsUpTo, Repeats, Repeat
 use pm_auto::{Auto, State, TypeId};
 use pm_schema::Schema;
 
-/// Whether in the content of each type further texts behind a text change nothing: where a text leads to a state, a further text
-/// leads there again, as in `text*` and `inline*`. Then it does not matter to any type into how many nodes a text is divided.
-/// False where a text leads to a state from which a text leads elsewhere or nowhere, though a schema may be loose for another
-/// reason. It takes no memory.
+/// Whether in the content of each type further texts after a text change nothing: where a text leads to a state, a further
+/// text leads there again, as in `text*` and `inline*`. Then it does not matter to any type into how many nodes a text is
+/// divided. False where a text leads to a state from which a text leads elsewhere or nowhere, though a schema may be loose
+/// for another reason. It takes no memory.
 pub fn is_loose(schema: &Schema) -> bool
     ensures loose { result ≡ true → IsLoose (documents_of schema.now.spec) }
     ensures counts { result ≡ false → SomeCounts (documents_of schema.now.spec).text schema.now.autos }

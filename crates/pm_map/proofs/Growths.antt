@@ -45,7 +45,7 @@ paired-fronted ms front h = (tt, h)
 pub paired-around : (ms : List Mirrored) (front behind : List Span) → SameShape front behind → ArePaired ms → ArePaired (enclosed ms front behind)
 paired-around ms front behind same h = paired-enclosed ms front behind same (paired-append ms (entry behind None ∷ []) h (tt, tt))
 
--- a pair of an earlier map and a new one behind
+-- a pair of an earlier map and a new one after
 length-awaiting : (ms : List Mirrored) (i : ℕ) → length (awaiting ms i) ≡ length ms
 length-awaiting [] i = refl
 length-awaiting (e ∷ es) zero = refl

@@ -75,7 +75,7 @@ in-order (r ∷ rs) i from g l p q b h k f o =
     (let x = over v in let y = range-pos r i ((r.start + g) - l) p b in omega (arith, h.0, k, x, y.1)))))
     (λ (u : r.start + r.old_size < p). rw (decided-past r i g l p b u, decided-past r i g l q b (omega (arith, u, o))) (go u))
 
--- a position behind what the ranges before it gave stays behind it
+-- a position after what the ranges before it gave stays after it
 behind : (rs : List Span) (i from g l p : ℕ) (b : Bool) → AreInOrder rs from g l → l ≤ from → from < p → IsOutside rs p
     → (from + g) - l < (moved_from rs i g l p b).pos
 behind [] i from g l p b h k f o = omega (arith, k, f)

@@ -35,7 +35,7 @@ partner-get [] k d h = absurd (omega arith)
 partner-get (e ∷ es) zero d h = refl
 partner-get (e ∷ es) (suc k) d h = partner-get es k d (omega arith)
 
--- the entry of an earlier map notes its mirror, which was just put behind the last one
+-- the entry of an earlier map notes its mirror, which was just put after the last one
 set-awaiting : (ms : List Mirrored) (i gap : ℕ) (map : List Span) → i < length ms → gap ≡ (length ms - i) - 1
     → slice_set (pushed ms map) i (entry (partner ms i) (gap_for (partner ms i) gap)) ≡ paired_with ms map i
 set-awaiting [] i gap map h k = absurd (omega arith)

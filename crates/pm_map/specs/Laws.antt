@@ -31,7 +31,7 @@ PairMovesNothing rs = AreApart rs 0 → MovesNothing (there_and_back rs)
 abbrev pub PairAfter : List Span → Type 0
 PairAfter rs = AreApart rs 0 → (p : ℕ) → ((through (there_and_back rs) p Before).after ≡ true) ↔ IsStart rs p
 
--- Where a mapping moves nothing, neither does it with such a map in front and the map back as its mirror behind.
+-- Where a mapping moves nothing, neither does it with such a map at the front and the map back as its mirror after.
 abbrev pub StretchMovesNothing : List Mirrored → List Span → Type 0
 StretchMovesNothing ms rs = MovesNothing ms → AreApart rs 0 → MovesNothing (enclosed ms rs (inverted_ranges rs))
 
@@ -44,17 +44,17 @@ abbrev pub GoesOn : List Mirrored → List Mirrored → Type 0
 GoesOn ms ns = (p : ℕ) (side : Side)
     → through (ms ++ ns) p side ≡ joined (through ms p side) (through ns (through ms p side).pos side)
 
--- An unpaired map behind moves what comes out of the mapping.
+-- An unpaired map after moves what comes out of the mapping.
 abbrev pub MovesBehind : List Mirrored → List Span → Type 0
 MovesBehind ms map = (p : ℕ) (side : Side)
     → through (pushed ms map) p side ≡ joined (through ms p side) (moved map (through ms p side).pos side)
 
--- An unpaired map in front moves what goes into the mapping.
+-- An unpaired map at the front moves what goes into the mapping.
 abbrev pub MovesInFront : List Mirrored → List Span → Type 0
 MovesInFront ms map = (p : ℕ) (side : Side)
     → through (fronted ms map) p side ≡ joined (moved map p side) (through ms (moved map p side).pos side)
 
--- Where no pair of the first maps reaches behind them, what is left when they are dropped moves what comes out of them.
+-- Where no pair of the first maps reaches after them, what is left when they are dropped moves what comes out of them.
 abbrev pub DropsFront : List Mirrored → ℕ → Type 0
 DropsFront ms count = ArePaired (take count ms) → (p : ℕ) (side : Side)
     → through ms p side ≡ joined (through (take count ms) p side) (through (drop count ms) (through (take count ms) p side).pos side)

@@ -27,7 +27,7 @@ gap_for (r ∷ rs) gap = Some gap
 abbrev pub entry : List Span → Option ℕ → Mirrored
 entry ranges later = record { map = ranges; later = later }
 
--- a mapping with one unpaired map more behind it
+-- a mapping with one unpaired map more after it
 abbrev pub pushed : List Mirrored → List Span → List Mirrored
 pushed ms map = ms ++ entry map None ∷ []
 
@@ -37,20 +37,20 @@ later_of [] i = None
 later_of (e ∷ es) zero = e.later
 later_of (e ∷ es) (suc i) = later_of es i
 
--- Map number i has its mirror right behind the last map.
+-- Map number i has its mirror right after the last map.
 abbrev pub awaiting : List Mirrored → ℕ → List Mirrored
 awaiting [] i = []
 awaiting (e ∷ es) zero = entry e.map (gap_for e.map (length es)) ∷ es
 awaiting (e ∷ es) (suc i) = e ∷ awaiting es i
 
--- a mapping with one map more behind it, which is the mirror of map number i
+-- a mapping with one map more after it, which is the mirror of map number i
 abbrev pub paired_with : List Mirrored → List Span → ℕ → List Mirrored
 paired_with ms map i = pushed (awaiting ms i) map
 
--- a mapping with one unpaired map more in front
+-- a mapping with one unpaired map more at the front
 abbrev pub fronted : List Mirrored → List Span → List Mirrored
 fronted ms front = entry front None ∷ ms
 
--- a mapping with a map in front and its mirror behind
+-- a mapping with a map at the front and its mirror after
 abbrev pub enclosed : List Mirrored → List Span → List Span → List Mirrored
 enclosed ms front behind = entry front (gap_for front (length ms)) ∷ (ms ++ entry behind None ∷ [])

@@ -42,7 +42,7 @@ at_range r i to p before =
     }
 
 -- Where range number i sends a position, when the ranges before it put in `gained` tokens and took out `lost`: a position
--- before the range shifts by their difference; None for a position behind the range.
+-- before the range shifts by their difference; None for a position after the range.
 abbrev pub decided : Span → ℕ → ℕ → ℕ → ℕ → Bool → Option Moved
 decided r i gained lost p before =
     if nat_lt p r.start then Some (kept_at ((p + gained) - lost)) else
@@ -53,7 +53,7 @@ abbrev pub or_moved : Option Moved → Moved → Moved
 or_moved None m = m
 or_moved (Some m) _ = m
 
--- The first range that the position is not behind decides. A position behind them all shifts by all their differences.
+-- The first range that the position is not after decides. A position after them all shifts by all their differences.
 abbrev pub moved_from : List Span → ℕ → ℕ → ℕ → ℕ → Bool → Moved
 moved_from [] i gained lost p before = kept_at ((p + gained) - lost)
 moved_from (r ∷ rs) i gained lost p before =

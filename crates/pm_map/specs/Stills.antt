@@ -30,6 +30,6 @@ abbrev pub IsStart : List Span → ℕ → Type 0
 IsStart [] p = ⊥
 IsStart (r ∷ rs) p = ((r.start ≡ p) × (0 < r.old_size + r.new_size)) ⊎ IsStart rs p
 
--- a map, and behind it the map back as its mirror
+-- a map, and after it the map back as its mirror
 abbrev pub there_and_back : List Span → List Mirrored
 there_and_back rs = entry rs (gap_for rs 0) ∷ entry (inverted_ranges rs) None ∷ []

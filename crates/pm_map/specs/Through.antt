@@ -58,13 +58,13 @@ joined so m = record {
 abbrev pub at_pos : Moved → ℕ → Moved
 at_pos so p = record { pos = p; deleted = so.deleted; across = so.across; after = so.after; recover = None }
 
--- After a jump the mapping goes on behind the mirror.
+-- After a jump the mapping goes on after the mirror.
 abbrev pub skipped : Option ℕ → Option Recover → ℕ
 skipped None r = 0
 skipped (Some gap) None = 0
 skipped (Some gap) (Some r) = suc gap
 
--- After a map that moved the position to m, with the maps es behind it. Where the position can be recovered and the map has
+-- After a map that moved the position to m, with the maps es after it. Where the position can be recovered and the map has
 -- a mirror, it jumps to the same offset in the same range of the mirror's result.
 abbrev pub stepped : Moved → Moved → Option ℕ → Option Recover → List Mirrored → Moved
 stepped so m None r es = joined so m
@@ -98,7 +98,7 @@ SameShape [] (s ∷ ss) = ⊥
 SameShape (r ∷ rs) [] = ⊥
 SameShape (r ∷ rs) (s ∷ ss) = (s.new_size ≡ r.old_size) × SameShape rs ss
 
--- Where a map has a mirror, that stands among the maps behind it, both have a range, and their shapes agree.
+-- Where a map has a mirror, that stands among the maps after it, both have a range, and their shapes agree.
 abbrev pub IsPairedAt : List Span → Option ℕ → List Mirrored → Type 0
 IsPairedAt ranges None es = Unit {0}
 IsPairedAt ranges (Some gap) es = (gap < length es) × (0 < length ranges) × SameShape ranges (partner es gap)

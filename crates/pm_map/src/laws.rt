@@ -43,8 +43,8 @@ pub fn pair_moves_nothing(map: &StepMap)
     let _ = map;
 }
 
-/// Where a mapping moves nothing, neither does it with a map whose ranges don't touch in front and that map's inverse as
-/// its mirror behind. So a stretch in which each such step is undone exactly moves nothing.
+/// Where a mapping moves nothing, neither does it with a map whose ranges don't touch at the front and that map's inverse as
+/// its mirror after. So a stretch in which each such step is undone exactly moves nothing.
 pub fn stretch_moves_nothing(mapping: &Mapping, map: &StepMap)
     ensures { StretchMovesNothing mapping.now map.now }
 {
@@ -68,7 +68,7 @@ pub fn goes_on(first: &Mapping, second: &Mapping)
     let _ = second;
 }
 
-/// An unpaired map behind a mapping moves what comes out of it.
+/// An unpaired map after a mapping moves what comes out of it.
 pub fn moves_behind(mapping: &Mapping, map: &StepMap)
     ensures { MovesBehind mapping.now map.now }
 {
@@ -76,7 +76,7 @@ pub fn moves_behind(mapping: &Mapping, map: &StepMap)
     let _ = map;
 }
 
-/// An unpaired map in front of a mapping moves what goes into it.
+/// An unpaired map before a mapping moves what goes into it.
 pub fn moves_in_front(mapping: &Mapping, map: &StepMap)
     ensures { MovesInFront mapping.now map.now }
 {
@@ -84,7 +84,7 @@ pub fn moves_in_front(mapping: &Mapping, map: &StepMap)
     let _ = map;
 }
 
-/// A mapping without its first `count` maps moves what comes out of these, where none of them has a mirror behind them.
+/// A mapping without its first `count` maps moves what comes out of these, where none of them has a mirror after them.
 pub fn drops_front(mapping: &Mapping, count: usize)
     ensures { DropsFront mapping.now count }
 {

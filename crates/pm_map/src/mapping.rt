@@ -31,6 +31,7 @@ impl Mirrored {
 }
 
 /// Maps one after another, seen as their list. Each pair is a map and a later one that can be its mirror.
+/// ProseMirror: `Mapping`.
 #[derive(Drop, Debug)]
 pub struct Mapping {
     maps: Vec<Mirrored>,
@@ -89,7 +90,8 @@ impl Mapping {
         self.maps[i].map.copy()
     }
 
-    /// Puts an unpaired map behind the last one. For want of memory the mapping stays as it was.
+    /// Appends an unpaired map. Out of memory, the mapping stays as it was.
+    /// ProseMirror: `Mapping.appendMap`.
     pub fn push(&mut self, map: StepMap) -> Result<(), AllocError>
         ensures ok { OnOk result (self.new ≡ pushed self.old map) }
         ensures err { OnErr result (self.new ≡ self.old) }
@@ -98,9 +100,10 @@ impl Mapping {
         Ok(())
     }
 
-    /// Puts a map behind the last one, as the mirror of map number `earlier`, counted from 0. That one must be the earlier
+    /// Appends a map, as the mirror of map number `earlier`, counted from 0. That one must be the earlier
     /// map of no pair yet, and the shapes must agree: as many ranges, and each new size here is the old size there. Maps
-    /// without ranges stay unpaired. For want of memory the mapping stays as it was.
+    /// without ranges stay unpaired. Out of memory, the mapping stays as it was.
+    /// ProseMirror: `Mapping.appendMap` with `mirrors`.
     pub fn push_pair(&mut self, map: StepMap, earlier: usize) -> Result<(), AllocError>
         requires earlier_in { earlier < length self.old }
         requires unpaired { later_of self.old earlier ≡ None }
@@ -115,7 +118,7 @@ impl Mapping {
         Ok(())
     }
 
-    /// Puts an unpaired map in front of the first one. For want of memory the mapping stays as it was.
+    /// Puts an unpaired map before the first one. Out of memory, the mapping stays as it was.
     pub fn put_front(&mut self, map: StepMap) -> Result<(), AllocError>
         ensures ok { OnOk result (self.new ≡ fronted self.old map) }
         ensures err { OnErr result (self.new ≡ self.old) }
@@ -124,8 +127,8 @@ impl Mapping {
         Ok(())
     }
 
-    /// Puts a map in front of the first one and its mirror behind the last one. The shapes must agree: as many ranges, and
-    /// each new size behind is the old size in front. Maps without ranges stay unpaired. For want of memory the mapping
+    /// Appends a map before the first one and its mirror. The shapes must agree: as many ranges, and
+    /// each new size after is the old size at the front. Maps without ranges stay unpaired. Out of memory, the mapping
     /// stays as it was.
     pub fn enclose(&mut self, front: StepMap, behind: StepMap) -> Result<(), AllocError>
         requires { SameShape front behind }
@@ -153,6 +156,7 @@ impl Mapping {
     /// Where the position `pos`, in tokens, goes over all maps by its side. Where a map deletes it and has
     /// a mirror, the position jumps to the same offset in the same range of that mirror's result, and this pair adds no
     /// flag. Else each map's flags are added. The position must stay below 2^64 all the way. `recover` is None.
+    /// ProseMirror: `Mapping.mapResult`.
     pub fn map(&self, pos: u64, side: Side) -> Moved
         requires { HasRoom self.now 0 (is_before side) (kept_at pos) }
         ensures { result ≡ through self.now pos side }
@@ -176,6 +180,7 @@ impl Mapping {
 
     /// The mapping of the maps from number `from` on, counted from 0, with the pairs among them. It is empty where there is
     /// no such map.
+    /// ProseMirror: `Mapping.slice`.
     pub fn slice(&self, alloc: Global, from: usize) -> Result<Mapping, AllocError>
         ensures { IfOk result (λ m. m ≡ drop from self.now) }
     {

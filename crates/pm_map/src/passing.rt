@@ -14,7 +14,7 @@ pub struct After {
     pub skip: usize,
 }
 
-/// Over one map of a mapping, with the maps `rest` behind it.
+/// Over one map of a mapping, with the maps `rest` after it.
 pub fn over(entry: &Mirrored, rest: &[Mirrored], so: Moved, side: Side) -> After
     requires room { (moved entry.now.map so.pos side).pos < 2 ^ 64 }
     requires paired { IsPairedAt entry.now.map entry.now.later rest.now }

@@ -17,7 +17,7 @@ pub fn kept(pos: u64) -> Moved
     }
 }
 
-/// A range of the map back, behind ranges that put in `gained` tokens and took out `lost`.
+/// A range of the map back, after ranges that put in `gained` tokens and took out `lost`.
 pub fn back(r: Span, gained: u64, lost: u64) -> Span
     requires below { lost ≤ r.start }
     requires room { (r.start + gained) - lost < 2 ^ 64 }
@@ -45,7 +45,7 @@ pub fn last(r: Span, range: u8, gained: u64, lost: u64, pos: u64, before: bool) 
     }
 }
 
-/// Where a range sends a position that is not behind it; None for one that is.
+/// Where a range sends a position that is not after it; None for one that is.
 pub fn decide(r: Span, range: u8, gained: u64, lost: u64, pos: u64, before: bool) -> Option<Moved>
     requires below { lost ≤ r.start }
     requires below_pos { lost ≤ pos }

@@ -24,7 +24,8 @@ pub struct Recover {
 }
 
 /// Where a position went. `deleted`: the token on its side is gone. `across`: the tokens on both sides are gone.
-/// `after`: the token behind it is gone. `recover`: from where it can come back, exactly where `deleted` holds.
+/// `after`: the token after it is gone. `recover`: from where it can come back, exactly where `deleted` holds.
+/// ProseMirror: `MapResult`.
 #[derive(Clone, Copy, Drop, Debug, PartialEq, Eq)]
 pub struct Moved {
     pub pos: u64,
@@ -35,6 +36,7 @@ pub struct Moved {
 }
 
 /// The map of a step, seen as the list of its ranges.
+/// ProseMirror: `StepMap`.
 #[derive(Drop, Debug)]
 pub struct StepMap {
     first: Option<Span>,
@@ -95,6 +97,7 @@ impl StepMap {
     }
 
     /// The map back: each range at its place in the result, with its old and new size exchanged.
+    /// ProseMirror: `StepMap.invert`.
     pub fn inverted(&self) -> StepMap
         ensures { result ≡ inverted_ranges self.now }
     {
@@ -161,8 +164,9 @@ impl StepMap {
         }
     }
 
-    /// The position `offset` tokens behind the start of range number `range` (from 0) in the result. The offset is at most
+    /// The position `offset` tokens after the start of range number `range` (from 0) in the result. The offset is at most
     /// that range's new size.
+    /// ProseMirror: `StepMap.recover`.
     pub fn result_place(&self, range: u8, offset: u64) -> u64
         requires range_in { range < length self.now }
         requires offset_in { offset ≤ new_at self.now range }
@@ -182,10 +186,11 @@ impl StepMap {
         }
     }
 
-    /// Where the position `pos`, in tokens, goes, and what the step did around it. Before the ranges it stays; behind a range
+    /// Where the position `pos`, in tokens, goes, and what the step did around it. Before the ranges it stays; after a range
     /// it shifts by the range's new size less its old size. Within or at a range it goes to the range's new start or new
     /// end: by its side strictly inside and at a pure insertion, else to the end at which it stands.
     /// Where `deleted` holds, `recover` says from which place of which range it came.
+    /// ProseMirror: `StepMap.mapResult`.
     pub fn map(&self, pos: u64, side: Side) -> Moved
         requires { (moved self.now pos side).pos < 2 ^ 64 }
         ensures moved { result ≡ moved self.now pos side }

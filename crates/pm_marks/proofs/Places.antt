@@ -40,7 +40,7 @@ module _ {A : Type 0} where
   pick_rank true n x m xs = refl
   pick_rank false n x m xs = ap (λ k. insert (x ∷ xs) k m) {x = 1 + n} {y = suc n} (omega arith)
 
-  -- before the first mark, where that has the higher rank, or behind it
+  -- before the first mark, where that has the higher rank, or after it
   pub placed-cons : (x m : Mark A) (xs : List (Mark A)) → placed (x ∷ xs) m ≡ cond (nat_lt m.kind x.kind) (m ∷ x ∷ xs) (x ∷ placed xs m)
   placed-cons x m xs =
       ap (λ n. insert (x ∷ xs) n m) (rank_place-is (x ∷ xs) m)

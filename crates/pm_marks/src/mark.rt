@@ -6,9 +6,11 @@ use crate::same::Same;
 use std::alloc::{AllocError, Global};
 
 /// The number of a mark type, which is its place in the schema, counted from 0. It is a mark's rank in a set.
+/// ProseMirror: `MarkType`, and its `rank`.
 pub type MarkId = usize;
 
 /// A mark of a type, with its attributes.
+/// ProseMirror: `Mark`.
 #[derive(Drop, Debug)]
 pub struct Mark<A> {
     pub kind: MarkId,

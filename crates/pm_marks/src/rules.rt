@@ -29,6 +29,7 @@ impl MarkRules {
     }
 
     /// Whether type `a` excludes type `b`. It takes no memory.
+    /// ProseMirror: `MarkType.excludes`.
     pub fn excludes(&self, a: MarkId, b: MarkId) -> bool
         ensures { result ≡ excludes self.now a b }
     {

@@ -44,6 +44,7 @@ impl<A: Same> MarkSet<A> {
     }
 
     /// Whether the same mark is in the set, of one type and with equal attributes. It takes no memory.
+    /// ProseMirror: `Mark.isInSet`.
     pub fn has(&self, mark: &Mark<A>) -> bool
         ensures { result ≡ has A.equal self.now mark.now }
     {
@@ -53,6 +54,7 @@ impl<A: Same> MarkSet<A> {
     /// The set with `mark` added. Where the same mark is there, the set stays. Else, where a mark that `mark` does not
     /// exclude excludes `mark`, the set stays. Else the marks that `mark` excludes go, and it is put before the first
     /// mark of higher rank, or last. Adding it once more would change nothing, and a valid set stays valid.
+    /// ProseMirror: `Mark.addToSet`.
     pub fn add(
         &self,
         alloc: Global,
@@ -111,6 +113,7 @@ impl<A: Same> MarkSet<A> {
     }
 
     /// The set without `mark`. A valid set stays valid.
+    /// ProseMirror: `Mark.removeFromSet`.
     pub fn remove(&self, alloc: Global, mark: &Mark<A>) -> Result<MarkSet<A>, AllocError>
         ensures removed { IfOk result (λ s. s ≡ removed A.equal self.now mark.now) }
         ensures valid { (table : List (List Bool)) → IsSet A.equal table self.now → IfOk result (λ s. IsSet A.equal table s) }
@@ -155,6 +158,7 @@ impl<A: Same> MarkSet<A> {
     }
 
     /// Whether both sets have the same marks in the same order. It takes no memory.
+    /// ProseMirror: `Mark.sameSet`.
     pub fn same(&self, other: &MarkSet<A>) -> bool
         ensures same { result ≡ same_marks A.equal self.now other.now }
         ensures equality { IsTrue result ↔ (self.now ≡ other.now) }

@@ -154,7 +154,7 @@ node-fit s d a (CodeUnit u m ∷ ts) v e h = absurd (cc)
 
 -- ---- attr
 
--- the step applies to a document whose tokens are these, with a node behind the first of them
+-- the step applies to a document whose tokens are these, with a node after the first of them
 attr-applies : (s : Schema) (p : ℕ) (name : List ℕ) (value : Plain) (d next : Doc) (a r : List Token) (i : ℕ) → length a ≡ p → d.tokens ≡ a ++ r → starts_node r ≡ true
     → place_among (s.node_declares (node_kind r)) name ≡ Some i → allows_among (s.node_declares (node_kind r)) i value ≡ true
     → checked s (with_tokens d (a ++ with_node_value i value r)) ≡ Ok next → outcome s (Attr p name value) d ≡ Ok next

@@ -149,7 +149,7 @@ high = CodeUnit 55357 []
 abbrev low : Token
 low = CodeUnit 56832 []
 
--- a broken pair comes before a content fault, also behind it
+-- a broken pair comes before a content fault, also after it
 bad-pair : fault schema (doc (a ∷ p ∷ high ∷ Close ∷ [])) ≡ Some (Pair 3)
 bad-pair = refl
 

@@ -49,7 +49,7 @@ is_unit Close = false
 is_unit (Leaf k a m) = false
 is_unit (CodeUnit u m) = true
 
--- what a token leaves to those behind it
+-- what a token leaves to those after it
 pub next-link : (run : Option Run) (q : List Token) (t n : Token) (g h : Option Marks) (ts ns : List Token) → n ≡ set_marks (marks_of n) t → (is_unit t ≡ true → Agrees run (marks_of t) (marks_of n))
     → Paired g (t ∷ ts) → Paired h (n ∷ ns) → Link run (q ++ (t ∷ [])) ts ns
 next-link run q (Open k a m) n g h ts ns e w x y =

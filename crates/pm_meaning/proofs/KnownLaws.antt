@@ -70,7 +70,7 @@ module _ (s : Schema) where
       let f = first-none (token_fits s (head_of ps) high t (xs ++ ys)) (place_from s (under ps t) (high_of t) (xs ++ ys)) h in
       around-known (under ps t) (high_of t) o xs ys f.1 k
 
-  -- what is cut out of a valid document: its tokens behind the front a
+  -- what is cut out of a valid document: its tokens after the front a
   pub cut-known : (d : Doc) (a ts rest : List Token) → Valid s d → d.tokens ≡ a ++ rest → unmet 0 ts ≤ length (unclosed [] a) → knows_slice s (closed_over a ts) ≡ true
   cut-known d a ts rest v e n =
       let opened = take (unmet 0 ts) (around [] a) in

@@ -44,7 +44,7 @@ module _ (s : Schema) (l : IsLoose s) (d : Doc) (v : Valid s d) where
   abbrev under : List Token → List ℕ
   under p = unclosed (k ∷ []) p
 
-  -- a run that stands behind p, with the tokens r up to a position
+  -- a run that stands after p, with the tokens r up to a position
   record Running (run : Run) (p r : List Token) (at : ℕ) : Type 0 where
     pub starts : length p ≡ run.start
     pub stops : run.start + length r ≡ at
@@ -204,7 +204,7 @@ module _ (s : Schema) (l : IsLoose s) (d : Doc) (v : Valid s d) where
     ended : (rest : List Step) → ((z : Run) → run ≡ Some z → Clear (p ++ r) (t ∷ ts) (n ∷ ns)) → go (close_run run at ++ rest) (with_tokens d (p ++ (is run r ++ (n ∷ ns)))) ≡ go rest (with_tokens d (so_far ++ (n ∷ ns)))
     ended rest c = closing run p r at (t ∷ ts) (n ∷ ns) rest st ds c shape fi ∙ ap (λ z. go rest (with_tokens d z)) (sym (append_assoc p (was run r) (n ∷ ns)))
 
-    -- behind a token that has its old marks
+    -- after a token that has its old marks
     fresh : (is_unit t ≡ true → old ≡ new) → go (run_steps s (at + 1) None ts ns) (with_tokens d (so_far ++ (t ∷ ns))) ≡ Some d
     fresh w =
         let p' = so_far ++ (t ∷ []) in

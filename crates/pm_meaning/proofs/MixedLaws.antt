@@ -1,4 +1,5 @@
--- The steps of one run apply, in a loose schema: p and r are tokens of a valid document, and news are the new tokens behind them.
+-- The steps of one run apply, in a loose schema: p and r are tokens of a valid document, and news are the new tokens after
+-- them.
 use Rattle.std.specs.Prelude.{◌≡◌, ℕ, ◌+◌, Bool, true, false, not, nat_le, cond, List, [], ◌∷◌, ◌++◌, map, length, Option, Some, None, Ok}
 use Rattle.std.proofs.lemmas.Bool.{le-leb, and_parts, and_from}
 use Rattle.std.proofs.lemmas.List.{length-map}

@@ -1,4 +1,5 @@
--- The steps for one node apply, in a loose schema: p and t are tokens of a valid document, and news are the new tokens behind them.
+-- The steps for one node apply, in a loose schema: p and t are tokens of a valid document, and news are the new tokens after
+-- them.
 use Rattle.std.specs.Prelude.{◌≡◌, ℕ, ◌+◌, Bool, true, false, not, List, [], ◌∷◌, ◌++◌, map, length, drop, Option, None, Result, Ok}
 use Rattle.std.proofs.lemmas.Bool.{le-leb, and_parts, and_from}
 use Rattle.std.proofs.Common.{refl, ap, sym, ◌∙◌, subst, arith, append_assoc}

@@ -33,7 +33,7 @@ low-same m Close xs ys = refl
 low-same m (Leaf k a n) xs ys = refl
 low-same m (CodeUnit u n) xs ys = refl
 
--- another end behind a front that parts no pair
+-- another end after a front that parts no pair
 pub paired-front : (t : Token) (high : Option Marks) (xs ys zs : List Token) → ends_high (t ∷ xs) ≡ false → Paired high (t ∷ (xs ++ zs)) → Paired None ys → Paired high (t ∷ (xs ++ ys))
 paired-front t high [] ys zs e p q = paired-end t high ys zs e p q
 paired-front (Open k a m) high (x ∷ xs) ys zs e p q = paired-front x None xs ys zs e p q

@@ -57,7 +57,7 @@ one-or-applies s one others d next h = by (outcome s one next) refl
 shaped-itself : (ts : List Token) → Shaped ts ts
 shaped-itself ts = subst (λ z. Shaped z z) (append-nil ts) (shaped-self ts [] [] tt)
 
--- behind a front that ends in no half of a pair
+-- after a front that ends in no half of a pair
 paired-behind : (xs zs : List Token) → ends_high xs ≡ false → Paired None (xs ++ zs) → Paired None zs
 paired-behind [] zs e h = h
 paired-behind (x ∷ xs) zs e h = paired-rest x None xs zs e h

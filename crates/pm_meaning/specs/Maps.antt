@@ -12,7 +12,8 @@ use Rattle.pm_meaning.specs.Steps.{Step, Replace, ReplaceAround, AddMark, Remove
 abbrev pub span : ℕ → ℕ → ℕ → Span
 span start old_size new_size = record { start = start; old_size = old_size; new_size = new_size }
 
--- the ranges that a step replaces: one, or one before the gap and one behind it; a step that changes marks or attributes has none
+-- the ranges that a step replaces: one, or one before the gap and one after it; a step that changes marks or attributes has
+-- none
 abbrev pub step_map : Step → List Span
 step_map (Replace from to sl structure) = span from (to - from) (slice_size sl) ∷ []
 step_map (ReplaceAround from to gap_from gap_to sl insert structure) =
@@ -47,7 +48,7 @@ abbrev pub carry_range : (ℕ → ℕ → Step) → Moved → Moved → Option S
 carry_range make from to =
     if (from.deleted && to.deleted) || nat_le to.pos from.pos then None else Some (make from.pos to.pos)
 
--- lost where the token behind the position is deleted
+-- lost where the token after the position is deleted
 abbrev pub carry_node : (ℕ → Step) → Moved → Option Step
 carry_node make p = if p.after then None else Some (make p.pos)
 

@@ -208,7 +208,7 @@ module _ (s t : Chunks (Arc Node Global)) (x y : Arc Node Global) (z : Node) (i 
         form = form-along (total_of (pairs_of t)) (pairs_of t) qs last-same (subst (λ w. Form (total_of (pairs_of t)) w) (sym last-items) (subst (λ w. Form w (set (nodes_of s) i y)) (sym total) form));
       }
 
--- a run of nodes behind others, whose last one does not meet the first of them
+-- a run of nodes after others, whose last one does not meet the first of them
 pub normal-join : {Z : Type 0} (xs ys : List (Arc Node Z)) → IsNormal xs → IsNormal ys → ((front rest : List (Arc Node Z)) (x y : Arc Node Z) → xs ≡ front ++ (x ∷ []) → ys ≡ y ∷ rest → ¬ Meets (arc_value x) (arc_value y)) → IsNormal (xs ++ ys)
 normal-join [] ys n m h = m
 normal-join (x ∷ []) [] n m h = n
@@ -343,7 +343,7 @@ begun-joined before xs ys from to c z zc h k normal is e follows = record {
   apart = λ front rest x y f g meets. neighbours xs from to c y rest normal h k is g (subst (λ w. Meets w (arc_value y)) zc (follows front x f (arc_value y) meets));
 }
 
--- children i..until behind the nodes, where those begin with the children from..i
+-- children i..until after the nodes, where those begin with the children from..i
 pub tokens-run : (s t src : Chunks (Arc Node Global)) (i u : ℕ) → values_in (pairs_of t) ≡ values_in (pairs_of s) ++ part i u (values_in (pairs_of src)) → list_tokens (nodes_of t) ≡ list_tokens (nodes_of s) ++ list_tokens (part i u (nodes_of src))
 tokens-run s t src i u e =
     let ps = pairs_of s in

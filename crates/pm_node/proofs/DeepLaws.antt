@@ -21,7 +21,7 @@ unit-deep : (d u : ℕ) (m : Marks) (ts : List Token) → deepest d (CodeUnit u 
 unit-deep zero u m ts = refl
 unit-deep (suc d) u m ts = refl
 
--- behind whole nodes one is as deep as before
+-- after whole nodes one is as deep as before
 pub deep-append : (d : ℕ) {xs : List Token} → Balanced xs → (ys : List Token) → deepest d (xs ++ ys) ≡ max (deepest d xs) (deepest d ys)
 deep-append d none ys = let h = deep-low d ys in omega arith
 deep-append d (leaf k a m {ts = ts} b) ys = leaf-deep d k a m (ts ++ ys) ∙ (deep-append d b ys ∙ ap (λ n. max n (deepest d ys)) (sym (leaf-deep d k a m ts)))
@@ -56,7 +56,7 @@ pub deep-text : (m : Marks) (us : List ℕ) → deepest 0 (text_tokens m us) ≡
 deep-text m [] = refl
 deep-text m (u ∷ us) = deep-text m us
 
--- of the children from one on: that one, or one behind it
+-- of the children from one on: that one, or one after it
 pub deep-child : {Z : Type 0} (xs : List (Arc Node Z)) (i : ℕ) (n : Node) → Child xs i n → deepest 0 (rest xs i) ≡ max (deepest 0 (node_tokens n)) (deepest 0 (rest xs (i + 1)))
 deep-child xs i n c = ap (deepest 0) c.tokens ∙ deep-append 0 c.whole (rest xs (i + 1))
 

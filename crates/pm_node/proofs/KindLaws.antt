@@ -20,7 +20,7 @@ ends-body m k a n (Text (u ∷ us)) ts p f = f tt
 ends-body m k a n Childless ts p f = tt
 ends-body m k a n (Children inner) ts p f = tt
 
--- in normal form the nodes behind a text end it
+-- in normal form the nodes after a text end it
 pub ends-apart : {Z : Type 0} (x : Node) (xs : List (Arc Node Z)) → IsText x.body → Apart x xs → IsNormal xs → EndsText x.marks (list_tokens xs)
 ends-apart x [] t a n = tt
 ends-apart x (y ∷ ys) t a n =

@@ -29,14 +29,14 @@ last-closed : (r : Option Marks) (ts : List Token) → last_unit r (ts ++ (Close
 last-closed r [] = refl
 last-closed r (t ∷ ts) = last-closed (unit_of t) ts
 
--- no text goes on from a child into the children behind it
+-- no text goes on from a child into the children after it
 pub parts-body : (k : ℕ) (a : Attrs) (m : Marks) (b : Body) (ts : List Token) → 0 < length (body_tokens k a m b) → (IsText b → EndsText m ts) → PartsTexts (last_unit None (body_tokens k a m b)) ts
 parts-body k a m (Text us) ts p e = subst (λ r. PartsTexts r ts) (sym (last-text None m us p)) (e tt)
 parts-body k a m Childless ts p e = tt
 parts-body k a m (Children inner) ts p e = subst (λ r. PartsTexts r ts) (sym (last-closed None inner)) tt
 
 module _ {Z : Type 0} (xs : List (Arc Node Z)) (i : ℕ) (n : Node) (c : Child xs i n) where
-  -- the first broken unit from child i on is the child's, or one behind it
+  -- the first broken unit from child i on is the child's, or one after it
   pub broken-child : (at : ℕ) → first_broken at None (rest xs i) ≡ first_some (first_broken at None (node_tokens n)) (first_broken (at + length (node_tokens n)) None (rest xs (i + 1)))
   broken-child at =
       ap (first_broken at None) c.tokens ∙ broken-append at (node_tokens n) (rest xs (i + 1)) (parts-body n.kind n.attrs n.marks n.body (rest xs (i + 1)) c.full (λ t. ends-apart n _ t c.apart c.normal))
@@ -75,6 +75,6 @@ lone-inside w (u ∷ us) (suc i) h = omega (arith, lone-inside u us i h)
 pub lone-within : (us : List ℕ) (i : ℕ) → IsFirstLone us i → i < length us
 lone-within us i h = lone-inside 0 us i h.lone
 
--- the place of a lone unit of a text is no greater than that behind the text
+-- the place of a lone unit of a text is no greater than that after the text
 pub lone-room : (at : ℕ) (n : Node) (us : List ℕ) (i : ℕ) → n.body ≡ Text us → IsFirstLone us i → at + length (node_tokens n) ≤ 2 ^ 32 → at + i < 2 ^ 32
 lone-room at n us i is h room = omega (arith, room, lone-within us i h, ap length (node_tokens_at n (Text us) is), length-text_tokens n.marks us)

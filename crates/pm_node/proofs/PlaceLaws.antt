@@ -54,7 +54,7 @@ least-right : (at : ℕ) (o : Option ℕ) → AtLeast at o → least o (Some at)
 least-right at None h = ap Some (let e : at ≡ at + 0 = omega arith in e)
 least-right at (Some p) h = ap Some (let e : min p at ≡ at + 0 = omega (arith, h) in e)
 
--- one token, with what is behind it
+-- one token, with what is after it
 one : (a m k p : Bool) (at : ℕ) (place : Option ℕ) (broken fault : Option Fault) → AtLeast (at + 1) (place_in broken) → AtLeast (at + 1) (place_in fault)
     → moved (at + 1) place ≡ least (place_in broken) (place_in fault)
     → moved at (place_unless (a && m && k && p) place) ≡ least (place_in (cond p broken (Some (Pair at)))) (place_in (first_some (fault_unless a m k at) fault))

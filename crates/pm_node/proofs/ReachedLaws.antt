@@ -128,7 +128,7 @@ if-only ss ess xs ys k (Some r) e closed i h =
     let P : List ℕ → Type 0 = λ z. LeadTo ess k z r in
     only-state ss ess xs k r closed (subst P e h) i
 
--- the state behind types of which the last one leads to one state
+-- the state after types of which the last one leads to one state
 pub front-only : (ss : List PlaceSet) (ess : List (List Edge)) (front a : List ℕ) (k : ℕ) (o : Option ℕ) → front ≡ a ++ k ∷ [] → IfSome o (IsOnly ss ess k) → IfSome o (IsFront ss ess front)
 front-only ss ess front a k None e h = tt
 front-only ss ess front a k (Some s) e h = λ v w f.

@@ -12,7 +12,7 @@ use Rattle.pm_node.specs.Trees.{node_tokens, list_tokens, IsNormal, EachWhole}
 use Rattle.pm_node.proofs.TreeLaws.{list_tokens-append}
 use Rattle.pm_node.proofs.WalkLaws.{whole-node, normal-rest, each-rest}
 
--- a part is what comes before a place in it, and what comes behind
+-- a part is what comes before a place in it, and what comes after
 pub part-at : {A : Type 0} (f m t : ℕ) (xs : List A) → f ≤ m → m ≤ t → part f t xs ≡ part f m xs ++ part m t xs
 part-at f m t xs h k =
     let n : t - f ≡ (m - f) + (t - m) = omega (arith, h, k) in

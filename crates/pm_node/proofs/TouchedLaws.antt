@@ -1,4 +1,4 @@
--- Only what a change touches can get a fault: the children before and behind it stay as they were.
+-- Only what a change touches can get a fault: the children before and after it stay as they were.
 use Rattle.std.specs.Prelude.{◌≡◌, ℕ, ◌+◌, ◌-◌, ◌≤◌, ◌<◌, true, Option, Some, None, List, [], ◌∷◌, ◌++◌, length, take, drop}
 use Rattle.std.proofs.Common.{zero, suc, refl, ap, sym, ◌∙◌, subst, arith, append_assoc, length-append}
 use Rattle.std.proofs.lemmas.List.{take-append-drop, drop-append-le}
@@ -108,7 +108,7 @@ module _ {Z : Type 0} (xs : List (Arc Node Z)) (i j : ℕ) (order : i ≤ j) whe
   behind-is : drop (j - i) (drop i xs) ≡ drop j xs
   behind-is = drop-drop i (j - i) xs ∙ ap (λ k. drop k xs) (let e : i + (j - i) ≡ j = omega (arith, order) in e)
 
-  -- the tokens from child i on: those of the children i..j, and those behind
+  -- the tokens from child i on: those of the children i..j, and those after
   pub rest-parts : list_tokens (drop i xs) ≡ list_tokens (part i j xs) ++ list_tokens (drop j xs)
   rest-parts = list-parts (drop i xs) (j - i) ∙ ap (λ z. list_tokens (part i j xs) ++ list_tokens z) behind-is
 
@@ -120,7 +120,7 @@ pub part-within : {Z : Type 0} (xs : List (Arc Node Z)) (i j : ℕ) → i ≤ j 
 part-within xs i j order =
     omega (arith, list-lengths xs i, ap length (rest-parts xs i j order), length-append (list_tokens (part i j xs)) (list_tokens (drop j xs)))
 
--- the types of the children before i, of i..j, and of those behind
+-- the types of the children before i, of i..j, and of those after
 pub kinds-parts : {Z : Type 0} (text : ℕ) (xs : List (Arc Node Z)) (i j : ℕ) → i ≤ j → kinds text xs ≡ kinds text (take i xs) ++ (kinds text (part i j xs) ++ kinds text (drop j xs))
 kinds-parts text xs i j order =
     ap (kinds text) (sym (take-append-drop i xs))
@@ -131,7 +131,7 @@ kinds-parts text xs i j order =
 
 -- ---- what stays as it was
 
--- the same tokens stand before a change, and behind it
+-- the same tokens stand before a change, and after it
 pub same-front : (a u a' u' put back : List Token) (from : ℕ) → length a ≡ length a' → length a ≤ from → a' ++ u' ≡ take from (a ++ u) ++ (put ++ back) → a ≡ a'
 same-front a u a' u' put back from l before is =
     let k = from - length a in

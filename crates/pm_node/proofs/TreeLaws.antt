@@ -123,7 +123,7 @@ pub no-more-nodes : {Z : Type 0} (xs : List (Arc Node Z)) → IsNormal xs → le
 no-more-nodes [] n = omega arith
 no-more-nodes (x ∷ xs) n = omega (arith, n.0, no-more-nodes xs n.2, length-append (node_tokens (arc_value x)) (list_tokens xs))
 
--- ---- nodes put behind others
+-- ---- nodes put after others
 
 pub normal-append : {Z : Type 0} (xs ys : List (Arc Node Z)) → IsNormal xs → IsNormal ys → ((x : Arc Node Z) (rest : List (Arc Node Z)) → ys ≡ x ∷ rest → ¬ IsText (arc_value x).body) → IsNormal (xs ++ ys)
 normal-append [] ys n m h = m

@@ -1,4 +1,4 @@
--- A walk over the children of a fragment: the tokens of those behind it, of the child it looks at, and of the rest.
+-- A walk over the children of a fragment: the tokens of those after it, of the child it looks at, and of the rest.
 use Rattle.std.specs.Prelude.{◌≡◌, ℕ, ◌+◌, ◌-◌, ◌≤◌, ◌<◌, List, [], ◌∷◌, ◌++◌, length, take, drop, get_or}
 use Rattle.std.specs.declared.sync.Arc.{Arc}
 use Rattle.std.specs.Arc.{arc_value}
@@ -87,7 +87,7 @@ rest-end xs i h = ap list_tokens (drop_all i xs h)
 pub rest-length : {Z : Type 0} {xs : List (Arc Node Z)} {i : ℕ} {n : Node} → Child xs i n → length (rest xs i) ≡ length (node_tokens n) + length (rest xs (i + 1))
 rest-length {xs = xs} {i = i} {n = n} c = ap length c.tokens ∙ length-append (node_tokens n) (rest xs (i + 1))
 
--- one more child is behind the position
+-- one more child is after the position
 pub stands-more : {Z : Type 0} (xs : List (Arc Node Z)) (i rest p : ℕ) (x : Arc Node Z) (size : ℕ) → length (front xs i) + rest ≡ p → i < length xs → x ≡ get_or xs i x → size ≡ length (node_tokens (arc_value x)) → size ≤ rest
     → length (front xs (i + 1)) + (rest - size) ≡ p
 stands-more xs i rest p x size e h r s l = omega (arith, e, s, l, ap length (front-more xs i x h r), length-append (front xs i) (node_tokens (arc_value x)))

@@ -5,7 +5,7 @@ use Rattle.std.specs.Arc.{arc_value}
 use Rattle.pm_node.specs.declared.node.Node.{Node}
 use Rattle.pm_node.specs.Trees.{node_tokens, list_tokens}
 
--- A position stands behind `index` children, which end at or before it, and `rest` tokens into the next one, where there
+-- A position stands after `index` children, which end at or before it, and `rest` tokens into the next one, where there
 -- is one.
 pub record Stands {Z : Type 0} (xs : List (Arc Node Z)) (pos index rest : ℕ) : Type 0 where
   pub within : index ≤ length xs

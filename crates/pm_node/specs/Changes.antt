@@ -37,7 +37,7 @@ pub record IsPlace {Z : Type 0} (xs : List (Arc Node Z)) (i at : ℕ) : Type 0 w
   pub within : i < length xs
   pub before : at ≡ length (list_tokens (take i xs))
 
--- both ends are within their sizes, with as many tokens behind them
+-- both ends are within their sizes, with as many tokens after them
 pub record IsSameBehind (size to new_size new_to : ℕ) : Type 0 where
   pub within : to ≤ size
   pub new_within : new_to ≤ new_size

@@ -5,7 +5,7 @@ use Rattle.pm_tokens.specs.Faults.{Fault, BadContent, BadMarks, BadAttrs}
 use Rattle.pm_node.specs.declared.fault.CheckError.{CheckError}
 use Rattle.pm_node.specs.declared.fault.CheckError.TheVariants.{Content, Marks, Attrs, Deep, Large, Pair, NoMemory}
 
--- the error is this fault; want of memory may come with any
+-- the error is this fault; running out of memory may come with any
 abbrev pub Tells : CheckError → Option Fault → Type 0
 Tells (Content at) fault = fault ≡ Some (BadContent at)
 Tells (Marks at) fault = fault ≡ Some (BadMarks at)

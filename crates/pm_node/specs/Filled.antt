@@ -39,12 +39,12 @@ leaf_tokens s k = Leaf k (defaults (node_at s k).attrs) [] ∷ []
 abbrev pub around : SchemaSpec → ℕ → List Token → List Token
 around s k ts = Open k (defaults (node_at s k).attrs) [] ∷ (ts ++ (Close ∷ []))
 
--- one behind the other, if both are there
+-- one after the other, if both are there
 abbrev pub both : Option (List Token) → Option (List Token) → Option (List Token)
 both None o = None
 both (Some ts) o = option_map (λ us. ts ++ us) o
 
--- one behind another, if all are there
+-- one after another, if all are there
 abbrev pub joined : List (Option (List Token)) → Option (List Token)
 joined [] = Some []
 joined (o ∷ os) = both o (joined os)
@@ -71,8 +71,8 @@ pub record TooLarge (s : Schema) (k : ℕ) : Type 0 where
   pub filling : Filling s k (Some tokens)
   pub large : max_size (documents_of s.spec) < length tokens
 
--- Why there is no filled node: the type can't be made; else it nests too deep; else it is too large; want of memory at any
--- time.
+-- Why there is no filled node: the type can't be made; else it nests too deep; else it is too large; running out of memory
+-- at any time.
 abbrev pub IsFillFault : Schema → ℕ → FillError → Type 0
 IsFillFault s k NotGeneratable = can_be_made (node_at s.spec k) ≡ false
 IsFillFault s k Deep = CanBeMade s k × Filling s k None

@@ -14,7 +14,7 @@ pub record IsAmong (xs : List ℕ) (t : ℕ) : Type 0 where
 abbrev pub AreBelow : ℕ → List ℕ → Type 0
 AreBelow n xs = (j : ℕ) → j < length xs → get_or xs j 0 < n
 
--- the states ys are xs, and maybe others behind them
+-- the states ys are xs, and maybe others after them
 abbrev pub Continue : List ℕ → List ℕ → Type 0
 Continue xs ys = (j : ℕ) → j < length xs → (j < length ys) × (get_or ys j 0 ≡ get_or xs j 0)
 
@@ -26,10 +26,10 @@ LeadInto edges s xs = (k t : ℕ) → target k (edges_at edges s) ≡ Some t →
 abbrev pub LeadTo : List (List Edge) → ℕ → List ℕ → ℕ → Type 0
 LeadTo edges k xs r = (j t : ℕ) → j < length xs → target k (edges_at edges (get_or xs j 0)) ≡ Some t → t ≡ r
 
--- behind types that may stand first, of which the last is k, only the state r may be
+-- after types that may stand first, of which the last is k, only the state r may be
 abbrev pub IsOnly : List PlaceSet → List (List Edge) → ℕ → ℕ → Type 0
 IsOnly sets edges k r = (a v w : List ℕ) → accepted sets edges 0 (a ++ k ∷ v) ≡ true → accepted sets edges 0 (a ++ k ∷ w) ≡ accepted sets edges r w
 
--- behind these types, where they may stand first, is the state s
+-- after these types, where they may stand first, is the state s
 abbrev pub IsFront : List PlaceSet → List (List Edge) → List ℕ → ℕ → Type 0
 IsFront sets edges front s = (v w : List ℕ) → accepted sets edges 0 (front ++ v) ≡ true → accepted sets edges 0 (front ++ w) ≡ accepted sets edges s w

@@ -1,4 +1,4 @@
--- The children that a change touches, and those before and behind them, which stay as they were.
+-- The children that a change touches, and those before and after them, which stay as they were.
 use Rattle.std.specs.Prelude.{◌≡◌, ◌≤◌, ℕ, true, None, List, ◌∷◌, ◌++◌, length, take, drop}
 use Rattle.std.specs.declared.sync.Arc.{Arc}
 use Rattle.pm_tokens.specs.Tokens.{Token}
@@ -19,7 +19,7 @@ pub record Sound (s : Schema) (kind levels : ℕ) (ts : List Token) : Type 0 whe
   pub unbroken : (at : ℕ) → first_broken at None ts ≡ None
   pub shallow : deepest 0 ts ≤ levels
 
--- the children from i on begin at the place `at`, which is `pos` or behind it
+-- the children from i on begin at the place `at`, which is `pos` or after it
 pub record IsStart {Z : Type 0} (xs : List (Arc Node Z)) (pos i at : ℕ) : Type 0 where
   pub within : i ≤ length xs
   pub place : at ≡ length (list_tokens (take i xs))
@@ -33,14 +33,14 @@ pub record SameFront {Z : Type 0} (xs ys : List (Arc Node Z)) (pos i j : ℕ) : 
   pub before : length (list_tokens (take i xs)) ≤ pos
 
 -- the children from i on of the one list and those from j on of the other have as many tokens, and the former begin at `pos` or
--- behind it
+-- after it
 pub record SameBack {Z : Type 0} (xs ys : List (Arc Node Z)) (pos i j : ℕ) : Type 0 where
   pub within : i ≤ length xs
   pub new_within : j ≤ length ys
   pub same : length (list_tokens (drop i xs)) ≡ length (list_tokens (drop j ys))
   pub behind : pos ≤ length (list_tokens (take i xs))
 
--- before the touched children, and behind them, both lists have as many tokens, none of them from..to
+-- before the touched children, and after them, both lists have as many tokens, none of them from..to
 pub record IsTouched {Z : Type 0} (xs ys : List (Arc Node Z)) (t : Touched) (from to : ℕ) : Type 0 where
   pub front : SameFront xs ys from t.from t.new_from
   pub back : SameBack xs ys to t.to t.new_to

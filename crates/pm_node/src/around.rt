@@ -104,7 +104,7 @@ fn node_stays_valid(
     }
 }
 
-/// Whether both ends are within their sizes, with as many tokens behind them.
+/// Whether both ends are within their sizes, with as many tokens after them.
 fn same_behind(size: usize, to: usize, new_size: usize, new_to: usize) -> bool
     ensures { IsTrue result → IsSameBehind size to new_size new_to }
 {

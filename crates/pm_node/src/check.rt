@@ -26,8 +26,9 @@ use std::alloc::Global;
 pub const MAX_DEPTH: usize = 48;
 
 impl Document {
-    /// The first fault of the document: its size, which the schema limits, its depth, a broken unit, and then the least place with a fault of
-    /// attributes, marks or children, at one place in this order.
+    /// The first fault of the document: its size, which the schema limits, its depth, a broken unit, and then the least place with
+    /// a fault of attributes, marks or children, at one place in this order.
+    /// ProseMirror: `Node.check`.
     pub fn check(&self, alloc: Global, schema: &Schema) -> Result<(), CheckError>
         ensures first { Checks result (fault (documents_of schema.now.spec) self.now) }
         ensures valid { OnOk result (Valid (documents_of schema.now.spec) self.now) }

@@ -11,7 +11,7 @@ use std::alloc::{AllocError, Global};
 use std::sync::Arc;
 
 /// Joins a text with the last node, where that is a text of equal marks: `true`. `false` says that the two don't meet, and
-/// then nothing changes. For want of memory the nodes stay as they were.
+/// then nothing changes. Out of memory, the nodes stay as they were.
 pub(crate) fn join_last(
     alloc: Global,
     nodes: &mut Chunks<Arc<Node, Global>>,
@@ -43,7 +43,7 @@ pub(crate) fn join_last(
 }
 
 /// Joins the first of the children from..to with the last node, where both are texts of equal marks. It answers the number
-/// of the first child that is still to be put behind. For want of memory the nodes stay as they were.
+/// of the first child that is still to be put after. Out of memory, the nodes stay as they were.
 pub(crate) fn join_first(
     alloc: Global,
     nodes: &mut Chunks<Arc<Node, Global>>,

@@ -35,7 +35,7 @@ impl Model for Document {
 
 impl Document {
     /// The document with this top node. A text has its units as its content, and a leaf has none. A text of 2^32 units or
-    /// more has no room in a document, which is answered as want of memory.
+    /// more has no room in a document, which is answered as running out of memory.
     pub fn new(alloc: Global, top: Node) -> Result<Document, AllocError>
         ensures { IfOk result (λ d. d ≡ doc_of top) }
     {

@@ -58,6 +58,7 @@ impl<T: Drop> From<AllocFailed<T>> for FillError {
 /// that of texts or has an attribute without default; else `Deep` exactly where the node would nest more than 48 levels
 /// below itself, or without end, where a leaf is no level; else `Large` exactly where it would have more tokens than the
 /// schema allows a document, its own open and close among them.
+/// ProseMirror: `NodeType.createAndFill`, whose list need not be the shortest.
 pub fn make_filled(alloc: Global, schema: &Schema, kind: TypeId) -> Result<Node, FillError>
     requires { kind < length schema.now.spec.nodes }
     ensures filled { IfOk result (λ n. Filling schema.now kind (Some (node_tokens n))) }
@@ -195,7 +196,7 @@ fn next_size(
     }
 }
 
-/// The size of nodes of the types, one behind another.
+/// The size of nodes of the types, one after another.
 fn content_size(schema: &Schema, sizes: &[Option<usize>], kinds: &[TypeId]) -> Option<usize>
     requires { all_can schema.now.generatable kinds.now ≡ true }
     ensures { (fills : List (List ℕ)) (n : ℕ) → Sizes schema.now.spec fills n sizes.now → result ≡ measured (joined (map (filled_tokens schema.now.spec fills n) kinds.now)) }
@@ -265,7 +266,7 @@ fn filled_node(
     })
 }
 
-/// Filled nodes of the types, one behind another.
+/// Filled nodes of the types, one after another.
 #[cycle(filled)]
 fn filled_content(
     alloc: Global,

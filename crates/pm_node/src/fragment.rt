@@ -87,7 +87,7 @@ impl Fragment {
         })
     }
 
-    /// Puts the children from..to of another fragment behind the last node. They are shared with it, whole chunks at once
+    /// Puts the children from..to of another fragment after the last node. They are shared with it, whole chunks at once
     /// but for those at the two ends. A text is joined with a text of equal marks before it. After an error the fragment may hold some
     /// of them.
     pub fn append(

@@ -16,6 +16,7 @@ use std::marker::Model;
 use std::sync::Arc;
 
 /// A node: its type, attributes and marks, and what it holds.
+/// ProseMirror: `Node`.
 #[cycle(tree)]
 #[derive(Drop)]
 pub struct Node {
@@ -36,6 +37,7 @@ pub enum Body {
 
 /// Nodes in normal form: no text is empty, and neighbouring texts have different marks. A contract sees their tokens, at
 /// most 2^32 - 1 of them. Nodes are shared, and so are chunks of neighbours, so that a copy copies none and a change few.
+/// ProseMirror: `Fragment`.
 #[cycle(tree)]
 #[derive(Drop)]
 pub struct Fragment {
@@ -111,8 +113,8 @@ impl Fragment {
         Children::new(&self.nodes)
     }
 
-    /// Puts a node behind the last one. A text is joined with a text of equal marks before it, and an empty text is let
-    /// go. For want of memory the fragment stays as it was.
+    /// Appends a node. A text is joined with a text of equal marks before it, and an empty text is let
+    /// go. Out of memory, the fragment stays as it was.
     pub fn push(&mut self, alloc: Global, node: Arc<Node, Global>) -> Result<(), AllocError>
         requires { length self.old + length (node_tokens (arc_value node)) < 2 ^ 32 }
         ensures ok { OnOk result (self.new ≡ self.old ++ node_tokens (arc_value node)) }

@@ -32,7 +32,7 @@ pub(crate) fn only_state(
     Ok(agreed(automaton, kind, &found))
 }
 
-/// Puts the states to which a state's edges lead behind those that were found.
+/// Puts the states to which a state's edges lead after those that were found.
 fn add_targets(automaton: &Auto, state: State, found: &mut Vec<State>) -> Result<(), AllocError>
     requires state { state < length automaton.now.sets }
     requires below { AreBelow (length automaton.now.sets) found.old.items }
@@ -48,7 +48,7 @@ fn add_targets(automaton: &Auto, state: State, found: &mut Vec<State>) -> Result
     Ok(())
 }
 
-/// Puts a state behind those that were found, unless it is one of them.
+/// Puts a state after those that were found, unless it is one of them.
 fn add(found: &mut Vec<State>, state: State) -> Result<(), AllocError>
     ensures on { OnOk result (Continue found.old.items found.new.items) }
     ensures among { OnOk result (IsAmong found.new.items state) }

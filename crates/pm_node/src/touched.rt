@@ -16,7 +16,7 @@ use pm_auto::TypeId;
 use pm_schema::Schema;
 use std::alloc::{AllocError, Global};
 
-/// The children that a change touches: from..to of the one list, and new_from..new_to of the other. Before and behind them the
+/// The children that a change touches: from..to of the one list, and new_from..new_to of the other. Before and after them the
 /// lists are the same.
 #[derive(Clone, Copy, Drop)]
 pub(crate) struct Touched {
@@ -57,7 +57,7 @@ pub(crate) fn content_stays(
     Ok(is_sound(alloc, schema, kind, &inner, levels))
 }
 
-/// Whether the nodes have no fault, as children of a node of the type. Want of memory counts as a fault.
+/// Whether the nodes have no fault, as children of a node of the type. Running out of memory counts as a fault.
 fn is_sound(alloc: Global, schema: &Schema, kind: TypeId, content: &Fragment, levels: usize) -> bool
     requires { kind < length schema.now.spec.nodes }
     ensures { IsTrue result → Sound (documents_of schema.now.spec) kind levels content.now }
@@ -125,7 +125,7 @@ fn front_at(old: &Children<'_>, new: &Children<'_>, pos: usize) -> Option<(usize
     }
 }
 
-/// The first child of each list that stands behind two positions from which on both are the same. The child that begins there
+/// The first child of each list that stands after two positions from which on both are the same. The child that begins there
 /// is left out where it may have grown.
 fn back(old: &Children<'_>, new: &Children<'_>, to: usize, new_to: usize) -> Option<(usize, usize)>
     ensures { IfSome result (λ p. SameBack old.now new.now to p.0 p.1) }
@@ -141,7 +141,7 @@ fn back(old: &Children<'_>, new: &Children<'_>, to: usize, new_to: usize) -> Opt
     }
 }
 
-/// The same, where the first children behind the positions begin with as many tokens left.
+/// The same, where the first children after the positions begin with as many tokens left.
 fn back_at(
     old: &Children<'_>,
     new: &Children<'_>,
@@ -159,7 +159,7 @@ fn back_at(
     }
 }
 
-/// The first child that begins at a position or behind it, and where it begins.
+/// The first child that begins at a position or after it, and where it begins.
 fn next_start(children: &Children<'_>, pos: usize) -> Option<(usize, usize)>
     ensures { IfSome result (λ p. IsStart children.now pos p.0 p.1) }
 {

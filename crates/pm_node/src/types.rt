@@ -85,11 +85,11 @@ pub(crate) fn ends_alike(
     automaton.valid_end(right)
 }
 
-/// How many children may stand in front of a change and be gone through.
+/// How many children may stand before a change and be gone through.
 const FAR: usize = 64;
 
-/// The state behind the first `upto` children. Where they are many, it looks at the last one alone, if its type leads to one state
-/// whatever stands before it, as in most schemas; else at all of them.
+/// The state after the first `upto` children. Where they are many, it looks at the last one alone, if its type leads to one
+/// state whatever stands before it, as in most schemas; else at all of them.
 fn front_state(
     alloc: Global,
     automaton: &Auto,
@@ -111,7 +111,8 @@ fn front_state(
 }
 
 /// Whether the types of the new children lead to a valid end if those of the old ones do, where the lists differ in the touched
-/// children alone. Before them it looks at no more than it has to, at the touched ones, and behind them at no more than it has to.
+/// children alone. Before them it looks at no more than it has to, at the touched ones, and after them at no more than it
+/// has to.
 pub(crate) fn types_fit(
     alloc: Global,
     automaton: &Auto,

@@ -107,7 +107,7 @@ map-get g [] i d e l = absurd (omega arith)
 map-get g (x ∷ xs) zero d e l = (omega arith, refl)
 map-get g (x ∷ xs) (suc i) d e l = let r = map-get g xs i d e (omega arith) in let k : i < length xs = r.0 in (omega (arith, k), r.1)
 
--- behind a list that leads to a state, what is accepted is accepted from there
+-- after a list that leads to a state, what is accepted is accepted from there
 led-onward : (ss : List PlaceSet) (ess : List (List Edge)) (w v : List ℕ) (i t : ℕ) → led_to ess i w ≡ Some t → accepted ss ess i (w ++ v) ≡ accepted ss ess t v
 led-onward ss ess [] v i t h = let e : i ≡ t = cc in ap (λ j. accepted ss ess j v) e
 led-onward ss ess (k ∷ w) v i t h = at (target k (edges_at ess i)) h (λ j. led-onward ss ess w v j t)

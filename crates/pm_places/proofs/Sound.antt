@@ -15,7 +15,7 @@ Lives (Alt a b) = Lives a ⊎ Lives b
 Lives (Cat a b) = Lives a × Lives b
 Lives (Loop a) = Lives a
 
--- what stands behind another part has a list
+-- what stands after another part has a list
 abbrev pub Goes_on : Core → Type 0
 Goes_on Never = Unit {0}
 Goes_on Empty = Unit {0}
@@ -84,7 +84,7 @@ trim-lives (Cat a b) h = at (has_list a && has_list b) h (trim-lives a n.0) (tri
     at false e f g = absurd (cc)
 trim-lives (Loop a) h = trim-lives a h
 
--- behind each part of what is left of an expansion a list goes on
+-- after each part of what is left of an expansion a list goes on
 pub trim-goes : (e : Core) → Goes_on (trim e)
 trim-goes Never = tt
 trim-goes Empty = tt

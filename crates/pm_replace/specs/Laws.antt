@@ -45,7 +45,7 @@ PutsBack s =
     → outcome s (Replace from (from + slice_size sl) (cut d.tokens from to) false) next ≡ Ok d
 
 -- Where a replaceAround applies, the one step that undoes it applies right after it, and gives the document back: it puts what
--- was cut out before and behind the gap back around the gap, in place of what was put in there.
+-- was cut out before and after the gap back around the gap, in place of what was put in there.
 abbrev pub AroundPutsBack : Schema → Type 0
 AroundPutsBack s =
     (d next : Doc) (from to gap_from gap_to : ℕ) (sl : Slice) (insert : ℕ) (structure : Bool)

@@ -12,7 +12,7 @@ use Rattle.pm_meaning.specs.declared.reason.Reason.{Reason}
 use Rattle.pm_meaning.specs.declared.reason.Reason.TheVariants as reason
 use Rattle.pm_meaning.specs.Outcomes.{unless, checked}
 
--- the list joins and these are its tokens, or it does not join; want of memory may come with any
+-- the list joins and these are its tokens, or it does not join; running out of memory may come with any
 abbrev pub Splices : (ℕ → ℕ → Bool) → List Owned → Result (List Token) Refused → Type 0
 Splices c piece r = MatchResult r (λ ts. (joins c [] piece ≡ true) × (ts ≡ plain piece)) (ForJoin (joins c [] piece ≡ false))
 

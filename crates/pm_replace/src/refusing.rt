@@ -6,8 +6,8 @@ use pm_build::Refused;
 use pm_change::Failed;
 use pm_meaning::Reason;
 
-/// What a builder's refusal means for a step: Join where a close met no open node of a compatible type, else want of memory.
-/// It takes no memory.
+/// What a builder's refusal means for a step: Join where a close met no open node of a compatible type, else running out of
+/// memory. It takes no memory.
 pub fn failed(refused: Refused) -> Failed<Reason>
     ensures { result ≡ failed_of refused }
 {

@@ -22,12 +22,18 @@ use pm_schema::Schema;
 use pm_slice::Slice;
 use std::alloc::Global;
 
-/// The document with the range from..to replaced by the slice, or the first reason why not. Positions are in tokens. A
-/// joined node keeps the left type, attributes and marks. The reasons come in this order. Range: not
-/// from <= to <= size. Depth: the open sides don't fit the depths of from and to. Pair: from or to parts a surrogate pair.
-/// Join: an open node meets a close whose owner's type isn't compatible with its own. Large, Deep and Content: the result
-/// has too many tokens, nests too deep, or has a fault, of which the least place is named. NotInSchema: a node that is open at
-/// the slice's start has a type, attributes or marks that are none of the schema.
+/// The document with the range from..to replaced by the slice. Positions are in tokens. A joined node keeps the left type,
+/// attributes and marks. ProseMirror: `Node.replace`.
+///
+/// # Errors
+///
+/// The first reason why not, in this order.
+/// - `Range`: not from <= to <= size.
+/// - `Depth`: the open sides don't fit the depths of from and to.
+/// - `Pair`: from or to parts a surrogate pair.
+/// - `Join`: an open node meets a close whose owner's type isn't compatible with its own.
+/// - `Large`, `Deep`, `Content`: the result has too many tokens, nests too deep, or has a fault, of which the least place is named.
+/// - `NotInSchema`: a node that is open at the slice's start has a type, attributes or marks that are none of the schema.
 pub fn replace(
     alloc: Global,
     schema: &Schema,

@@ -1,4 +1,4 @@
-//! The tokens before a range, those of a slice, and those behind the range.
+//! The tokens before a range, those of a slice, and those after the range.
 ghost use Rattle.std.specs.Prelude.{◌≡◌, ◌+◌, ◌-◌, ◌<◌, ◌≤◌, ◌^◌, true, length};
 ghost use Rattle.pm_tokens.specs.Schemas.{compatible};
 ghost use Rattle.pm_tokens.specs.Slices.{slice_size, spliced, depths_fit};

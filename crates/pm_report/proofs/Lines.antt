@@ -1,4 +1,4 @@
--- Words and a document that are put behind a text make a line.
+-- Words and a document that are put after a text make a line.
 use Rattle.std.proofs.Common.{◌≡◌, ℕ, List, [], ◌∷◌, ◌++◌, ap, sym, ◌∙◌, append_assoc}
 use Rattle.std.specs.Prelude.{codes, Result, Ok, Err, OnOk}
 use Rattle.pm_report.specs.Words.{◌&◌, line}

@@ -40,7 +40,7 @@ pub fn with_numbers(
     Ok(told)
 }
 
-/// Puts the number of each outcome's line and what it says behind the text.
+/// Appends the number of each outcome's line and what it says to the text.
 pub(crate) fn push_outcomes(text: &mut String, outcomes: &[Numbered]) -> Result<(), AllocError>
     ensures { OnOk result (string_bytes text.new ≡ string_bytes text.old ++ outcome_lines outcomes.now) }
 {

@@ -102,7 +102,7 @@ fn push_head(text: &mut String, word: &str, name: &str, version: u64) -> Result<
     write!(text, "{word} {name} {version}")
 }
 
-/// Puts a line for each editor behind the text: its name, version, dropped serials and cursors' positions.
+/// Appends a line for each editor to the text: its name, version, dropped serials and cursors' positions.
 pub(crate) fn push_settled(
     alloc: Global,
     text: &mut String,

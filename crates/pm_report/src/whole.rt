@@ -51,7 +51,7 @@ fn room_for(outcomes: usize, steps: usize) -> usize {
     told.saturating_add(log)
 }
 
-/// Puts the length of the log and its entries, counted from 1, behind the text.
+/// Appends the length of the log and its entries, counted from 1, to the text.
 fn push_log(
     alloc: Global,
     schema: &Schema,
@@ -113,7 +113,7 @@ fn push_words(
     write!(text, "{place} {name} {serial} {step}\n")
 }
 
-/// Puts the authority's document behind the text.
+/// Appends the authority's document to the text.
 fn push_final(
     alloc: Global,
     schema: &Schema,

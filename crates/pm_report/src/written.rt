@@ -10,7 +10,7 @@ use pm_authority::Named;
 use pm_client::Cursor;
 use std::alloc::{AllocError, Global};
 
-/// Puts a blank and the serials of steps, as a list, behind the text.
+/// Appends a blank and the serials of steps, as a list, to the text.
 pub(crate) fn push_serials(
     alloc: Global,
     text: &mut String,
@@ -29,7 +29,7 @@ fn serials_of<C>(alloc: Global, steps: &[Named<C>]) -> Result<Vec<u64>, AllocErr
     steps.iter().map(|step| step.name.serial).collect(alloc)
 }
 
-/// Puts a blank and the positions of cursors, as a list, behind the text.
+/// Appends a blank and the positions of cursors, as a list, to the text.
 pub(crate) fn push_cursors(
     alloc: Global,
     text: &mut String,
@@ -47,7 +47,7 @@ fn places_of(alloc: Global, cursors: &[Cursor]) -> Result<Vec<u64>, AllocError>
     cursors.iter().map(|cursor| cursor.pos).collect(alloc)
 }
 
-/// Puts a blank and numbers, as a list, behind the text.
+/// Appends a blank and numbers, as a list, to the text.
 pub(crate) fn push_numbers(text: &mut String, numbers: &[u64]) -> Result<(), AllocError>
     ensures { OnOk result (string_bytes text.new ≡ string_bytes text.old & list_text numbers.now) }
 {

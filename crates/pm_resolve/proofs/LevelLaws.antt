@@ -72,7 +72,7 @@ module _ {pos at inside : ℕ} {n m : Node} (e : Enters pos at n inside m) where
   pub open-here : slice_index (opens_at (content_of n) (pos - at)) 0 ≡ length e.front
   open-here = ap (λ z. slice_index z 0) opens-down
 
-  -- the child, and what is behind it, from its open on
+  -- the child, and what is after it, from its open on
   from-here : (post : List Token) → drop (length e.front) (content_of n ++ post) ≡ Open m.kind m.attrs m.marks ∷ (e.inner ++ (Close ∷ (e.rest ++ post)))
   from-here post =
       let y = Open m.kind m.attrs m.marks ∷ (e.inner ++ (Close ∷ e.rest)) in
@@ -169,7 +169,7 @@ held-before q l ls a = rw (lt-leb l.start q a) refl
 held-behind : (q : ℕ) (l : Level) (ls : List Level) → l.start + length (content_of l.node.now) < q → held q (l ∷ ls) ≡ 0
 held-behind q l ls a = ap (λ b. cond (nat_le l.start q && b) (suc (held q ls)) 0) (lt-leb q (l.start + length (content_of l.node.now)) a) ∙ ap (λ b. cond b (suc (held q ls)) 0) (and-right (nat_le l.start q))
 
--- the levels behind the first, and one of them
+-- the levels after the first, and one of them
 pub behind-first : (ls : List Level) → take (length ls - 1) (drop 1 ls) ≡ drop 1 ls
 behind-first ls = take_all (length ls - 1) (drop 1 ls) (omega (arith, length-drop 1 ls))
 

@@ -122,7 +122,7 @@ module _ {Z : Type 0} (inclusive : ℕ → Bool) (xs : List (Arc Node Z)) (pos i
     y-last : last_of None xs i ≡ Some (node_tokens (arc_value y))
     y-last = ap (last_of None xs) ij ∙ last-is None xs j y has-y e
 
-    -- behind the last child
+    -- after the last child
     pub marks-last : i ≡ length xs → going_on inclusive [] (arc_value y).marks ≡ marks_beside inclusive (beside None pos (children (list_tokens xs)))
     marks-last h =
         sym (ap (marks_beside inclusive) (stood ∙ (ap (beside (last_of None xs i) r) (none-next h) ∙ ap (λ o. Between o None) y-last)) ∙ ap (going_on inclusive []) y-marks)

@@ -1,4 +1,4 @@
--- The places of the opens around a position: behind whole nodes, and in a node's content.
+-- The places of the opens around a position: after whole nodes, and in a node's content.
 use Rattle.std.specs.Prelude.{◌≡◌, ℕ, suc, ◌+◌, ◌-◌, ◌≤◌, ◌<◌, ◌==◌, Bool, true, false, cond, List, [], ◌∷◌, ◌++◌, length, take, drop, map, reverse}
 use Rattle.std.specs.List.{list_any, filter, AllByRecursion}
 use Rattle.std.proofs.Common.{refl, ap, sym, ◌∙◌, subst, arith, append_assoc, length-append, length-take, inl, inr}
@@ -95,7 +95,7 @@ none-from : (n : ℕ) (ps qs : List ℕ) → AllBelow n ps → AllFrom n qs → 
 none-from n [] qs h k = refl
 none-from n (p ∷ ps) qs h k = ap (λ b. cond b (p ∷ filter (is_in qs) ps) (filter (is_in qs) ps)) (not-in-from n p qs h.0 k) ∙ none-from n ps qs h.1 k
 
--- ---- places in common, behind one more open
+-- ---- places in common, after one more open
 
 -- places of a content, counted from the start of the one around it, and its open before them
 abbrev pub lifted : ℕ → List ℕ → List ℕ
@@ -172,7 +172,7 @@ module _ (front inner rest : List Token) (k : ℕ) (a : Attrs) (m : Marks) (fb :
   shared-in p q p' q' e h e' h' =
       ap (λ z. length (filter (is_in (open_at all p')) z)) (open-in p q e h) ∙ (ap (λ z. length (filter (is_in z) (lifted (length front) (open_at inner q)))) (open-in p' q' e' h') ∙ in-common (length front) (open_at inner q') (open_at inner q))
 
-  -- with a position before the content, or behind it, one in the content shares nothing
+  -- with a position before the content, or after it, one in the content shares nothing
   pub shared-before : (p q p' : ℕ) → p ≡ length front + suc q → q ≤ length inner → p' ≤ length front → shared_depth all p p' ≡ 0
   shared-before p q p' e h l =
       let ps : AllFrom (length front) (open_at all p) = subst (AllFrom (length front)) (sym (open-in p q e h)) (lifted-from (length front) (open_at inner q)) in

@@ -66,7 +66,7 @@ pub record Path (d : Doc) (pos : ℕ) (ls : List Level) : Type 0 where
   pub within : pos ≤ length d.tokens
   pub nested : Nested pos 0 top ls
 
--- the levels of the node n and of the nodes in it were put behind those that were there
+-- the levels of the node n and of the nodes in it were put after those that were there
 pub record Entered (pos at : ℕ) (n : Node) (old new : List Level) : Type 0 where
   pub more : List Level
   pub items : new ≡ old ++ more

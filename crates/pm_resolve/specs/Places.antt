@@ -43,7 +43,7 @@ abbrev pub node_around : Doc → ℕ → ℕ → Doc
 node_around d p zero = d
 node_around d p (suc n) = first_node d (drop (slice_index (opens_at d.tokens p) n) d.tokens)
 
--- the position at the start of its content, right behind its open
+-- the position at the start of its content, right after its open
 abbrev pub start_at : Doc → ℕ → ℕ → ℕ
 start_at d p zero = 0
 start_at d p (suc n) = suc (slice_index (opens_at d.tokens p) n)

@@ -4,8 +4,9 @@
 //! `index`, `shared_depth`, `marks`.
 //!
 //! Proved: `OutOfRange` comes exactly where the position passes the content. Each answer of a `Place` is read off the
-//! document's tokens by an exact clause. `resolve_counted` answers as `resolve`, and where it answers Ok it takes at
-//! most the sum of the bounds of `find_counted` over the nodes around the position.
+//! document's tokens by an exact clause. `resolve_counted` answers as `resolve`. It takes at most the sum of the
+//! bounds of `find_counted` over the nodes around the position (`most`), also where memory runs out, and no step where the
+//! position passes the content.
 #![tactic(auto)]
 
 mod fault;

@@ -17,6 +17,7 @@ use std::marker::Model;
 
 /// A position of a document with the nodes around it. A contract sees the document and the position. Depth 0 is that of the
 /// top node.
+/// ProseMirror: `ResolvedPos`.
 #[derive(Drop)]
 pub struct Place<'a> {
     doc: &'a Document,
@@ -89,6 +90,7 @@ impl<'a> Place<'a> {
     }
 
     /// How many nodes are around both the place and another position, the top node not counted. It takes no memory.
+    /// ProseMirror: `ResolvedPos.sharedDepth`.
     pub fn shared_depth(&self, pos: usize) -> usize
         requires { pos ≤ length self.now.doc.tokens }
         ensures { result ≡ shared_depth self.now.doc.tokens self.now.pos pos }
@@ -105,6 +107,7 @@ impl<'a> Place<'a> {
     /// The marks of a text that is put in at the place. In an empty parent there are none. Inside a text they are that
     /// text's. Else they are those of the node before, or of the node after where none is before, without marks whose type
     /// is not inclusive and which the other neighbour lacks.
+    /// ProseMirror: `ResolvedPos.marks`.
     pub fn marks(&self, alloc: Global, schema: &Schema) -> Result<MarkSet<Attrs>, AllocError>
         ensures { IfOk result (λ m. m ≡ marks_at (inclusive_in schema.now.spec) self.now.doc self.now.pos) }
     {

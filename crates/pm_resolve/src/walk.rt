@@ -16,6 +16,7 @@ use std::sync::ledger::{Blank, Ledger};
 
 /// The place of a position of a document's content, counted in tokens. `OutOfRange` comes exactly where the position passes the size of the
 /// content.
+/// ProseMirror: `Node.resolve`.
 pub fn resolve<'a>(alloc: Global, doc: &'a Document, pos: usize) -> Result<Place<'a>, PlaceError>
     ensures document { IfOk result (λ p. p.doc ≡ doc.now) }
     ensures position { IfOk result (λ p. p.pos ≡ pos) }

@@ -56,7 +56,7 @@ module _ {Rules Doc Reason C Op : Type 0} (m : Meaning Rules Doc Reason C) (desk
   file-count : length file.places.items ≡ length one-room.room.raw.items
   file-count = sym (length-map (λ l. l.items) file.places.items) ∙ ap length one-room.file_is.places ∙ clients-count one-room.room.lines.items (length one-room.room.raw.items) 0
 
-  -- the room's workers stand in front
+  -- the room's workers stand at the front
   pub hall-next : Matched (λ x v. StandPlayed m p.makes p.rooms desks x v) (all_stands (k + 1) (drop (k + 1) p.rooms) (drop (k + 1) desks)) (drop (length file.places.items) left)
   hall-next =
       let o = one-room in
@@ -102,7 +102,7 @@ module _ {Rules Doc Reason C Op : Type 0} (m : Meaning Rules Doc Reason C) (desk
       let count = file-count in
       omega (arith, own, both, mine, count)
 
--- the item in front of what is left
+-- the item before what is left
 pub front-drop : {A : Type 0} (xs : List A) (k : ℕ) (x : A) (rest : List A) → k < length xs → x ∷ rest ≡ drop k xs → (slice_get xs k ≡ Some x) × (rest ≡ drop (k + 1) xs)
 front-drop xs k x rest lt is =
     let e : x ∷ rest ≡ get_or xs k x ∷ drop (k + 1) xs = is ∙ drop_more xs k x lt in

@@ -8,7 +8,7 @@ use Rattle.pm_workers.proofs.MergeLaws.{length-set}
 use Rattle.pm_rooms.specs.Handed.{handed, Matched}
 use Rattle.pm_workers.specs.Threads.{dealt}
 
--- the item in front is handed out here, or elsewhere
+-- the item at the front is handed out here, or elsewhere
 pub handed-here : {A : Type 0} (i turn : ℕ) (turns : List ℕ) (x : A) (xs : List A) → turn ≡ i → handed i (turn ∷ turns) (x ∷ xs) ≡ x ∷ handed i turns xs
 handed-here i turn turns x xs e = ap (λ b. cond b (x ∷ handed i turns xs) (handed i turns xs)) (eq-eqb turn i e)
 

@@ -112,7 +112,7 @@ module _ {Rules Doc Reason C Op : Type 0} (m : Meaning Rules Doc Reason C) (make
       stands-count r 0 (new_members room.doc 0 room.raw.items) (seats_for d (length room.raw.items)) (seats-count (Request C) d (length room.raw.items) ∙ sym (new-count Rules Doc Reason C room.doc room.raw.items))
       ∙ new-count Rules Doc Reason C room.doc room.raw.items
 
-  -- the workers of a room that stand in front of those of later rooms
+  -- the workers of a room that stand before those of later rooms
   pub room-played : (later : List (Stand C Rules Doc Reason)) (workers : List (Worker C Op Rules Doc Reason)) → Matched (λ x v. StandPlayed m makes rooms desks x v) (new_stands r room d ++ later) workers
       → AllPlayed m makes d room.doc room.raw.items room.lines.items (take (length room.raw.items) workers)
   room-played later workers h =

@@ -12,7 +12,7 @@ use Rattle.pm_rooms.specs.declared.line.RoomLine.{RoomLine}
 use Rattle.pm_rooms.specs.Lines.{lines_in, outcomes_in}
 
 module _ {Op C : Type 0} (r : ℕ) where
-  -- a line of the room stands in front, or one of another
+  -- a line of the room stands at the front, or one of another
   pub lines-here : (line : RoomLine Op C) (lines : List (RoomLine Op C)) → line.room ≡ r → lines_in r (line ∷ lines) ≡ line.line ∷ lines_in r lines
   lines-here line lines e = ap (λ b. cond b (line.line ∷ lines_in r lines) (lines_in r lines)) (eq-eqb line.room r e)
 

@@ -39,7 +39,7 @@ module _ {Rules Doc Reason C Op : Type 0} where
           let same : line ≡ l = one-of line l (sym at ∙ ap (slice_get lines) (sym (e.0 ∙ count)) ∙ l_at) in
           (here.0, ap (slice_get stands) (sym e.1) ∙ here.1, subst (λ z. IsPlayedBy here.0 z) same here.2)
 
-  -- the outcome of a line in front is the stand's, or another's
+  -- the outcome of a line at the front is the stand's, or another's
   outcome-here : {A : Type 0} (x : Stand C Rules Doc Reason) (line : RoomLine Op C) (lines : List (RoomLine Op C)) (o : A) (os : List A) → IsPlayedBy x line
       → stand_outcomes x (line ∷ lines) (o ∷ os) ≡ o ∷ stand_outcomes x lines os
   outcome-here x line lines o os h =

@@ -61,7 +61,7 @@ module _ {Rules Doc Reason C Op : Type 0} (x : Stand C Rules Doc Reason) where
       (λ e. dite (ℕ_discrete line.line.client x.client) (λ f. inl (record { room = sym e; client = sym f })) (λ ne. inr (λ h. ne (sym h.client))))
       (λ ne. inr (λ h. ne (sym h.room)))
 
-  -- a line of the stand stands in front, or another
+  -- a line of the stand stands at the front, or another
   pub stand-here : (line : RoomLine Op C) (lines : List (RoomLine Op C)) → IsPlayedBy x line → stand_lines x (line ∷ lines) ≡ line.line ∷ stand_lines x lines
   stand-here line lines h = ap (own_lines x.client) (lines-here x.room line lines (sym h.room)) ∙ own-here x.client line.line (lines_in x.room lines) (sym h.client)
 

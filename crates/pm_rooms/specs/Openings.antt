@@ -18,7 +18,7 @@ module _ {Rules Doc Reason C Op : Type 0} (m : Meaning Rules Doc Reason C) where
     pub people : map (λ l. l.items) o.people.items ≡ people_in rooms
     pub lines : o.lines.items ≡ map (λ room. room.lines) rooms
 
-  -- One room more was opened, behind the others.
+  -- One room more was opened, after the others.
   pub record IsOpenedToo (o : Opened C Op Rules Doc Reason) (room : NewRoom C Op Rules Doc Reason) (p : Opened C Op Rules Doc Reason) : Type 0 where
     pub d : DeskValue (Authority C Rules Doc Reason) Rules
     pub file : File

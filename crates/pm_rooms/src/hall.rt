@@ -48,7 +48,7 @@ where
     }
 
     /// Plays a line in its room, as `Room::play` says. The room must be there, and the line must suit it. All other rooms
-    /// stay as they are. Want of memory leaves the line's room as `Room::play` says.
+    /// stay as they are. Running out of memory leaves the line's room as `Room::play` says.
     pub fn play<K: Maker<C>>(
         &mut self,
         alloc: Global,
@@ -77,8 +77,8 @@ where
 
     /// Plays lines in order, each in its room, and tells what became of each. Each line's room must be there, and each room's
     /// own lines must suit it. A room is then what its own lines alone, in their order, make of it, and so are the outcomes
-    /// of its lines: the lines of other rooms change nothing of it. Want of memory leaves each room after its own of the
-    /// lines that were played; the room of the next line may be left as `Room::play` says.
+    /// of its lines: the lines of other rooms change nothing of it. Running out of memory leaves each room after its own of
+    /// the lines that were played; the room of the next line may be left as `Room::play` says.
     pub fn play_all<K: Maker<C>>(
         &mut self,
         alloc: Global,
@@ -103,8 +103,8 @@ where
         Ok(outcomes)
     }
 
-    /// Settles each room in order, as `Room::settle` says. Want of memory leaves the rooms before some room settled, that
-    /// room as `Room::settle` says, and the later ones as they were.
+    /// Settles each room in order, as `Room::settle` says. Running out of memory leaves the rooms before some room settled,
+    /// that room as `Room::settle` says, and the later ones as they were.
     pub fn settle(&mut self, alloc: Global) -> Result<(), AllocError>
         requires { HallIsSound C.means (hall_of self.old) }
         ensures stay { RoomsStay (hall_of self.old) (hall_of self.new) }

@@ -52,7 +52,7 @@ where
     Ok(all)
 }
 
-/// Opens this room behind those that are open.
+/// Opens this room after those that are open.
 fn open_one<C: Change, O: Drop>(
     alloc: Global,
     all: &mut Opened<C, O>,
@@ -86,7 +86,7 @@ where
     Ok(())
 }
 
-/// Puts the stands of a room's clients behind these stands. There are as many seats as members.
+/// Puts the stands of a room's clients after these stands. There are as many seats as members.
 fn stand_up<C: Change>(
     stands: &mut Vec<Stand<C>>,
     room: u32,

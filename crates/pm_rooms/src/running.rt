@@ -66,8 +66,8 @@ where
 /// seat is of its room's desk and has its member's name as its number, the member stands to the log that the seat has seen, and
 /// each of the stand's own lines suits it as those before leave it. There is no outcome yet.
 ///
-/// Each stand is then what `run_lines` makes of a worker that has the stand's own lines alone, in their order. Want of memory
-/// leaves each person with the outcomes of the lines that it finished.
+/// Each stand is then what `run_lines` makes of a worker that has the stand's own lines alone, in their order. Running out
+/// of memory leaves each person with the outcomes of the lines that it finished.
 pub fn run_hall<
     C: Change + Send + Sync,
     K: Maker<C> + Sync,

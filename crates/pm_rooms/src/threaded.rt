@@ -29,8 +29,8 @@ use std::thread::Threads;
 ///
 /// Each room's document must be good by its rules, it must have 1 to 32 clients, and its lines must suit it. There are less than
 /// 2^32 rooms. What is told of each room is then what `play_on_threads` tells of that room's session alone: the lines of other
-/// rooms change nothing of it. `AllocError` comes from want of memory, and where the places of a room's lines are no numbers of
-/// 32 bits.
+/// rooms change nothing of it. `AllocError` comes from running out of memory, and where the places of a room's lines are no
+/// numbers of 32 bits.
 pub fn play_rooms_on_threads<C, K, G, R>(
     alloc: Global,
     crew: &Crew<K, G, R>,

@@ -17,7 +17,7 @@ pub any-map : {A B : Type 0} → (p : B → Bool) (f : A → B) (xs : List A) �
 any-map p f [] = refl
 any-map p f (x ∷ xs) = ap (λ b. p (f x) || b) (any-map p f xs)
 
--- a key with a new name goes behind the last one
+-- a key with a new name goes after the last one
 pub insert_new : (ks : List (String Global)) (k : String Global) → list_any (λ n. bytes_eq (string_bytes k) n) (map string_bytes ks) ≡ false
     → map string_bytes (cond (list_any (λ x. bytes_eq (string_bytes k) (string_bytes x)) ks) ks (ks ++ k ∷ [])) ≡ map string_bytes ks ++ string_bytes k ∷ []
 insert_new ks k h =

@@ -86,7 +86,7 @@ abbrev pub AreOfKinds : List AttrSpec → List Plain → Type 0
 AreOfKinds attrs values = (i : ℕ) → i < length values → is_allowed (slice_index_or attrs i no_attr).validate (slice_index_or values i null) ≡ true
 
 -- Why there are no values: the first attribute that is missing; else the first name that is unknown; else the first attribute
--- for which a value of no named kind is given; want of memory at any time.
+-- for which a value of no named kind is given; running out of memory at any time.
 abbrev pub IsAttrFault : List AttrSpec → List (List ℕ × Plain) → AttrError → Type 0
 IsAttrFault attrs given (Missing j) = IsFirstAt (is_missing given) attrs no_attr j
 IsAttrFault attrs given (Unknown i) = NonePasses (is_missing given) attrs no_attr × IsFirstAt (is_unknown attrs) given no_pair i

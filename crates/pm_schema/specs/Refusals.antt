@@ -74,7 +74,7 @@ pub record FirstFault (s : SchemaSpec) (e : AutoError) : Type 0 where
   pub fault : Is_fault (node_at s kind).content (inline_table s) e
   pub before : (j : ℕ) → j < kind → HasAutomaton s j
 
--- why there is no schema; want of memory at any time, and never as a fault of content
+-- why there is no schema; running out of memory at any time, and never as a fault of content
 abbrev pub IsRefused : SchemaSpec → SchemaError → Type 0
 IsRefused s NoTop = has_top s ≡ false
 IsRefused s NoText = (has_top s ≡ true) × (has_text s ≡ false)

@@ -48,14 +48,19 @@ fn mark_defaults(marks: &[MarkSpec])
 }
 
 impl Schema {
-    /// The schema of these types, whose version has to be 1 or 2. A schema that is built has no dead end: from each state of each type a valid end can be
-    /// reached through types that can be made.
+    /// The schema of these types, whose version has to be 1 or 2. A schema that is built has no dead end: from each state of
+    /// each type a valid end can be reached through types that can be made. ProseMirror: `new Schema`.
     ///
-    /// The refusals, in the order in which they are looked for: `NoTop` where no type has the top name or it is `text`;
-    /// `NoText` where no type is called `text`; `TextAttrs` where that type has an attribute or content; `DoubleName` where
-    /// two types, of nodes or of marks, have one name; `UnknownMark` where a name in `marks` or `excludes` is that of no mark
-    /// type and of no group; `Content` with the fault of the first type for whose content there is no automaton; `DeadEnd`
-    /// with the first type that has a state from which no generatable types lead to a valid end.
+    /// # Errors
+    ///
+    /// In the order in which they are looked for:
+    /// - `NoTop`: no type has the top name, or it is `text`.
+    /// - `NoText`: no type is called `text`.
+    /// - `TextAttrs`: that type has an attribute or content.
+    /// - `DoubleName`: two types, of nodes or of marks, have one name.
+    /// - `UnknownMark`: a name in `marks` or `excludes` is that of no mark type and of no group.
+    /// - `Content`: there is no automaton for the content of a type, with the fault of the first such type.
+    /// - `DeadEnd`: a type has a state from which no generatable types lead to a valid end, with the first such type.
     pub fn build(alloc: Global, spec: SchemaSpec) -> Result<Schema, SchemaError>
         requires { is_version spec.version ≡ true }
         ensures spec { IfOk result (λ s. s.spec ≡ spec) }

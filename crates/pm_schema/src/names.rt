@@ -57,7 +57,7 @@ impl Names {
         }
     }
 
-    /// Puts a name that is not there behind the last one.
+    /// Appends a name that is not there.
     pub fn add(&mut self, alloc: Global, name: &str) -> Result<(), AllocError>
         requires { list_any (bytes_eq name.now) self.old ≡ false }
         ensures { OnOk result (self.new ≡ self.old ++ name.now ∷ []) }

@@ -19,6 +19,7 @@ use pm_marks::{MarkId, MarkRules};
 
 /// A schema: what it was built from, and the tables that look-ups read. A contract sees the record of its lists, in the
 /// order of the types.
+/// ProseMirror: `Schema`.
 #[derive(Drop)]
 pub struct Schema {
     pub(crate) spec: SchemaSpec,
@@ -51,6 +52,7 @@ pub struct Schema {
 
 impl Schema {
     /// The type of the top node.
+    /// ProseMirror: `Schema.topNodeType`.
     pub fn top(&self) -> TypeId
         ensures named { place_of self.now.spec.top (names_of_nodes self.now.spec) ≡ Some result }
         ensures inside { result < length self.now.spec.nodes }
@@ -130,6 +132,7 @@ impl Schema {
     }
 
     /// The automaton of the type's content: a list of types leads to a valid end exactly where it fits the content.
+    /// ProseMirror: `NodeType.contentMatch`.
     pub fn auto(&self, kind: TypeId) -> &Auto
         requires { kind < length self.now.spec.nodes }
         ensures entry { result.now ≡ slice_index_or self.now.autos kind result.now }
@@ -146,6 +149,7 @@ impl Schema {
     }
 
     /// Whether the type is inline. The type of texts is.
+    /// ProseMirror: `NodeType.isInline`.
     pub fn is_inline(&self, kind: TypeId) -> bool
         requires { kind < length self.now.spec.nodes }
         ensures { result ≡ inline_of (node_at self.now.spec kind) }
@@ -154,6 +158,7 @@ impl Schema {
     }
 
     /// Whether nodes of the type have no content: its content expression is empty.
+    /// ProseMirror: `NodeType.isLeaf`.
     pub fn is_leaf(&self, kind: TypeId) -> bool
         requires { kind < length self.now.spec.nodes }
         ensures { result ≡ leaf_of (node_at self.now.spec kind) }
@@ -162,6 +167,7 @@ impl Schema {
     }
 
     /// Whether nodes of the type are to be treated as one thing: it is a leaf, or its spec says so.
+    /// ProseMirror: `NodeType.isAtom`.
     pub fn is_atom(&self, kind: TypeId) -> bool
         requires { kind < length self.now.spec.nodes }
         ensures { result ≡ atom_of (node_at self.now.spec kind) }
@@ -194,6 +200,7 @@ impl Schema {
     }
 
     /// Whether the children of a node of the type `parent` may have marks of the type `mark`.
+    /// ProseMirror: `NodeType.allowsMarkType`.
     pub fn allows(&self, parent: TypeId, mark: MarkId) -> bool
         requires { parent < length self.now.spec.nodes }
         ensures { result ≡ slice_index_or (allowed_row self.now.spec (node_at self.now.spec parent)) mark false }
@@ -212,6 +219,7 @@ impl Schema {
 
     /// Whether nodes of the two types may be joined: they are of one type, or some type may stand first in both. It takes no
     /// memory.
+    /// ProseMirror: `NodeType.compatibleContent`.
     pub fn compatible(&self, a: TypeId, b: TypeId) -> bool
         requires first { a < length self.now.spec.nodes }
         requires second { b < length self.now.spec.nodes }

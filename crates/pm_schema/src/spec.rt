@@ -9,6 +9,7 @@ use pm_list::Listed;
 use pm_value::{Kinds, Text, Value};
 
 /// An attribute that a type declares. Where it has no default, each node or mark of the type has to give a value.
+/// ProseMirror: `AttributeSpec`.
 #[derive(Drop)]
 pub struct AttrSpec {
     pub name: Text,
@@ -18,6 +19,7 @@ pub struct AttrSpec {
 }
 
 /// A node type.
+/// ProseMirror: `NodeSpec`.
 #[derive(Drop)]
 pub struct NodeSpec {
     pub name: Text,
@@ -33,6 +35,7 @@ pub struct NodeSpec {
 }
 
 /// A mark type.
+/// ProseMirror: `MarkSpec`.
 #[derive(Drop)]
 pub struct MarkSpec {
     pub name: Text,
@@ -45,6 +48,7 @@ pub struct MarkSpec {
 }
 
 /// The types of a schema in their order, and the name of the top node's type.
+/// ProseMirror: `SchemaSpec`.
 #[derive(Drop)]
 pub struct SchemaSpec {
     pub nodes: Listed<NodeSpec>,

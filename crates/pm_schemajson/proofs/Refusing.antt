@@ -1,4 +1,4 @@
--- What `build` refuses is a fault of the JSON, which is never a carried want of memory.
+-- What `build` refuses is a fault of the JSON, which is never a carried running out of memory.
 use Rattle.std.proofs.Common.{◌≡◌, Result, Ok, Err, sym, subst}
 use Rattle.std.specs.Prelude.{IfErr}
 use Rattle.std.specs.Result.{IsErrAnd}

@@ -1,4 +1,4 @@
--- Reading alone never tells a fault of building, and no fault that it tells carries want of memory.
+-- Reading alone never tells a fault of building, and no fault that it tells carries running out of memory.
 use Rattle.std.proofs.Common.{◌≡◌, ℕ, ◌+◌, List, [], ◌∷◌, Bool, true, false, Option, Some, None, Result, Ok, Err, map, sym, subst}
 use Rattle.std.specs.Prelude.{codes, option_and_then, IfErr, if◌then◌else◌, ◌==◌}
 use Rattle.std.specs.Result.{IsErrAnd}

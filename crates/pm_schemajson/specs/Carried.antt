@@ -1,4 +1,4 @@
--- The errors that other errors become. Want of memory is handed on as one's own.
+-- The errors that other errors become. Running out of memory is handed on as one's own.
 use Rattle.std.specs.Prelude.{ℕ}
 use Rattle.pm_value.specs.declared.fault.ValueError.{ValueError}
 use Rattle.pm_value.specs.declared.fault.ValueError.TheVariants as value

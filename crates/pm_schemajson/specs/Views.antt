@@ -60,7 +60,7 @@ pub record Refused (d : Data) (e : SchemaError) : Type 0 where
   pub refused : IsRefused spec e
 
 -- Why a JSON value is no schema: a fault of its reading, or what it writes is refused; or memory ran out. No fault of a
--- content, of a default or of building carries want of memory.
+-- content, of a default or of building carries running out of memory.
 abbrev pub IsFault : Data → SchemaReadError → Type 0
 IsFault d (Schema build.NoMemory) = ⊥
 IsFault d (Expr k expr.NoMemory) = ⊥

@@ -15,18 +15,27 @@ use pm_json::JsonRef;
 use pm_schema::{Schema, SchemaSpec};
 use std::alloc::Global;
 
-/// The schema that a JSON object writes: `version`, the whole number 1 or 2, 1 where it is absent; `nodes`, a list of node types; `marks`, a list of mark types, none where it is
-/// absent; `topNode`, the name of the top node's type, `doc` where it is absent. A node type has `name`, `content` (a
-/// content expression, empty where it is absent), `group` (names with blanks between), `marks` (a text), `inline`, `atom`
-/// (both false where they are absent) and `attrs`; a mark type has `name`, `attrs`, `inclusive` (true where it is absent),
-/// `excludes` (a text) and `group`. In `attrs` each member is an attribute, an object whose `default` is the default, and
-/// whose `validate` in version 2 is a text that names the kinds of values that it may have: one or more of `string`, `number`,
-/// `boolean` and `null` with `|` between. A field that may be absent may be null; a `default` of null is a default.
+/// The schema that a JSON object writes: `version`, the whole number 1 or 2, 1 where it is absent; `nodes`, a list of node types;
+/// `marks`, a list of mark types, none where it is absent; `topNode`, the name of the top node's type, `doc` where it is absent.
+/// A field that may be absent may be null; a `default` of null is a default. Each default nests at most four levels deep
+/// (`shallow`).
+/// - A node type has `name`, `content` (a content expression, empty where it is absent), `group` (names with blanks between),
+///   `marks` (a text), `inline`, `atom` (both false where they are absent) and `attrs`.
+/// - A mark type has `name`, `attrs`, `inclusive` (true where it is absent), `excludes` (a text) and `group`.
+/// - In `attrs` each member is an attribute, an object whose `default` is the default, and whose `validate` in version 2 is a
+///   text that names the kinds of values that it may have: one or more of `string`, `number`, `boolean` and `null` with `|`
+///   between.
 ///
-/// The first fault: first fields in this order, lists from the front, attributes in byte order of their names: `Shape` where
-/// a field is absent or of another kind, `Name` at an ill-formed name in `name` or `group`, `Attr` at a default that is no
-/// value, and `BadDefault` at one of no kind that its attribute names. Then `Expr` at the first node type whose content is no expression. Then `Schema`, where the types make no schema.
-/// Each default nests at most four levels deep (`shallow`).
+/// # Errors
+///
+/// The first fault: fields in this order, lists from the front, attributes in byte order of their names; then `Expr`, then
+/// `Schema`.
+/// - `Shape`: a field is absent or of another kind.
+/// - `Name`: a name in `name` or `group` is ill-formed.
+/// - `Attr`: a default is no value.
+/// - `BadDefault`: a default is of no kind that its attribute names.
+/// - `Expr`: the content of a node type is no expression, with the first such type.
+/// - `Schema`: the types make no schema.
 pub fn read_schema<J: JsonRef>(alloc: Global, json: J) -> Result<Schema, SchemaReadError>
     ensures built { IfOk result (IsSchemaOf (J.seen json)) }
     ensures shallow { IfOk result (λ s. HasShallowDefaults s.spec) }

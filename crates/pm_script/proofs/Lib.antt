@@ -1,11 +1,7 @@
 pub mod Came
-pub mod Sides
 pub mod Places
 pub mod Tallies
 pub mod Entering
-pub mod PartLaws
-pub mod ValueLaws
-pub mod StepLaws
 pub mod OpLists
 pub mod Saying
 pub mod Suited

@@ -21,7 +21,7 @@ use Rattle.pm_session.specs.declared.line.Line.{Line}
 use Rattle.pm_script.specs.declared.rooms.RoomSession.{RoomSession}
 use Rattle.pm_script.specs.declared.rooms.TheConstants.{MAX_OPS}
 use Rattle.pm_script.specs.declared.session.TheConstants.{MAX_INPUT}
-use Rattle.pm_script.specs.Fields.{text_in}
+use Rattle.pm_opjson.specs.Fields.{text_in}
 use Rattle.pm_script.specs.Lines.{op_in}
 use Rattle.pm_script.specs.Sessions.{at_line}
 use Rattle.pm_script.specs.Rooms.{opened, moved, HeadBehind, AfterHead, AreOpened, room_in, room_op, with_op, room_with, rooms_with, room_line, rooms_behind, last_head, all_behind, BehindNames, RoomsOf, RoomsAre}

@@ -17,7 +17,7 @@ use Rattle.pm_script.specs.OpenRooms.{room_of, rooms_of}
 use Rattle.pm_script.specs.Rooms.{room_with, at_place, RoomsOf}
 use Rattle.pm_script.proofs.RoomLists.{map-get, map-set}
 
--- a room that was put back behind an op line
+-- a room that was put back after an op line
 module _ (rooms : List OpenRoom) (i n : ℕ) (d : Data) (room new : OpenRoom) (there : slice_get rooms i ≡ Some room) where
   there-read : slice_get (rooms_of rooms) i ≡ Some (room_of room)
   there-read = map-get room_of rooms i room there

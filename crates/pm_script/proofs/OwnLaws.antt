@@ -80,7 +80,7 @@ own-line n line rest room final d op own value read h =
 some-same : (x y : RoomSession) → Some x ≡ Some y → x ≡ y
 some-same x y h = cc
 
--- one line, behind which the room becomes what it becomes by the others
+-- one line, after which the room becomes what it becomes by the others
 module _ (last : ℕ) (rooms more : List RoomSession) (n : ℕ) (line : List ℕ) (rest : List (List ℕ)) (k : IsRead last rooms n line more) (differ : NamesDiffer (names_in rooms))
     (r : ℕ) (room final : RoomSession) (at : slice_get rooms r ≡ Some room)
     (next : (x : RoomSession) → slice_get more r ≡ Some x → IsAfter (n + 1) rest x final) where

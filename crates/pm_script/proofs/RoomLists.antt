@@ -34,7 +34,7 @@ module _ {A : Type 0} where
   pub position-at : (p : A → Bool) (xs : List A) (i : ℕ) (x : A) → position p xs ≡ Some i → slice_get xs i ≡ Some x → p x ≡ true
   position-at p xs i x is at = sym (ap p (got xs i x at)) ∙ (position-Some p xs i x is).1
 
-  -- an item in front of others
+  -- an item before others
   pub get-front : (xs ys : List A) (i : ℕ) (x : A) → slice_get xs i ≡ Some x → slice_get (xs ++ ys) i ≡ Some x
   get-front [] ys i x h = absurd (cc)
   get-front (y ∷ xs) ys zero x h = h

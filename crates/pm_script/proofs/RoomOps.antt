@@ -17,7 +17,7 @@ use Rattle.pm_session.specs.declared.line.Line.{Line}
 use Rattle.pm_script.specs.declared.rooms.RoomSession.{RoomSession}
 use Rattle.pm_script.specs.Answers.{Gives}
 use Rattle.pm_script.specs.Entrants.{text_at}
-use Rattle.pm_script.specs.Fields.{text_in}
+use Rattle.pm_opjson.specs.Fields.{text_in}
 use Rattle.pm_script.specs.Sessions.{at_line}
 use Rattle.pm_script.specs.Rooms.{room_in, room_op, with_op, room_with, rooms_with, room_line, rooms_behind}
 use Rattle.pm_script.specs.OwnLines.{is_of_room}

@@ -19,15 +19,15 @@ use Rattle.pm_ops.specs.declared.op.Op.TheVariants as op
 use Rattle.pm_session.specs.declared.line.Act.TheVariants as act
 use Rattle.pm_meaning.specs.Steps.{Step}
 use Rattle.pm_session.specs.declared.line.Line.{Line}
-use Rattle.pm_script.specs.declared.kinds.EditKind.{EditKind}
-use Rattle.pm_script.specs.declared.kinds.EditKind.TheVariants as kind
+use Rattle.pm_opjson.specs.declared.kinds.EditKind.{EditKind}
+use Rattle.pm_opjson.specs.declared.kinds.EditKind.TheVariants as kind
 use Rattle.pm_script.specs.declared.word.Word.{Word}
 use Rattle.pm_script.specs.declared.word.Word.TheVariants as word
-use Rattle.pm_script.specs.Codes.{coded, node_coded}
-use Rattle.pm_script.specs.Fields.{text_in, number_in, event_in}
+use Rattle.pm_opjson.specs.Codes.{coded, node_coded}
+use Rattle.pm_opjson.specs.Fields.{text_in, number_in, event_in}
 use Rattle.pm_step.specs.Steps.{as_step}
-use Rattle.pm_script.specs.Parts.{step_in, step_list, steps_in, slice_in, node_in, mark_in, type_in, attrs_in}
-use Rattle.pm_script.specs.Ops.{step_op, paste_op, insert_op, wrap_op, set_type_op, add_mark_op, remove_mark_op, op_of}
+use Rattle.pm_opjson.specs.Parts.{step_in, step_list, steps_in, slice_in, node_in, mark_in, type_in, attrs_in}
+use Rattle.pm_opjson.specs.Ops.{step_op, paste_op, insert_op, wrap_op, set_type_op, add_mark_op, remove_mark_op, op_of}
 use Rattle.pm_script.specs.Acts.{edit_in, forge_in, act_in}
 use Rattle.pm_script.specs.declared.lines.TheConstants.{LAST_LINE}
 use Rattle.pm_script.specs.Lines.{client_in, word_in, said, turned, named, op_in, op_line}

@@ -12,13 +12,14 @@ use Rattle.pm_ops.specs.declared.op.Op.{Op}
 use Rattle.pm_session.specs.declared.line.Act.{Act}
 use Rattle.pm_session.specs.declared.line.Act.TheVariants.{Edit, Undo, Redo, UndoEvent, Cursor, Submit, Ask, Present, Take, Push, Pull, Forge, Enter}
 use Rattle.pm_session.specs.Suits.{is_forge, enters, names_one, NamesOneOf}
-use Rattle.pm_script.specs.declared.kinds.EditKind.{EditKind}
+use Rattle.pm_opjson.specs.declared.kinds.EditKind.{EditKind}
 use Rattle.pm_script.specs.declared.word.Word.{Word}
 use Rattle.pm_script.specs.declared.word.Word.TheVariants as word
-use Rattle.pm_script.specs.Fields.{number_in, lost_in, side_in, event_in}
-use Rattle.pm_script.specs.Words.{says, edit_named, exchange_named, or_word, word_named, may_say, in_turn}
-use Rattle.pm_script.specs.Ops.{op_of}
-use Rattle.pm_script.specs.Parts.{steps_in}
+use Rattle.pm_opjson.specs.Fields.{number_in, lost_in, side_in, event_in}
+use Rattle.pm_opjson.specs.Words.{says, edit_named}
+use Rattle.pm_script.specs.Words.{exchange_named, or_word, word_named, may_say, in_turn}
+use Rattle.pm_opjson.specs.Ops.{op_of}
+use Rattle.pm_opjson.specs.Parts.{steps_in}
 use Rattle.pm_script.specs.Acts.{edit_in, cursor_in, forge_in, act_in}
 use Rattle.pm_script.proofs.Came.{then-ok, both-true}
 

@@ -18,7 +18,7 @@ use Rattle.pm_session.specs.declared.line.Act.{Act}
 use Rattle.pm_session.specs.Suits.{is_forge, enters, names_one, composed_by, answered_by, Suits, AllSuit}
 use Rattle.pm_versions.specs.Suiting.{has_line, EntersFirst, AllSuitLate}
 use Rattle.pm_script.specs.declared.word.Word.{Word}
-use Rattle.pm_script.specs.Fields.{text_in}
+use Rattle.pm_opjson.specs.Fields.{text_in}
 use Rattle.pm_script.specs.Words.{word_named, may_say, in_turn}
 use Rattle.pm_script.specs.Acts.{act_in}
 use Rattle.pm_script.specs.declared.lines.TheConstants.{LAST_LINE}

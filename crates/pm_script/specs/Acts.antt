@@ -8,12 +8,12 @@ use Rattle.pm_meaning.specs.Steps.{Step}
 use Rattle.pm_ops.specs.declared.op.Op.{Op}
 use Rattle.pm_session.specs.declared.line.Act.{Act}
 use Rattle.pm_session.specs.declared.line.Act.TheVariants.{Edit, Undo, Redo, UndoEvent, Cursor, Submit, Ask, Present, Take, Push, Pull, Forge, Enter}
-use Rattle.pm_script.specs.declared.kinds.EditKind.{EditKind}
+use Rattle.pm_opjson.specs.declared.kinds.EditKind.{EditKind}
 use Rattle.pm_script.specs.declared.word.Word.{Word}
 use Rattle.pm_script.specs.declared.word.Word.TheVariants as word
-use Rattle.pm_script.specs.Fields.{number_in, lost_in, side_in, event_in}
-use Rattle.pm_script.specs.Ops.{op_of}
-use Rattle.pm_script.specs.Parts.{steps_in}
+use Rattle.pm_opjson.specs.Fields.{number_in, lost_in, side_in, event_in}
+use Rattle.pm_opjson.specs.Ops.{op_of}
+use Rattle.pm_opjson.specs.Parts.{steps_in}
 
 -- an edit: the fields of its kind, and then an event number
 unfoldable pub edit_in : SchemaSpec → EditKind → Data → Result (Act Op Step) Code

@@ -19,7 +19,7 @@ has_text key text d = unwrap_or (option_map (λ t. pointwise nat_eq t text) (tex
 abbrev pub entrant_of : Data → Option (List ℕ)
 entrant_of d = if has_text (codes "op") (codes "enter") d then text_at (codes "c") d else None
 
--- Who enters on a line, whatever is wrong with the line beside: it may be too long, or behind the last line that may be there,
+-- Who enters on a line, whatever is wrong with the line beside: it may be too long, or after the last line that may be there,
 -- or its client may not be due to enter.
 abbrev pub entrant_on : List ℕ → Option (List ℕ)
 entrant_on line = option_and_then entrant_of (json_of line)

@@ -1,9 +1,4 @@
-pub mod Codes
-pub mod Faults
 pub mod Words
-pub mod Fields
-pub mod Parts
-pub mod Ops
 pub mod Acts
 pub mod Lines
 pub mod Entrants

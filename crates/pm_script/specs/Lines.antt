@@ -19,7 +19,7 @@ use Rattle.pm_versions.specs.Suiting.{has_line}
 use Rattle.pm_script.specs.declared.lines.TheConstants.{LAST_LINE}
 use Rattle.pm_script.specs.declared.word.Word.{Word}
 use Rattle.pm_script.specs.Words.{word_named, may_say, in_turn}
-use Rattle.pm_script.specs.Fields.{text_in}
+use Rattle.pm_opjson.specs.Fields.{text_in}
 use Rattle.pm_script.specs.Acts.{act_in}
 
 -- the place of the client that `c` names
@@ -65,7 +65,7 @@ abbrev pub named : List (Line Op Step) → ℕ → Act Op Step → Result (Act O
 named earlier client act = if is_there earlier client act then Ok act else Err NoSuchMessage
 
 module _ (form : Form) (s : SchemaSpec) (clients : List ClientEntry) (earlier : List (Line Op Step)) where
-  -- the op line with this number, behind these earlier ones
+  -- the op line with this number, after these earlier ones
   unfoldable pub op_in : ℕ → Data → Result (Line Op Step) Code
   op_in n d = do
     client ← client_in clients d

@@ -26,7 +26,7 @@ unfoldable pub own_lines : List ℕ → ℕ → List (List ℕ) → List (ℕ ×
 own_lines name n [] = []
 own_lines name n (line ∷ rest) = if is_of_room name line then (n, line) ∷ own_lines name (n + 1) rest else own_lines name (n + 1) rest
 
--- the op lines that these numbered lines are in a session of this schema and these clients, behind these earlier ones
+-- the op lines that these numbered lines are in a session of this schema and these clients, after these earlier ones
 unfoldable pub own_ops : SchemaSpec → List ClientEntry → List (Line Op Step) → List (ℕ × List ℕ) → Result (List (Line Op Step)) Refusal
 own_ops s clients earlier [] = Ok []
 own_ops s clients earlier (l ∷ rest) = do
@@ -34,7 +34,7 @@ own_ops s clients earlier (l ∷ rest) = do
   later ← own_ops s clients (earlier ++ op ∷ []) rest
   Ok (op ∷ later)
 
--- Room r, of so many in a file of these lines, is the session of its own lines alone: of its three, and of those behind the
+-- Room r, of so many in a file of these lines, is the session of its own lines alone: of its three, and of those after the
 -- heads whose `room` is its name, with their numbers in the file.
 pub record IsOfOwnLines (lines : List (List ℕ)) (count r : ℕ) (room : RoomSession) : Type 0 where
   pub head : HeadIs Plain (take 3 (drop (3 * r + 1) lines)) (Ok room.session.head)

@@ -19,7 +19,7 @@ use Rattle.pm_session.specs.declared.line.Line.{Line}
 use Rattle.pm_script.specs.declared.rooms.RoomSession.{RoomSession}
 use Rattle.pm_script.specs.declared.rooms.TheConstants.{MAX_OPS}
 use Rattle.pm_script.specs.declared.session.TheConstants.{MAX_INPUT}
-use Rattle.pm_script.specs.Fields.{text_in}
+use Rattle.pm_opjson.specs.Fields.{text_in}
 use Rattle.pm_script.specs.Lines.{op_in}
 use Rattle.pm_script.specs.Sessions.{at_line}
 
@@ -29,12 +29,12 @@ use Rattle.pm_script.specs.Sessions.{at_line}
 abbrev pub opened : List ℕ → Head → RoomSession
 opened name head = record { name = name; session = record { head = head; lines = [] } }
 
--- A head that stands behind line n. A line of it that is refused is told by its number in the file.
+-- A head that stands after line n. A line of it that is refused is told by its number in the file.
 abbrev pub moved : ℕ → Result Head Refusal → Result Head Refusal
 moved n (Ok head) = Ok head
 moved n (Err refusal) = Err (refused (n + refusal.line) refusal.code)
 
--- what the lines behind line n are, the first three of which are a head
+-- what the lines after line n are, the first three of which are a head
 abbrev pub HeadBehind : ℕ → List (List ℕ) → Result Head Refusal → Type 0
 HeadBehind n lines r = (head : Result Head Refusal) × HeadIs Plain lines head × (r ≡ moved n head)
 
@@ -43,7 +43,8 @@ abbrev pub AfterHead : (Result (List RoomSession) Refusal → Type 0) → List �
 AfterHead Later name (Err refusal) r = r ≡ Err refusal
 AfterHead Later name (Ok head) r = (later : Result (List RoomSession) Refusal) × Later later × (r ≡ (later >>= λ rooms. Ok (opened name head ∷ rooms)))
 
--- the rooms of these names, which the lines behind line n write, three for each in order; or the first of them that has a fault
+-- the rooms of these names, which the lines after line n write, three for each in order; or the first of them that has a
+-- fault
 abbrev pub AreOpened : List (List ℕ) → ℕ → List (List ℕ) → Result (List RoomSession) Refusal → Type 0
 AreOpened [] n lines r = r ≡ Ok []
 AreOpened (name ∷ names) n lines r = (head : Result Head Refusal) × HeadBehind n lines head × AfterHead (AreOpened names (n + 3) (drop 3 lines)) name head r
@@ -54,7 +55,7 @@ AreOpened (name ∷ names) n lines r = (head : Result Head Refusal) × HeadBehin
 abbrev pub room_in : List RoomSession → Data → Result ℕ Code
 room_in rooms d = text_in (codes "room") d >>= (λ name. or_fault NoSuchRoom (position (λ r. pointwise nat_eq name r.name) rooms))
 
--- The op line with this number that a value is in a room: it is read by the room's schema and clients, and behind the room's
+-- The op line with this number that a value is in a room: it is read by the room's schema and clients, and after the room's
 -- earlier op lines. Those of other rooms count nothing.
 abbrev pub room_op : RoomSession → ℕ → Data → Result (Line Op Step) Code
 room_op room n d = op_in Plain room.session.head.schema.spec room.session.head.clients room.session.lines n d
@@ -77,7 +78,7 @@ rooms_with rooms n d = do
   i ← room_in rooms d
   at_place rooms i n d
 
--- The same for a line. What stands behind the last line that may be there is refused, whatever it holds.
+-- The same for a line. What stands after the last line that may be there is refused, whatever it holds.
 unfoldable pub room_line : ℕ → List RoomSession → ℕ → List ℕ → Result (List RoomSession) Code
 room_line last rooms n line = if nat_lt last n then Err TooManyLines else (json_line line >>= (λ d. rooms_with rooms n d))
 
@@ -88,7 +89,7 @@ rooms_behind last rooms n (line ∷ rest) = at_line n (room_line last rooms n li
 
 -- ---- the file
 
--- the number of the last line of the heads of so many rooms, behind line 1
+-- the number of the last line of the heads of so many rooms, after line 1
 abbrev pub last_head : ℕ → ℕ
 last_head count = 3 * count + 1
 
@@ -97,7 +98,7 @@ abbrev pub all_behind : ℕ → Result (List RoomSession) Refusal → List (List
 all_behind count (Ok rooms) lines = rooms_behind (last_head count + MAX_OPS) rooms (last_head count + 1) lines
 all_behind count (Err refusal) lines = Err refusal
 
--- what the lines behind line 1 are, which lists these names: three lines for each room, and then the op lines
+-- what the lines after line 1 are, which lists these names: three lines for each room, and then the op lines
 abbrev pub AfterNames : List (List ℕ) → List (List ℕ) → Result (List RoomSession) Refusal → Type 0
 AfterNames names lines r = (heads : Result (List RoomSession) Refusal) × AreOpened names 1 lines heads × (r ≡ all_behind (length names) heads (drop (3 * length names) lines))
 

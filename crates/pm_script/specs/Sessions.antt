@@ -30,7 +30,7 @@ with_ops head (Ok ops) = Ok (record { head = head; lines = ops })
 with_ops head (Err refusal) = Err refusal
 
 module _ (form : Form) where
-  -- the op lines from number n on, behind these earlier ones
+  -- the op lines from number n on, after these earlier ones
   unfoldable pub ops_of : SchemaSpec → List ClientEntry → List (Line Op Step) → ℕ → List (List ℕ) → Result (List (Line Op Step)) Refusal
   ops_of s clients earlier n [] = Ok []
   ops_of s clients earlier n (line ∷ rest) = do

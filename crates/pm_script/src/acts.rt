@@ -3,13 +3,10 @@ ghost use Rattle.serde_json.specs.View.{view};
 ghost use Rattle.pm_head.specs.Answers.{Gives};
 ghost use Rattle.pm_script.specs.Acts.{edit_in, cursor_in, forge_in, act_in};
 
-use crate::fields::{event_in, event_number_in, lost_in, number_in, side_in};
-use crate::kinds::EditKind;
-use crate::ops::op_of;
-use crate::parts::steps_in;
 use crate::word::Word;
 use pm_apply::DocChange;
 use pm_head::LineError;
+use pm_opjson::{EditKind, count_in, event_in, lost_in, number_in, read_op, side_in, steps_in};
 use pm_ops::Op;
 use pm_schema::Schema;
 use pm_session::Act;
@@ -30,7 +27,7 @@ pub(crate) fn act_in(
         Word::Undo => Ok(Act::Undo),
         Word::Redo => Ok(Act::Redo),
         Word::UndoEvent => {
-            let event = event_number_in(json)?;
+            let event = count_in(json, "event")?;
             Ok(Act::UndoEvent { event })
         }
         Word::Cursor => cursor_in(json),
@@ -67,7 +64,7 @@ fn edit_in(
 ) -> Result<Act<Op, DocChange>, LineError>
     ensures { Gives (λ a. a) result (edit_in schema.now.spec kind (view json.now)) }
 {
-    let op = op_of(alloc, schema, kind, json)?;
+    let op = read_op(alloc, schema, kind, json)?;
     let event = event_in(json)?;
     Ok(Act::Edit { op, event })
 }

@@ -11,16 +11,11 @@
 #![tactic(auto)]
 
 mod acts;
-mod codes;
 mod earlier;
 mod entrants;
-mod fields;
-mod kinds;
 mod laws;
 mod lines;
 mod open_room;
-mod ops;
-mod parts;
 mod room_lines;
 mod rooms;
 mod session;

@@ -7,10 +7,10 @@ ghost use Rattle.pm_script.specs.Lines.{client_in, word_in, is_raw, is_late, is_
 
 use crate::acts::act_in;
 use crate::earlier::Earlier;
-use crate::fields::text_in;
 use crate::word::Word;
 use pm_apply::DocChange;
 use pm_head::{ClientEntry, Code, Form, LineError, json_line};
+use pm_opjson::text_in;
 use pm_ops::Op;
 use pm_schema::Schema;
 use pm_session::{Act, Line};
@@ -20,7 +20,7 @@ use std::alloc::Global;
 /// The number of the last line that may be there.
 const LAST_LINE: u32 = 100_003;
 
-/// Op line `number` of a file of this form, behind earlier ones; else the code of its first fault. `TooManyLines` is decided
+/// Op line `number` of a file of this form, after earlier ones; else the code of its first fault. `TooManyLines` is decided
 /// first, then what its JSON value is, then the client and the word, `OpNotAllowed`, `WrongEnter`, the codes of its fields, and
 /// last `NoSuchMessage`.
 #[tactic(auto, unfolding(crate::specs::Lines::op_line))]

@@ -8,9 +8,9 @@ ghost use Rattle.pm_script.specs.Sessions.{at_line};
 ghost use Rattle.pm_script.specs.Rooms.{room_in, at_place, rooms_with, room_line};
 ghost use Rattle.pm_script.specs.OpenRooms.{rooms_of, HaveAtMost};
 
-use crate::fields::text_in;
 use crate::open_room::OpenRoom;
 use pm_head::{Code, LineError, Refusal, SessionError, json_line};
+use pm_opjson::text_in;
 use serde_json::Value;
 use std::alloc::Global;
 

@@ -29,13 +29,18 @@ pub struct RoomSession {
     pub session: Session,
 }
 
-/// The rooms that an input is, in the order in which line 1 lists them; else its least faulty line with the code of that line's
-/// first fault. An input that passes `MAX_INPUT` bytes is refused on line 0, with `InputTooLong`. Line 1 is read by `rooms_line`.
-/// Behind it stand three lines for each room, a schema, a document and the clients, which are read as by `read_head` where every
-/// client is there from the first line on; one that is missing is refused with `MissingLine`. A line behind them is an op line as
-/// of `read_session`, read by its room and behind its room's earlier ones, with a text at `room`, which is read first:
-/// `WrongShape` where there is none, `NoSuchRoom` where it names no room. The 100,001st op line is refused with `TooManyLines`.
-/// Each room is the session of its own lines: of its three, and of the op lines that name it.
+/// The rooms that an input is, in the order in which line 1 lists them. Each room is the session of its own lines: of its three,
+/// and of the op lines that name it.
+///
+/// # Errors
+///
+/// The least faulty line with the code of its first fault.
+/// - Line 0: `InputTooLong`, where the input passes `MAX_INPUT` bytes.
+/// - Line 1: as `rooms_line` reads it.
+/// - The three lines of each room after it, a schema, a document and the clients: as by `read_head`, where every client is there
+///   from the first line on; one that is missing is `MissingLine`.
+/// - An op line after them: as of `read_session`, read by its room and after its room's earlier ones. Its `room` is read first:
+///   `WrongShape` where there is no text, `NoSuchRoom` where it names no room. The 100,001st op line is `TooManyLines`.
 pub fn read_rooms(alloc: Global, input: &[u8]) -> Result<Vec<RoomSession>, SessionError>
     ensures read { Reads (λ v. v.items) (RoomsAre input.now) result }
     ensures own { IfOk result (λ v. AreOfOwnLines input.now v.items) }
@@ -72,7 +77,7 @@ fn rooms_of(alloc: Global, input: &[u8]) -> Result<Vec<RoomSession>, SessionErro
     }
 }
 
-/// The rooms of these names, behind line 1.
+/// The rooms of these names, after line 1.
 fn after_names(
     alloc: Global,
     names: &[Text],
@@ -90,7 +95,7 @@ fn after_names(
     }
 }
 
-/// The rooms of these names by their heads, and the rest of the input behind those.
+/// The rooms of these names by their heads, and the rest of the input after those.
 fn open_rooms<'a>(
     alloc: Global,
     names: &[Text],
@@ -113,7 +118,7 @@ fn open_rooms<'a>(
     Ok((rooms, rest))
 }
 
-/// The head that stands behind a line of the file, and the rest of the input.
+/// The head that stands after a line of the file, and the rest of the input.
 fn head_behind(alloc: Global, line: u32, input: &[u8]) -> Result<(Head, &[u8]), SessionError>
     requires { line < 2 ^ 31 }
     ensures read { Reads (λ p. p.0) (HeadBehind line (lines_of input.now)) result }

@@ -31,11 +31,15 @@ pub struct Session {
     pub lines: Listed<Line<Op, DocChange>>,
 }
 
-/// The session that an input is; else its least faulty line with the code of that line's first fault. An input that passes
-/// `MAX_INPUT` bytes is refused on line 0, with `InputTooLong`. The first three lines are read by `read_head`, as those of a
-/// file in which every client is there from the first line on. A line behind them is refused with `TooManyLines`,
-/// `LineTooLong`, `NotJson`, `WrongShape`, `UnknownName`, `BadAttribute`, `EmptyText`, `NotASet`, `OpenOrLarge`,
-/// `NoSuchMessage` or `OpNotAllowed`.
+/// The session that an input is.
+///
+/// # Errors
+///
+/// The least faulty line with the code of its first fault.
+/// - Line 0: `InputTooLong`, where the input passes `MAX_INPUT` bytes.
+/// - Lines 1 to 3: those of `read_head`, as of a file in which every client is there from the first line on.
+/// - A later line: `TooManyLines`, `LineTooLong`, `NotJson`, `WrongShape`, `UnknownName`, `BadAttribute`, `EmptyText`, `NotASet`,
+///   `OpenOrLarge`, `NoSuchMessage` or `OpNotAllowed`.
 pub fn read_session(alloc: Global, input: &[u8]) -> Result<Session, SessionError>
     ensures read { Reads (λ s. s) (SessionIs Form.Plain input.now) result }
     ensures holds { IfOk result Holds }
@@ -45,8 +49,8 @@ pub fn read_session(alloc: Global, input: &[u8]) -> Result<Session, SessionError
 
 /// The session that an input is in which clients may come late, each by an `enter` line of its own; else as `read_session`, with
 /// one code more, `WrongEnter`. It comes at line 3 where a late client has no `enter` line, whatever is wrong with the lines
-/// behind it. It comes at a later line where a late client has not entered and the line doesn't enter, where it enters again,
-/// and where another client enters; `OpNotAllowed` is decided before it, and the line's fields are read behind it.
+/// after it. It comes at a later line where a late client has not entered and the line doesn't enter, where it enters again,
+/// and where another client enters; `OpNotAllowed` is decided before it, and the line's fields are read after it.
 pub fn read_late(alloc: Global, input: &[u8]) -> Result<Session, SessionError>
     ensures read { Reads (λ s. s) (SessionIs Form.Late input.now) result }
     ensures holds { IfOk result HoldsLate }
@@ -75,7 +79,7 @@ fn session_of(alloc: Global, form: Form, input: &[u8]) -> Result<Session, Sessio
     }
 }
 
-/// The session of a head and the op lines behind it.
+/// The session of a head and the op lines after it.
 fn behind(alloc: Global, form: Form, head: Head, input: &[u8]) -> Result<Session, SessionError>
     requires { length head.clients ≤ 32 }
     ensures { Gives (λ s. s) result (behind form head (lines_of input.now)) }

@@ -2,8 +2,8 @@
 ghost use Rattle.std.specs.Prelude.{◌≡◌};
 ghost use Rattle.pm_script.specs.Words.{exchange_named, says_enter, word_named, may_say, in_turn};
 
-use crate::kinds::EditKind;
 use pm_head::Form;
+use pm_opjson::EditKind;
 
 /// The greatest number of cursor lines of one client.
 const MAX_CURSORS: u64 = 64;

@@ -13,7 +13,7 @@ use Rattle.pm_selective.proofs.Corners.{clear-sym, clear-outside, shift-rigid, s
 use Rattle.pm_selective.proofs.Flips.{back-apart, twice, clear-back-all, comes-back, flip-back, flip-other, flip-clear}
 use Rattle.pm_selective.proofs.Grids.{column}
 
--- ---- an end that goes by `After` stays at or behind a start that goes by `Before`
+-- ---- an end that goes by `After` stays at or after a start that goes by `Before`
 
 rising-in : (r : Span) (to x y : ℕ) → r.start ≤ x → x ≤ y → y ≤ r.start + r.old_size
     → (if goes_before r x true then to else to + r.new_size) ≤ (if goes_before r y false then to else to + r.new_size)
@@ -193,7 +193,7 @@ corner-of (b ∷ bs) l a h =
           (back-apart-all b a.0 l (ranges_back bs) c (clear-back-all b l a.0 c) (apart-left l (moved_reaches (inverted_ranges b) (ranges_back bs)) (reaches b) h)),
     )
 
--- ---- the event's ranges behind one more step
+-- ---- the event's ranges after one more step
 
 reach-same : (x : Reach) (f t : ℕ) → f ≡ x.from → t ≡ x.to → record { from = f; to = t } ≡ x
 reach-same x f t e d = rw (e, d) refl

@@ -16,7 +16,7 @@ apart-from [] from low a h = tt
 apart-from (r ∷ rs) from low a h = (omega (arith, a.0, h), a.1)
 
 module _ {A : Type 0} where
-  -- the first piece begins here or behind
+  -- the first piece begins here or after
   abbrev Begins : List (Piece A) → ℕ → Type 0
   Begins [] n = Unit {0}
   Begins (p ∷ ps) n = n ≤ p.start
@@ -26,7 +26,7 @@ module _ {A : Type 0} where
   past_edit g n l [] = []
   past_edit g n l (p ∷ ps) = record { start = past g n l p.start; old_size = p.old_size; new = p.new } ∷ past_edit g n l ps
 
-  -- an edit behind a front leaves the front
+  -- an edit after a front leaves the front
   front : (at : ℕ) (g : List (Piece A)) (xs ys : List A) → Begins g (at + length xs) → spliced_from at g (xs ++ ys) ≡ xs ++ spliced_from (at + length xs) g ys
   front at [] xs ys h = refl
   front at (q ∷ qs) xs ys h =

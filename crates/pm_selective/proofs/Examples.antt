@@ -1,4 +1,4 @@
--- Events undone behind later steps, computed.
+-- Events undone after later steps, computed.
 use Rattle.std.specs.Prelude.{◌≡◌, ℕ, ◌+◌, ◌<◌, false, List, [], ◌∷◌, Some, refl}
 use Rattle.std.proofs.Common.{arith, inr, ⊎_elim}
 use Rattle.pm_tokens.specs.Tokens.{Token, Open, Close, CodeUnit}
@@ -20,7 +20,7 @@ paragraph = Open 1 [] []
 abbrev before : List Token
 before = paragraph ∷ u 97 ∷ u 98 ∷ u 99 ∷ u 100 ∷ Close ∷ []
 
--- "X" was put in behind "a", and then "Y" behind "c": without the event, "Y" stands one place further to the front
+-- "X" was put in after "a", and then "Y" after "c": without the event, "Y" stands one place further to the front
 abbrev put_x : List Step
 put_x = Replace 2 2 (text (u 88 ∷ [])) false ∷ []
 
@@ -33,7 +33,7 @@ both-left = refl
 they-lie-apart : LieApart (step_maps put_x) (step_maps put_y)
 they-lie-apart = (((inr (omega arith), tt), tt), tt)
 
--- right behind "X" it does not lie apart
+-- right after "X" it does not lie apart
 touching : LieApart (step_maps put_x) (step_maps (Replace 3 3 (text (u 89 ∷ [])) false ∷ [])) → ⊥
 touching h = ⊎_elim (λ (e : 3 + 0 < 2). omega (arith, e)) (λ (e : 3 < 3). omega (arith, e)) h.0.0.0
 
@@ -51,7 +51,7 @@ wrapped = refl
 wrapped-left : left_tokens put_x (wrap ∷ replace_end ∷ []) before ≡ Some (Open 2 [] [] ∷ paragraph ∷ u 97 ∷ u 98 ∷ u 99 ∷ Close ∷ Close ∷ [])
 wrapped-left = refl
 
--- "YZ" was put in behind "c", and then "W" between the two: the place of "W" is found by the pair
+-- "YZ" was put in after "c", and then "W" between the two: the place of "W" is found by the pair
 inside-left : left_tokens put_x (Replace 5 5 (text (u 89 ∷ u 90 ∷ [])) false ∷ Replace 6 6 (text (u 87 ∷ [])) false ∷ []) before
     ≡ Some (paragraph ∷ u 97 ∷ u 98 ∷ u 99 ∷ u 89 ∷ u 87 ∷ u 90 ∷ u 100 ∷ Close ∷ [])
 inside-left = refl

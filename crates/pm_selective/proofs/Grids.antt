@@ -28,7 +28,7 @@ column (b ∷ bs) l ls a h =
       rest = (apart-over b l a c h.0, h.1.2, i.rest);
     }
 
--- over a row with one map more in front
+-- over a row with one map more at the front
 pub over-front : (ls : List (List Span)) (b : List Span) (bs : List (List Span)) → over_all ls (b ∷ bs) ≡ over_all (beside b ls) bs
 over-front [] b bs = refl
 over-front (l ∷ ls) b bs = ap (λ z. over bs (shifted b l) ∷ z) (over-front ls (shifted l b) (beside (shifted b l) bs))

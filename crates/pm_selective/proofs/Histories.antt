@@ -44,7 +44,7 @@ use Rattle.pm_selective.proofs.ItemRows.{ItemsSlide, maps_of_items, items-slide,
 
 -- ---- rows and the maps that they carried so far
 
--- the row behind these maps
+-- the row after these maps
 abbrev rows_behind : List (List Span) → List (List Span) → List (List Span)
 rows_behind [] gs = gs
 rows_behind (b ∷ bs) gs = rows_behind bs (beside b gs)

@@ -75,7 +75,7 @@ module _ {C : Type 0} where
 
   -- ---- items over which a position goes as over a row
 
-  -- Over these items, whatever comes behind them, a position outside of these maps goes where they send it one after another.
+  -- Over these items, whatever comes after them, a position outside of these maps goes where they send it one after another.
   abbrev pub ItemsSlide : List (Item C) → List (List Span) → Type 0
   ItemsSlide is gs = (rest : List (Item C)) (b : Bool) (so : Moved) → IsOutsideAll gs so.pos
       → (next : Moved) × (next.pos ≡ shift_all gs so.pos) × (next.across ≡ so.across) × (through_from (paired (is ++ rest)) 0 b so ≡ through_from (paired rest) 0 b next)
@@ -103,7 +103,7 @@ module _ {C : Type 0} where
       let e : through_from (paired is) 0 b (kept_at p) ≡ x.0 = ap (λ l. through_from (paired l) 0 b (kept_at p)) (sym (append-nil is)) ∙ x.3 in
       record { pos = ap (λ z. z.pos) e ∙ x.1; across = ap (λ z. z.across) e ∙ x.2 }
 
-  -- an item in front, and the item that undoes it behind
+  -- an item at the front, and the item that undoes it after
   pub items-round : (i u : Item C) (is : List (Item C)) (gs : List (List Span)) (f : List Span) → AreApart f 0 → 0 < length f → IsCorner f gs → ItemsSlide is gs
       → i.map ≡ inverted_ranges f → u.map ≡ over gs f → NoRangeUndoes i.name is → one_step i.name u.undoes ≡ true
       → ItemsSlide (i ∷ (is ++ u ∷ [])) (beside f gs)

@@ -54,7 +54,7 @@ flipped f (g ∷ gs) a c =
 
 -- ---- mappings
 
--- Over this mapping, whatever comes behind it, a position outside of these maps goes where they send it one after another.
+-- Over this mapping, whatever comes after it, a position outside of these maps goes where they send it one after another.
 abbrev pub Slides : List Mirrored → List (List Span) → Type 0
 Slides ms gs = (rest : List Mirrored) (b : Bool) (so : Moved) → IsOutsideAll gs so.pos
     → (next : Moved) × (next.pos ≡ shift_all gs so.pos) × (next.across ≡ so.across) × (through_from (ms ++ rest) 0 b so ≡ through_from rest 0 b next)
@@ -93,8 +93,8 @@ gap-some : (front : List Span) (n x : ℕ) (b : Bool) (k : Recover) → (moved_f
 gap-some [] n x b k e = absurd (cc)
 gap-some (r ∷ rs) n x b k e = refl
 
--- Over the front, the maps behind it and the map that leads back behind those. `es` are the maps behind the front, which lead
--- as a row does up to the map that leads back, number k of them, and `tail` are those behind that one.
+-- Over the front, the maps after it and the map that leads back after those. `es` are the maps after the front, which lead
+-- as a row does up to the map that leads back, number k of them, and `tail` are those after that one.
 module _ (gs : List (List Span)) (front h behind : List Span) (a : AreApart h 0) (e : behind ≡ inverted_ranges h) (es : List Mirrored) (k : ℕ) (later again : Option ℕ) (tail : List Mirrored)
     (b : Bool) (so : Moved) (y : ℕ) where
   abbrev m : Moved
@@ -151,7 +151,7 @@ module _ (gs : List (List Span)) (front h behind : List Span) (a : AreApart h 0)
         | Some r ↦ λ t. comes partner-is skip (gap r t) c r t
       ] refl
 
--- what a map does before a row, seen from behind
+-- what a map does before a row, seen from after
 pub record Behind (gs : List (List Span)) (f : List Span) (p : ℕ) (b : Bool) : Type 0 where
   pub outside : IsOutsideAll gs (moved_from (inverted_ranges f) 0 0 0 p b).pos
   pub moves : moved_from (inverted_ranges (over gs f)) 0 0 0 (shift_all (beside f gs) p) b
@@ -167,8 +167,8 @@ from-behind gs f p b a c o =
       moves = subst (λ h. moved_from h 0 0 0 (shift_all (beside f gs) p) b ≡ at m (shift_all gs m.pos)) t.far (w.moves ∙ ap (λ hs. at m (shift_all hs m.pos)) t.row);
     }
 
--- A mapping that goes as a row does, with the map back of f in front and f behind, where the row carries it, goes as the row
--- does where f carries it.
+-- A mapping that goes as a row does, with the map back of f at the front and f after, where the row carries it, goes as the
+-- row does where f carries it.
 pub slides-round : (ms : List Mirrored) (gs : List (List Span)) (f : List Span) → AreApart f 0 → IsCorner f gs → Slides ms gs
     → Slides (enclosed ms (inverted_ranges f) (over gs f)) (beside f gs)
 slides-round ms gs f a c s rest b so o =

@@ -70,7 +70,7 @@ keeps-first r rs j from g l x y b h k f e u =
     record { below = λ w. absurd (omega (arith, u, v, w)); above = λ w. omega (arith, m.bound, n.put, n.taken, u) })
     (cases_lt x r.start)
 
--- the place of a position behind a range is behind the range's end
+-- the place of a position after a range is after the range's end
 pub past-range : (r : Span) (rs : List Span) (j from g l y : ℕ) → AreApart (r ∷ rs) from → l ≤ from → from ≤ y → r.start + r.old_size < y → IsOutside rs y
     → ((r.start + g) - l) + r.new_size < past (r ∷ rs) g l y
 past-range r rs j from g l y h k f u o =

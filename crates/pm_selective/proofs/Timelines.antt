@@ -46,14 +46,14 @@ splice-maps : (cs : List Step) → AreOrdered cs → AreSpliceMaps (step_maps cs
 splice-maps [] h = tt
 splice-maps (c ∷ cs) h = (splice-map c h.0, splice-maps cs h.1)
 
--- a stretch of a timeline in front of which others stand
+-- a stretch of a timeline before which others stand
 record Behind (gone kept earlier rest : List (TimelineStep Step)) : Type 0 where
   front : List (TimelineStep Step)
   kept_are : kept ≡ front ++ rest
   earlier_are : earlier ≡ gone ++ front
 
 module _ {Rules : Type 0} (schema_of : Rules → Schema) (rules : Rules) where
-  -- an own step stands behind those of which none has its name
+  -- an own step stands after those of which none has its name
   behind : (doc mid : Doc) (gone kept earlier rest : List (TimelineStep Step)) (k : TimelineStep Step) → k.own ≡ true
       → fold (meaning_by schema_of) rules doc (changes_of gone) ≡ Some mid → Lacks (items_from (meaning_by schema_of) rules doc gone) k.name
       → gone ++ kept ≡ earlier ++ (k ∷ rest) → Behind gone kept earlier (k ∷ rest)

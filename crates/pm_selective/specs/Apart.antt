@@ -18,7 +18,7 @@ abbrev pub reaches : List Span → List Reach
 reaches [] = []
 reaches (r ∷ rs) = record { from = r.start; to = r.start + r.old_size } ∷ reaches rs
 
--- The result ranges of these maps, each moved over all maps behind its own, and these stretches moved over them all.
+-- The result ranges of these maps, each moved over all maps after its own, and these stretches moved over them all.
 abbrev pub event_ranges : List (List Span) → List Reach → List Reach
 event_ranges [] xs = xs
 event_ranges (m ∷ ms) xs = event_ranges ms (moved_reaches m xs ++ reaches (inverted_ranges m))

@@ -52,7 +52,7 @@ abbrev pub unpaired : List (List Span) → List Mirrored
 unpaired [] = []
 unpaired (m ∷ ms) = entry m None ∷ unpaired ms
 
--- a step in front of others, where there are all
+-- a step before others, where there are all
 abbrev pub in_front : Step → Option (List Step) → Option (List Step)
 in_front c None = None
 in_front c (Some cs) = Some (c ∷ cs)
@@ -61,8 +61,8 @@ abbrev pub go_on : Option Step → (Step → Option (List Step)) → Option (Lis
 go_on None f = None
 go_on (Some c) f = f c
 
--- Each step carried over the mapping. For the next step the mapping has the inverted map of the step in front, and the map of
--- its carried form behind as the mirror. None where a step is lost.
+-- Each step carried over the mapping. For the next step the mapping has the inverted map of the step at the front, and the
+-- map of its carried form after as the mirror. None where a step is lost.
 abbrev pub carried : List Mirrored → List Step → Option (List Step)
 carried ms [] = Some []
 carried ms (c ∷ cs) = go_on (carry c ms) (λ d. in_front d (carried (enclosed ms (inverted_ranges (step_map c)) (step_map d)) cs))

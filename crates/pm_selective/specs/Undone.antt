@@ -25,13 +25,13 @@ inverses_onto s d (e ∷ es) bs = then_steps (outcome s e d) (λ next. inverses_
 abbrev pub inverses : Schema → Doc → List Step → List Step
 inverses s d es = inverses_onto s d es []
 
--- An event, the steps behind it, and the steps that undo the event there. `before` is the document before the event, `mid` the
--- one behind it, `last` the one behind the later steps, and `end` the one behind the undo.
+-- An event, the steps after it, and the steps that undo the event there. `before` is the document before the event, `mid` the
+-- one after it, `last` the one after the later steps, and `end` the one after the undo.
 pub record IsUndone (s : Schema) (event later undo : List Step) (before mid last end : Doc) : Type 0 where
   pub valid : Valid s before
   pub event_applies : fold meaning s before event ≡ Some mid
   pub later_apply : fold meaning s mid later ≡ Some last
-  -- The steps that undo the event, from the last to the first, each carried over the maps of the event's steps behind its own,
+  -- The steps that undo the event, from the last to the first, each carried over the maps of the event's steps after its own,
   -- of the later steps, and of the undo steps so far. The map of an event's step is paired with that of its undo step.
   pub undo_is : carried (unpaired (step_maps later)) (inverses s before event) ≡ Some undo
   pub undo_applies : fold meaning s last undo ≡ Some end

@@ -36,7 +36,8 @@ pub struct PlayedAll {
 }
 
 /// Plays a line as `Room::play` does, and tells whether it undid an event that lies apart. Where it did, the undo left the later
-/// steps, carried and spliced in order onto the document before the event. Want of memory leaves the room as `Room::play` says.
+/// steps, carried and spliced in order onto the document before the event. Running out of memory leaves the room as
+/// `Room::play` says.
 pub fn play<K: Maker<DocChange>>(
     alloc: Global,
     room: &mut Room<DocChange>,
@@ -96,8 +97,8 @@ fn has_made(outcome: &Outcome<DocChange>, steps: Option<u64>) -> bool
     }
 }
 
-/// Plays lines in order, each as `play` does. Each must suit the room as the lines before it leave it. Want of memory leaves the
-/// room after the lines that were played, and after the first parts of the next.
+/// Plays lines in order, each as `play` does. Each must suit the room as the lines before it leave it. Running out of memory
+/// leaves the room after the lines that were played, and after the first parts of the next.
 pub fn play_all<K: Maker<DocChange>>(
     alloc: Global,
     room: &mut Room<DocChange>,

@@ -161,7 +161,7 @@ fn place_of<C>(name: Name, items: &[Item<C>]) -> usize
     passed
 }
 
-/// Whether each item behind the first `count` ones lies apart from the ranges of these.
+/// Whether each item after the first `count` ones lies apart from the ranges of these.
 fn apart_behind<C>(alloc: Global, count: usize, items: &[Item<C>]) -> Result<bool, AllocError>
     requires { FitItems items.now }
     ensures { IfOk result (λ b. b ≡ apart_behind count [] items.now) }

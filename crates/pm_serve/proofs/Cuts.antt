@@ -51,7 +51,7 @@ missing false k is = refl
 pub none : (xs : List ℕ) → position (λ b. b == 10) xs ≡ None → has_lf xs ≡ false
 none xs h = none-past xs (missing _ (place xs) h)
 
--- the bytes behind the first i + 1 of those between two places
+-- the bytes after the first i + 1 of those between two places
 pub rest_of : (piece : List ℕ) (at end n : ℕ) → n ≤ length (take (end - at) (drop at piece)) → drop n (take (end - at) (drop at piece)) ≡ take (end - (at + n)) (drop (at + n) piece)
 rest_of piece at end n h =
     let m = end - (at + n) in
@@ -72,7 +72,7 @@ add-kept xs more k n h e =
     let whole : length xs + m ≡ k = omega arith in
     ap (λ j. xs ++ take j more) e ∙ ap (λ r. xs ++ r) (take_min more m) ∙ sym (take-append-add xs more m) ∙ ap (λ j. take j (xs ++ more)) whole
 
--- bytes behind what is kept of others are kept as behind all of them
+-- bytes after what is kept of others are kept as after all of them
 pub kept-more : (k : ℕ) (xs ys : List ℕ) → take k (take k xs ++ ys) ≡ take k (xs ++ ys)
 kept-more zero xs ys = refl
 kept-more (suc k) [] ys = refl

@@ -36,7 +36,7 @@ split-more before taken more whole now after lines e f =
     sym (append_assoc before taken more) ∙ ap (λ r. r ++ more) e ∙ append_assoc (with_lf lines) now more ∙ ap (λ r. with_lf lines ++ r) f
     ∙ sym (ap (λ r. r ++ after) (with_lf-more lines whole) ∙ append_assoc (with_lf lines) (whole ++ 10 ∷ []) after ∙ ap (λ r. with_lf lines ++ r) (append_assoc whole (10 ∷ []) after))
 
--- a front of a text that stands behind another
+-- a front of a text that stands after another
 pub front-behind : (a b c : Option (List ℕ)) (text more : List ℕ) → Adds a b text → FrontWritten more b c → FrontWritten (text ++ more) a c
 front-behind a b c text more h f = record {
   count = length text + f.count;

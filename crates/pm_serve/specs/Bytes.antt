@@ -53,7 +53,7 @@ pub record PassedWhole (bytes line_old line_new : List ℕ) : Type 0 where
   pub no_lf : has_lf bytes ≡ false
   pub kept : line_new ≡ take KEPT (line_old ++ bytes)
 
--- the bytes in front of the first LF went to the line, and the LF went
+-- the bytes before the first LF went to the line, and the LF went
 pub record Passed (old new line_old line_new : List ℕ) : Type 0 where
   pub front : List ℕ
   pub split : old ≡ front ++ 10 ∷ new

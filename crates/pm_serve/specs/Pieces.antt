@@ -10,7 +10,8 @@ piece_of (Bytes n) buffer = take n buffer
 piece_of End buffer = []
 piece_of Failed buffer = []
 
--- These pieces were given behind the others, by a read each, where it is still told. What has stopped telling tells nothing again.
+-- These pieces were given after the others, by a read each, where it is still told. What has stopped telling tells nothing
+-- again.
 abbrev pub Gave : Option (List (List ℕ)) → Option (List (List ℕ)) → List (List ℕ) → Type 0
 Gave None None pieces = Unit {0}
 Gave (Some xs) None pieces = Unit {0}

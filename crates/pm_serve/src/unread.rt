@@ -81,7 +81,7 @@ impl Unread {
         }
     }
 
-    /// Passes the bytes up to the first LF on to the line, and lets the LF go. Where there is none, all bytes are passed on.
+    /// Passes the bytes up to the first LF on to the line, and drops the LF. Where there is none, all bytes are passed on.
     pub fn pass_on(&mut self, line: &mut Kept) -> Passing
         ensures { Passes result self.old self.new line.old line.new }
     {
@@ -178,7 +178,7 @@ impl Kept {
         self.bytes.clear();
     }
 
-    /// Puts bytes behind the others, as far as they are kept.
+    /// Appends bytes to the others, as far as they are kept.
     pub fn add(&mut self, more: &[u8])
         ensures { self.new ≡ take KEPT (self.old ++ more.now) }
     {

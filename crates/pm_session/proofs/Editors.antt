@@ -1,4 +1,4 @@
--- What one editor does at an authority, and what want of memory leaves of it.
+-- What one editor does at an authority, and what running out of memory leaves of it.
 use Rattle.std.specs.Prelude.{◌≡◌, ◌⊎◌, Bool, List, Option, Some, None, Result, refl}
 use Rattle.std.proofs.Common.{ap, ◌∙◌, inl, inr}
 use Rattle.pm_change.specs.Changes.{Meaning}
@@ -87,7 +87,7 @@ module _ {Rules Doc Reason C : Type 0} (m : Meaning Rules Doc Reason C) (rules :
         from None = refl
         from (Some message) = refl
 
-  -- ---- what want of memory leaves
+  -- ---- what running out of memory leaves
 
   abbrev pub AsWas : Authority C Rules Doc Reason → Client C Rules Doc Reason → Authority C Rules Doc Reason × Client C Rules Doc Reason → Type 0
   AsWas a c p = p ≡ (a, c)

@@ -18,7 +18,8 @@ use Rattle.pm_session.specs.declared.line.Line.{Line}
 use Rattle.pm_session.specs.Events.{State, placed}
 use Rattle.pm_session.specs.Sessions.{session, exchanged, brought_up, in_turn}
 
--- What want of memory leaves, wherever the messages are presented. `same` says that whoever answers them is as before, and
+-- What running out of memory leaves, wherever the messages are presented. `same` says that whoever answers them is as
+-- before, and
 -- `tells` that it was presented a message, gave an answer, and became what it is.
 module _ {Rules Doc Reason C : Type 0} (same : Type 0) (tells : Message C → Answer C Rules Doc Reason → Type 0) where
   -- nothing was done

@@ -5,7 +5,7 @@ use Rattle.pm_change.specs.declared.no_step.MakeError.{MakeError}
 use Rattle.pm_change.specs.declared.no_step.MakeError.TheVariants.{NoStep as NoneMade, NoMemory}
 use Rattle.pm_session.specs.declared.maker.Made.{Made}
 
--- the answer is the op's steps or why there are none, or want of memory
+-- the answer is the op's steps or why there are none, or running out of memory
 abbrev pub GivesSteps : {C Rules Doc Reason : Type 0} → Result (List C) NoStep → Result (Made C Rules Doc Reason) MakeError → Type 0
 GivesSteps made (Ok given) = made ≡ Ok given.steps.items
 GivesSteps made (Err (NoneMade reason)) = made ≡ Err reason

@@ -25,7 +25,7 @@ use Rattle.pm_session.specs.declared.outcome.Outcome.TheVariants.{Made, Nothing,
 use Rattle.pm_session.specs.Events.{told}
 
 module _ {Rules Doc Reason C : Type 0} where
-  -- so many pending steps more, behind those that there were
+  -- so many pending steps more, after those that there were
   abbrev pub HasMore : ℕ → Client C Rules Doc Reason → Client C Rules Doc Reason → Type 0
   HasMore k c d = (more : List (Named C)) × (d.pending ≡ c.pending ++ more) × (length more ≡ k)
 

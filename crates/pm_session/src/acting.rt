@@ -24,8 +24,8 @@ use pm_client::{Client, MessageKind};
 use std::alloc::{AllocError, Global};
 
 /// The member does what the line says, and presents its messages to the host. The line must be the member's: the message or
-/// the answer that it names must be there, and a raw client does nothing but forge. Want of memory leaves the first parts of
-/// the act done and the others not.
+/// the answer that it names must be there, and a raw client does nothing but forge. Running out of memory leaves the first
+/// parts of the act done and the others not.
 pub fn act<C: Change, K: Maker<C>, H: Host<C>>(
     alloc: Global,
     member: &mut Member<C>,

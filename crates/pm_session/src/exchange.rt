@@ -19,7 +19,7 @@ use pm_change::{Change, NoStep};
 use pm_client::{Client, MessageKind, Taken};
 use std::alloc::{AllocError, Global};
 
-/// The client presents its message of this number, and keeps the answer. Want of memory leaves all as it was, or the
+/// The client presents its message of this number, and keeps the answer. Running out of memory leaves all as it was, or the
 /// message presented and the answer not kept.
 pub fn present<C: Change, H: Host<C>>(
     alloc: Global,

@@ -15,8 +15,8 @@ use pm_list::Listed;
 use std::alloc::{AllocError, Global};
 
 /// The raw client of this name presents a submission of these steps at this version, under its name and its next serials.
-/// They are drawn also where the submission is refused. Want of memory leaves all as it was, and so does a serial that would
-/// pass 64 bits.
+/// They are drawn also where the submission is refused. Running out of memory leaves all as it was, and so does a serial
+/// that would pass 64 bits.
 pub fn forge<C: Change, H: Host<C>>(
     alloc: Global,
     rules: &C::Rules,

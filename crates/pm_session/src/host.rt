@@ -28,7 +28,7 @@ pub trait Host<C: Change> {
     /// Of a host before and after a call: what it borrows is what it borrowed.
     ghost stays: { Self → Self → Type 0 };
 
-    /// The answer to this message of this client. Want of memory leaves the host as it was.
+    /// The answer to this message of this client. Running out of memory leaves the host as it was.
     fn present(
         &mut self,
         alloc: Global,

@@ -13,7 +13,7 @@ use pm_client::{Client, CursorError, EditError, MessageKind, UndoError};
 use pm_map::Side;
 use std::alloc::{AllocError, Global};
 
-/// The client makes the steps of an op, as part of an event of this number. Want of memory leaves it as it was.
+/// The client makes the steps of an op, as part of an event of this number. Running out of memory leaves it as it was.
 pub fn edit<C: Change, K: Maker<C>>(
     alloc: Global,
     rules: &C::Rules,
@@ -63,7 +63,8 @@ fn edit_by<C: Change>(
     }
 }
 
-/// The client undoes the last event that it can undo, or tells that there is none. Want of memory leaves it as it was.
+/// The client undoes the last event that it can undo, or tells that there is none. Running out of memory leaves it as it was.
+/// ProseMirror: `undo`.
 pub fn undo<C: Change>(
     alloc: Global,
     rules: &C::Rules,
@@ -81,6 +82,7 @@ pub fn undo<C: Change>(
 }
 
 /// The client redoes the last event that was undone, as `undo` undoes one.
+/// ProseMirror: `redo`.
 pub fn redo<C: Change>(
     alloc: Global,
     rules: &C::Rules,
@@ -115,7 +117,8 @@ pub fn undo_event<C: Change>(
     }
 }
 
-/// The client sets a cursor, or tells that the position passes the document's size. Want of memory leaves it as it was.
+/// The client sets a cursor, or tells that the position passes the document's size. Running out of memory leaves it as it
+/// was.
 pub fn set_cursor<C: Change>(
     client: &mut Client<C>,
     pos: u64,
@@ -132,7 +135,7 @@ pub fn set_cursor<C: Change>(
     }
 }
 
-/// The client composes a message. Want of memory leaves it as it was.
+/// The client composes a message. Running out of memory leaves it as it was.
 pub fn compose<C: Change>(
     alloc: Global,
     client: &mut Client<C>,
@@ -145,7 +148,7 @@ pub fn compose<C: Change>(
     Ok(Outcome::Composed { number })
 }
 
-/// The client takes the answer of this number, which was kept. Want of memory leaves it as it was.
+/// The client takes the answer of this number, which was kept. Running out of memory leaves it as it was.
 pub fn take<C: Change>(
     alloc: Global,
     rules: &C::Rules,

@@ -94,8 +94,8 @@ impl<C: Change> Room<C> {
     }
 
     /// Plays a line, which must suit the room: its member is there, a raw client forges and an editor does not, and the
-    /// message or the answer that the line names is there. Want of memory leaves the first parts of its act done and the
-    /// others not.
+    /// message or the answer that the line names is there. Running out of memory leaves the first parts of its act done and
+    /// the others not.
     pub fn play<K: Maker<C>>(
         &mut self,
         alloc: Global,
@@ -120,8 +120,8 @@ impl<C: Change> Room<C> {
         act_at(alloc, rules, maker, &mut self.authority, member, line)
     }
 
-    /// Plays lines in order, and tells what became of each. Each must suit the room as the lines before it leave it. Want
-    /// of memory leaves the room after the lines that were played, and after the first parts of the next.
+    /// Plays lines in order, and tells what became of each. Each must suit the room as the lines before it leave it.
+    /// Running out of memory leaves the room after the lines that were played, and after the first parts of the next.
     pub fn play_all<K: Maker<C>>(
         &mut self,
         alloc: Global,
@@ -154,8 +154,8 @@ impl<C: Change> Room<C> {
     }
 
     /// Each editor in turn asks for what is past its version and submits what is pending; then each asks again. Raw clients
-    /// are passed by. Want of memory leaves the room after the exchanges that were done, and after the first parts of the
-    /// next.
+    /// are passed by. Running out of memory leaves the room after the exchanges that were done, and after the first parts of
+    /// the next.
     pub fn settle(&mut self, alloc: Global, rules: &C::Rules) -> Result<(), AllocError>
         requires { Sound C.means rules.now (state_of self.old) }
         ensures settles { OnOk result (state_of self.new ≡ settled C.means rules.now (state_of self.old)) }
@@ -198,7 +198,8 @@ impl<C: Change> Room<C> {
     }
 
     /// The editor at this place composes a message of this kind, presents it, and keeps and takes the answer. A raw client
-    /// does nothing, and the outcome is `NotThere`. Want of memory leaves the first of these parts done and the others not.
+    /// does nothing, and the outcome is `NotThere`. Running out of memory leaves the first of these parts done and the
+    /// others not.
     pub fn exchange(
         &mut self,
         alloc: Global,

@@ -72,6 +72,6 @@ meaning = record {
   is_within = is_within;
 }
 
--- this sheet, or want of memory
+-- this sheet, or running out of memory
 abbrev pub PutOr : Sheet → Result Sheet (Failed Reason) → Type 0
 PutOr doc r = Answers (Ok doc) r

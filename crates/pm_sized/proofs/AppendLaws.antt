@@ -1,4 +1,4 @@
--- Runs of items that are put behind others.
+-- Runs of items that are put after others.
 use Rattle.std.specs.Prelude.{◌≡◌, ℕ, ◌+◌, ◌-◌, ◌≤◌, List, ◌++◌, length, take, drop}
 use Rattle.std.specs.declared.sync.Arc.{Arc}
 use Rattle.std.specs.declared.alloc.Global.{Global}
@@ -16,7 +16,7 @@ use Rattle.pm_sized.proofs.PartLaws.{part-at, part-middle, length-values, values
 pub total-shorter : {T : Type 0} (f m t : ℕ) (ps : List (T × ℕ)) → f ≤ m → m ≤ t → total_of (part f m ps) ≤ total_of (part f t ps)
 total-shorter f m t ps h k = omega (arith, ap total_of (part-at f m t ps h k), total_of-append (part f m ps) (part m t ps))
 
--- what is left to be put behind
+-- what is left to be put after
 pub total-left : {T : Type 0} (now old ps : List (T × ℕ)) (f i t : ℕ) → now ≡ old ++ part f i ps → f ≤ i → i ≤ t → total_of now + total_of (part i t ps) ≡ total_of old + total_of (part f t ps)
 total-left now old ps f i t e h k =
     omega (arith, ap total_of e, total_of-append old (part f i ps), ap total_of (part-at f i t ps h k), total_of-append (part f i ps) (part i t ps))

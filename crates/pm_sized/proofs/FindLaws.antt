@@ -28,7 +28,7 @@ numbers-push F cs c ss t same h e k l =
           ap (λ z. get_or (ss ++ t ∷ []) z 0) at ∙ (get_or-append-add ss (t ∷ []) 0 0 ∙ (e ∙ (ap F (sym (take_all k cs b)) ∙ front)))
     ]
 
--- chunks with one more behind
+-- chunks with one more after
 pub laid-push : {T : Type 0} (cs ds : Vec (Arc (Chunk T) Global) Global) (ss ts fs gs : Vec ℕ Global) (total len size count : ℕ) (c : Arc (Chunk T) Global) → ds.items ≡ cs.items ++ c ∷ [] → ts.items ≡ ss.items ++ total ∷ [] → gs.items ≡ fs.items ++ len ∷ [] → IsMany (record { chunks = cs; starts = ss; firsts = fs; total = total; len = len }) → AreFull cs.items → IsChunk (arc_value c) → size ≡ total_of (chunk_pairs (arc_value c)) → count ≡ length (chunk_pairs (arc_value c)) → total + size < 2 ^ 32 → len + count < 2 ^ 32 → IsMany (record { chunks = ds; starts = ts; firsts = gs; total = total + size; len = len + count })
 laid-push {T} cs ds ss ts fs gs total len size count c e es ef h full k size-is count-is bound few =
     let v = chunk_pairs (arc_value c) in
@@ -72,7 +72,7 @@ stands-among {T} A B C pos rest i index start e l low high at from =
       next = λ _. omega (arith, e, high, front (i + 1) (omega (arith, l)), ap (λ z. total_of (take z (A ++ (B ++ C)))) next);
     }
 
--- behind the last item
+-- after the last item
 pub stands-behind : {T : Type 0} (ps : List (T × ℕ)) (len total : ℕ) → len ≡ length ps → total ≡ total_of ps → Stands ps total len total
 stands-behind ps len total e t = record {
   within = omega (arith, e);
@@ -94,7 +94,7 @@ both-bound cs starts inner before middle after h e few first second =
 pub no-steps : (before count : ℕ) → before ≤ before + find_bound count
 no-steps before count = omega arith
 
--- The pairs before chunk `at`, its own, and those behind; the numbers beside it are those of the pairs before.
+-- The pairs before chunk `at`, its own, and those after; the numbers beside it are those of the pairs before.
 pub record Around {T : Type 0} (s : Many T) (at : ℕ) (c : Arc (Chunk T) Global) : Type 0 where
   pub chunk : IsChunk (arc_value c)
   pub split : many_pairs s ≡ all_pairs (take at s.chunks.items) ++ (chunk_pairs (arc_value c) ++ all_pairs (drop (at + 1) s.chunks.items))
@@ -127,7 +127,7 @@ module _ {T : Type 0} (s : Many T) (at : ℕ) (c : Arc (Chunk T) Global) (h : Is
         first_start = sym (get_or_default_zero v.starts.items 0 v.size (omega (arith, k.some, k.counted.same))) ∙ k.counted.from;
       }
 
-  -- the chunk ends behind a position that is before the next chunk
+  -- the chunk ends after a position that is before the next chunk
   before-end : (pos : ℕ) → pos < total_of (many_pairs s) → (at + 1 < length s.starts.items → pos < get_or s.starts.items (at + 1) 0) → pos < total_of (all_pairs (take at s.chunks.items)) + total_of (chunk_pairs (arc_value c))
   before-end pos l next =
       let cs = s.chunks.items in

@@ -1,4 +1,4 @@
--- Parts of chunks, and the rest behind them.
+-- Parts of chunks, and the rest after them.
 use Rattle.std.specs.Prelude.{◌≡◌, ℕ, ◌+◌, ◌*◌, ◌/◌, ◌-◌, ◌≤◌, ◌<◌, ◌^◌, List, [], ◌∷◌, ◌++◌, length, take, drop, get_or}
 use Rattle.std.specs.declared.sync.Arc.{Arc}
 use Rattle.std.specs.declared.alloc.Global.{Global}
@@ -42,7 +42,7 @@ module _ {T : Type 0} where
   parts-count [] h = tt
   parts-count (m ∷ ms) h = counts-append (many_pairs m) (each_pairs ms) (chunks-count m.chunks.items h.0.laid.chunks) (parts-count ms h.1)
 
--- the first parts, part number `at`, and those behind
+-- the first parts, part number `at`, and those after
 each-split : {T : Type 0} (ms : List (Many T)) (at : ℕ) (d : Many T) → at < length ms → each_pairs ms ≡ each_pairs (take at ms) ++ (many_pairs (get_or ms at d) ++ each_pairs (drop (at + 1) ms))
 each-split ms at d l =
     let m = get_or ms at d in
@@ -52,8 +52,8 @@ each-split ms at d l =
 each-more : {T : Type 0} (ms : List (Many T)) (at : ℕ) (d : Many T) → at < length ms → each_pairs (take (at + 1) ms) ≡ each_pairs (take at ms) ++ many_pairs (get_or ms at d)
 each-more ms at d l = ap each_pairs (take_more ms at d l) ∙ each-push (take at ms) (get_or ms at d)
 
--- The pairs before part number `at`, or before the rest, its own, and those behind; the numbers beside it are those of the pairs
--- before.
+-- The pairs before part number `at`, or before the rest, its own, and those after; the numbers beside it are those of the
+-- pairs before.
 pub record Inside {T : Type 0} (g : Groups T) (at : ℕ) (m : Many T) : Type 0 where
   pub laid : IsMany m
   pub behind : List (T × ℕ)
@@ -148,7 +148,7 @@ item-inside {T} g at m i j x a e l =
     ap (λ (z : List (T × ℕ)). (get_or {A = T × ℕ} z i d).0) a.split ∙ (ap (λ (z : ℕ). (get_or {A = T × ℕ} (A ++ (B ++ a.behind)) z d).0) e
     ∙ ap (λ (z : T × ℕ). z.0) (get_or-append-add A (B ++ a.behind) j d ∙ get_or_append_left B a.behind d j l))
 
--- a number that stands beside each of a list, and behind the last, for those before it, and one more
+-- a number that stands beside each of a list, and after the last, for those before it, and one more
 numbers-more : {C : Type 0} (F : List C → ℕ) (cs : List C) (c : C) (ss : List ℕ) (t : ℕ) → length ss ≡ length cs + 1 → ((k : ℕ) → k ≤ length cs → get_or ss k 0 ≡ F (take k cs)) → t ≡ F (cs ++ c ∷ []) → (k : ℕ) → k ≤ length (cs ++ c ∷ []) → get_or (ss ++ t ∷ []) k 0 ≡ F (take k (cs ++ c ∷ []))
 numbers-more F cs c ss t same h e k l =
     let n : k ≤ length cs + 1 = omega (arith, l, length-append cs (c ∷ [])) in

@@ -1,4 +1,4 @@
--- Items that are put behind those of the last chunk.
+-- Items that are put after those of the last chunk.
 use Rattle.std.specs.Prelude.{◌≡◌, ℕ, ◌+◌, ◌-◌, ◌≤◌, ◌<◌, ◌^◌, List, [], ◌∷◌, ◌++◌, length, take, get_or}
 use Rattle.std.specs.declared.sync.Arc.{Arc}
 use Rattle.std.specs.declared.alloc.Global.{Global}
@@ -57,7 +57,7 @@ module _ {T : Type 0} (s : Many (Arc T Global)) (last x : Arc (Chunk (Arc T Glob
         let X = chunk_values (arc_value x) in
         values-pushed (all_but_last s.chunks.items) ds y is ∙ (ap (λ z. B ++ z) all-of ∙ (sym (append_assoc B L X) ∙ ap (λ z. z ++ X) (sym values-split)))
 
-  -- some of them in the last chunk, and the others behind
+  -- some of them in the last chunk, and the others after
   module _ (y w : Arc (Chunk (Arc T Global)) Global) (m n : ℕ) (o : m ≤ n) (l : length (arc_value x).items.items ≤ n) (v : chunk_values (arc_value y) ≡ chunk_values (arc_value last) ++ take m (chunk_values (arc_value x))) (u : chunk_values (arc_value w) ≡ part m n (chunk_values (arc_value x))) where
     rejoined : take m (chunk_values (arc_value x)) ++ chunk_values (arc_value w) ≡ chunk_values (arc_value x)
     rejoined =

@@ -120,7 +120,7 @@ module _ {T : Type 0} where
       let full : 32 ≤ length v.items.items = h.1 (omega arith) in
       omega (arith, full, length-chunk v.items.items v.starts.items v.size h.0.counted, length-append (chunk_pairs v) (all_pairs (d ∷ cs)), count-chunks (d ∷ cs) h.2)
 
-  -- the pairs before chunk i, its own, and those behind
+  -- the pairs before chunk i, its own, and those after
   pub chunk-split : (cs : List (Arc (Chunk T) Global)) (i : ℕ) (c : Arc (Chunk T) Global) → i < length cs → c ≡ get_or cs i c → all_pairs cs ≡ all_pairs (take i cs) ++ (chunk_pairs (arc_value c) ++ all_pairs (drop (i + 1) cs))
   chunk-split cs i c l e =
       let split : cs ≡ take i cs ++ (c ∷ drop (i + 1) cs) = sym (take-append-drop i cs) ∙ ap (λ z. take i cs ++ z) (drop_more cs i c l ∙ ap (λ z. z ∷ drop (i + 1) cs) (sym e)) in
@@ -133,7 +133,7 @@ module _ {T : Type 0} where
   pub full-along : (cs ds : List (Arc (Chunk T) Global)) → ds ≡ cs → AreFull cs → AreFull ds
   full-along cs ds e h = subst AreFull (sym e) h
 
-  -- a chunk that grew stands behind the others, and the next one is empty
+  -- a chunk that grew stands after the others, and the next one is empty
   pub pairs-moved : (ds cs : List (Arc (Chunk T) Global)) (c : Arc (Chunk T) Global) (next last : Chunk T) → ds ≡ cs ++ c ∷ [] → chunk_pairs next ≡ [] → arc_value c ≡ last → all_pairs ds ++ chunk_pairs next ≡ all_pairs cs ++ chunk_pairs last
   pairs-moved ds cs c next last e none same =
       ap (λ z. all_pairs z ++ chunk_pairs next) e ∙ (ap (λ z. all_pairs (cs ++ c ∷ []) ++ z) none ∙ (append-nil (all_pairs (cs ++ c ∷ []))

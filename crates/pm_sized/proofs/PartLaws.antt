@@ -12,7 +12,7 @@ use Rattle.pm_sized.specs.Parts.{part, values_in, chunk_values}
 use Rattle.pm_sized.proofs.PairLaws.{total_of-append, counts-few, length-measures, length-chunk}
 use Rattle.pm_sized.proofs.FindLaws.{chunk-size}
 
--- a part is what comes before a place in it, and what comes behind
+-- a part is what comes before a place in it, and what comes after
 pub part-at : {A : Type 0} (f m t : ℕ) (xs : List A) → f ≤ m → m ≤ t → part f t xs ≡ part f m xs ++ part m t xs
 part-at f m t xs h k =
     let n : t - f ≡ (m - f) + (t - m) = omega (arith, h, k) in
@@ -127,7 +127,7 @@ rises-at (s ∷ ss) e (suc i) h l =
     let n : suc i + 1 ≡ suc (i + 1) = omega arith in
     omega (arith, rises-at ss e i h.1 (omega (arith, l)), ap (λ z. get_or (s ∷ ss) z e) n)
 
--- item i of one chunk behind the others of another one
+-- item i of one chunk after the others of another one
 module _ {T : Type 0} (old now src : Chunk (Arc T Global)) (f i m : ℕ) (item x : Arc T Global) (same : chunk_values now ≡ chunk_values old ++ part f i (chunk_values src)) (k : IsCounted src.items.items src.starts.items src.size) (h : f ≤ i) (l : i < length src.items.items) (e : x ≡ get_or src.items.items i x) (a : arc_value item ≡ arc_value x) (m-is : m ≡ (get_or {A = Arc T Global × ℕ} (chunk_pairs src) i (x, 0)).1) where
   value-is : (arc_value item, m) ≡ get_or (chunk_values src) i (arc_value item, m)
   value-is = ap (λ z. (z, m)) a ∙ (ap (λ z. (arc_value x, z)) m-is ∙ sym (chunk-value src i x (arc_value item, m) k l e))

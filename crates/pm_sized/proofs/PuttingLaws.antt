@@ -1,4 +1,4 @@
--- Values that are put behind others, in groups and a part at a time.
+-- Values that are put after others, in groups and a part at a time.
 use Rattle.std.specs.Prelude.{◌≡◌, ℕ, ◌+◌, ◌-◌, ◌≤◌, ◌<◌, ◌^◌, Bool, true, false, if◌then◌else◌, Result, Ok, Err, OnOk, OnErr, List, [], ◌∷◌, ◌++◌, length, take, drop}
 use Rattle.std.specs.declared.sync.Arc.{Arc}
 use Rattle.std.specs.declared.alloc.Global.{Global}
@@ -22,7 +22,7 @@ when-shared b x y z h e = h ∙ ap (λ w. if w then x else y) e
 pub not-shared : {A : Type 0} (b : Bool) (x y z : A) → z ≡ (if b then x else y) → b ≡ false → z ≡ y
 not-shared b x y z h e = h ∙ ap (λ w. if w then x else y) e
 
--- nothing was put behind
+-- nothing was put after
 pub first-none : {T : Type 0} (old all new : List (T × ℕ)) (f t : ℕ) → f ≤ t → new ≡ old → HasFirst old all f t new
 first-none old all new f t h e = record {
   until = f;
@@ -49,7 +49,7 @@ first-run old all new i to c r h =
       values = h.values ∙ (ap (λ z. old ++ part 0 u z) r.values ∙ ap (λ z. old ++ z) (part-part i u (i + length c.items.items) all (omega (arith, h.within, n))));
     }
 
--- some values were put behind, and then the first of the others
+-- some values were put after, and then the first of the others
 pub first-further : {T : Type 0} (old now all new : List (T × ℕ)) (f i t : ℕ) → now ≡ old ++ part f i all → f ≤ i → HasFirst now all i t new → HasFirst old all f t new
 first-further old now all new f i t e h k = record {
   until = k.until;
@@ -65,7 +65,7 @@ most-kept cs ds n most short few l = elim (cases_lt (length cs) 64) [
   | inr b ↦ omega (arith, most, l.kept (short b) (few b))
 ]
 
--- no more values than were put behind
+-- no more values than were put after
 total-put : {T X E : Type 0} (r : Result X E) (old more new : List (T × ℕ)) → OnOk r (new ≡ old ++ more) → OnErr r (new ≡ old) → total_of new ≤ total_of old + total_of more
 total-put (Ok x) old more new h k = omega (arith, ap total_of h, total_of-append old more)
 total-put (Err e) old more new h k = omega (arith, ap total_of k)
@@ -108,7 +108,7 @@ module _ {T : Type 0} (g : Groups (Arc T Global)) (before : List (T × ℕ)) (sa
     pub values-kept : many_values n ≡ many_values g.rest → group_values (record { parts = g.parts; starts = g.starts; firsts = g.firsts; rest = n }) ≡ before
     values-kept e = values-with ∙ (ap (λ z. values_in (each_pairs (parts_of g)) ++ z) e ∙ sym values-groups)
 
-    -- values were put behind those of the rest
+    -- values were put after those of the rest
     pub values-put : (more : List (T × ℕ)) → many_values n ≡ many_values g.rest ++ more → group_values (record { parts = g.parts; starts = g.starts; firsts = g.firsts; rest = n }) ≡ before ++ more
     values-put more e =
         let E = values_in (each_pairs (parts_of g)) in

@@ -1,4 +1,4 @@
--- Parts that are shared as wholes, and chunks behind full ones.
+-- Parts that are shared as wholes, and chunks after full ones.
 use Rattle.std.specs.Prelude.{◌≡◌, ℕ, ◌+◌, ◌-◌, ◌≤◌, ◌<◌, ◌^◌, List, [], ◌∷◌, ◌++◌, length, take, get_or}
 use Rattle.std.specs.declared.sync.Arc.{Arc}
 use Rattle.std.specs.declared.alloc.Global.{Global}

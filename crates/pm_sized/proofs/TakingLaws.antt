@@ -1,4 +1,4 @@
--- A part of groups, or the rest behind them, and what of it is put behind other values.
+-- A part of groups, or the rest after them, and what of it is put after other values.
 use Rattle.std.specs.Prelude.{◌≡◌, ℕ, ◌+◌, ◌-◌, ◌≤◌, ◌<◌, ◌^◌, List, ◌++◌, length, take, get_or, min}
 use Rattle.std.specs.declared.sync.Arc.{Arc}
 use Rattle.std.specs.declared.alloc.Global.{Global}
@@ -38,7 +38,7 @@ taken g at i to first end m fs f l low next first-is is h some within end-is =
       end_is = end-is;
     }
 
--- what of a part is put behind other values
+-- what of a part is put after other values
 module _ {T : Type 0} (g : Groups (Arc T Global)) (at i to from end : ℕ) (m : Many (Arc T Global)) (t : Taken g at i to from end m) where
   a : Inside g at (part_of g at)
   a = inside g at t.laid t.at_most

@@ -53,7 +53,7 @@ pub record IsCounted {T : Type 0} (xs : List T) (ss : List ℕ) (end : ℕ) : Ty
   pub from : get_or ss 0 end ≡ 0
   pub rises : Rises ss end
 
--- a chunk with one more item behind the others
+-- a chunk with one more item after the others
 pub record Grown {T : Type 0} (old : Chunk T) (item : T) (measure : ℕ) (new : Chunk T) : Type 0 where
   pub pairs : chunk_pairs new ≡ chunk_pairs old ++ (item, measure) ∷ []
   pub counted : IsCounted new.items.items new.starts.items new.size
@@ -126,7 +126,7 @@ abbrev pub AreParts : {T : Type 0} → List (Many T) → Type 0
 AreParts [] = Unit {0}
 AreParts (m ∷ ms) = IsPart m × AreParts ms
 
--- The parts lie as they should, and behind them the rest, in at most 64 chunks: beside each part and beside the rest stand the
+-- The parts lie as they should, and after them the rest, in at most 64 chunks: beside each part and beside the rest stand the
 -- sum of the measures and the number of the items before it.
 pub record IsGrouped {T : Type 0} (g : Groups T) : Type 0 where
   pub parts : AreParts (parts_of g)

@@ -77,13 +77,13 @@ pub record Lengthened {T : Type 0} (cs ds : List (Arc (Chunk T) Global)) (n : �
   pub by_one : length ds ≤ length cs + 1
   pub kept : HasShortLast cs → n ≤ 32 → length ds ≤ length cs
 
--- n of the values from i on, and none from `to` on, were put behind those that were there
+-- n of the values from i on, and none from `to` on, were put after those that were there
 pub record Appended {T : Type 0} (before all : List (T × ℕ)) (i to n : ℕ) (after : List (T × ℕ)) : Type 0 where
   pub some : 0 < n
   pub within : i + n ≤ to
   pub values : after ≡ before ++ part i (i + n) all
 
--- the item is behind the others, or came back, and nothing changed
+-- the item is after the others, or came back, and nothing changed
 abbrev pub HasGrown : {T : Type 0} → List (T × ℕ) → T → ℕ → Option T → List (T × ℕ) → Type 0
 HasGrown before item measure None after = after ≡ before ++ (item, measure) ∷ []
 HasGrown before item measure (Some back) after = (back ≡ item) × (after ≡ before)
@@ -93,7 +93,7 @@ abbrev pub StaysShort : {T : Type 0} → Option T → List (Arc (Chunk T) Global
 StaysShort None cs ds = Unit {0}
 StaysShort (Some back) cs ds = HasShortLast cs → HasShortLast ds
 
--- the values from..until of the values from..to were put behind those that were there
+-- the values from..until of the values from..to were put after those that were there
 pub record HasFirst {T : Type 0} (before all : List (T × ℕ)) (from to : ℕ) (after : List (T × ℕ)) : Type 0 where
   pub until : ℕ
   pub from_on : from ≤ until

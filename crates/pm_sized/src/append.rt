@@ -1,4 +1,4 @@
-//! Runs of shared items, behind the others and as chunks of their own.
+//! Runs of shared items, after the others and as chunks of their own.
 ghost use Rattle.std.specs.Prelude.{◌≡◌, ◌+◌, ◌<◌, ◌≤◌, ◌^◌, ◌++◌, length, IfOk, OnOk, OnErr};
 ghost use Rattle.pm_sized.specs.Pairs.{total_of, IsLaid, IsFew, IsMany, IsGrouped};
 ghost use Rattle.pm_sized.specs.Parts.{part, values_in, many_values, group_values, values_of, Appended, HasFirst};
@@ -30,8 +30,8 @@ impl<T: Drop> Chunks<Arc<T, Global>> {
         Ok(made)
     }
 
-    /// Puts the items from..to of other chunks behind the last one, shared with them: whole chunks at once, but for those at
-    /// the two ends. For want of memory the first of them may be there, and the others are not.
+    /// Appends the items from..to of other chunks, shared with them: whole chunks at once, but for those at
+    /// the two ends. Out of memory, the first of them may be there, and the others are not.
     pub fn append(
         &mut self,
         alloc: Global,
@@ -55,7 +55,7 @@ impl<T: Drop> Chunks<Arc<T, Global>> {
         Ok(())
     }
 
-    /// Puts behind the last item item `i`, with those from it on that lie in its chunk and before `to`. It answers how many.
+    /// Puts after the last item item `i`, with those from it on that lie in its chunk and before `to`. It answers how many.
     fn append_next(
         &mut self,
         alloc: Global,
@@ -82,7 +82,7 @@ impl<T: Drop> Chunks<Arc<T, Global>> {
         }
     }
 
-    /// Puts item `i` of few behind the last one, shared with them.
+    /// Puts item `i` of few after the last one, shared with them.
     fn append_one(
         &mut self,
         alloc: Global,
@@ -103,7 +103,7 @@ impl<T: Drop> Chunks<Arc<T, Global>> {
         Ok(())
     }
 
-    /// Puts behind the last item those from item `i` on that lie in its chunk and before `to`. It answers how many.
+    /// Puts after the last item those from item `i` on that lie in its chunk and before `to`. It answers how many.
     fn append_run(
         &mut self,
         alloc: Global,
@@ -125,8 +125,8 @@ impl<T: Drop> Chunks<Arc<T, Global>> {
         self.put(alloc, chunk)?;
         Ok(count)
     }
-    /// Puts behind the last item those from item `i` on that lie in its part and before `to`, all at once where they are a whole
-    /// part that can be shared, else those of a chunk. It answers how many.
+    /// Puts after the last item those from item `i` on that lie in its part and before `to`, all at once where they are a
+    /// whole part that can be shared, else those of a chunk. It answers how many.
     fn append_part(
         &mut self,
         alloc: Global,

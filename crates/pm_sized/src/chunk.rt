@@ -44,7 +44,7 @@ impl<T> Chunk<T> {
         })
     }
 
-    /// Puts an item behind the last one. For want of memory the chunk stays as it was, and the item is let go.
+    /// Appends an item. Out of memory, the chunk stays as it was, and the item is dropped.
     pub(crate) fn push(&mut self, item: T, measure: usize) -> Result<(), AllocError>
     where
         T: Drop,

@@ -28,8 +28,8 @@ impl<T> Chunks<T> {
         Chunks::Few(Few::new(alloc))
     }
 
-    /// The items with their measures: up to six as they are, more in chunks of 32 but the last. For want of memory they are
-    /// let go.
+    /// The items with their measures: up to six as they are, more in chunks of 32 but the last. Out of memory, they are
+    /// dropped.
     pub fn from_vec(alloc: Global, items: Vec<(T, usize)>) -> Result<Chunks<T>, AllocError>
     where
         T: Drop,

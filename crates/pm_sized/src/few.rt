@@ -46,7 +46,7 @@ impl<T> Few<T> {
         Few { items, total }
     }
 
-    /// Puts an item behind the last one. For want of memory the items stay as they were, and this one is let go.
+    /// Appends an item. Out of memory, the items stay as they were, and this one is dropped.
     pub(crate) fn push(&mut self, item: T, measure: usize) -> Result<(), AllocError>
     where
         T: Drop,

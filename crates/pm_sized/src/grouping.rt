@@ -1,4 +1,4 @@
-//! Shared items in parts: copied, put behind others, and parts that are shared as wholes.
+//! Shared items in parts: copied, put after others, and parts that are shared as wholes.
 ghost use Rattle.std.specs.Prelude.{◌≡◌, ◌+◌, ◌<◌, ◌≤◌, ◌^◌, [], ◌∷◌, ◌++◌, if◌then◌else◌, length, IfOk, OnOk, OnErr};
 ghost use Rattle.std.specs.Arc.{arc_value};
 ghost use Rattle.pm_sized.specs.Pairs.{many_pairs, group_pairs, total_of, IsChunk, IsPart, IsGrouped};
@@ -26,7 +26,7 @@ impl<T: Drop> Groups<Arc<T, Global>> {
         Ok(made)
     }
 
-    /// Makes a part of the rest, where that has 64 chunks of 32 items or more. For want of memory all stays as it was.
+    /// Makes a part of the rest, where that has 64 chunks of 32 items or more. Out of memory, all stays as it was.
     fn close(&mut self, alloc: Global) -> Result<(), AllocError>
         requires laid { IsGrouped self.old }
         ensures laid { IsGrouped self.new }
@@ -41,7 +41,7 @@ impl<T: Drop> Groups<Arc<T, Global>> {
         self.add(alloc, part)
     }
 
-    /// Makes the last part the rest, where that has no items. For want of memory all stays as it was.
+    /// Makes the last part the rest, where that has no items. Out of memory, all stays as it was.
     fn reopen(&mut self, alloc: Global) -> Result<(), AllocError>
         requires laid { IsGrouped self.old }
         requires some { 0 < length (group_pairs self.old) }
@@ -60,7 +60,7 @@ impl<T: Drop> Groups<Arc<T, Global>> {
         Ok(())
     }
 
-    /// Puts an item behind the last one. For want of memory the items stay as they were, and this one is let go.
+    /// Appends an item. Out of memory, the items stay as they were, and this one is dropped.
     pub(crate) fn push(
         &mut self,
         alloc: Global,
@@ -78,7 +78,7 @@ impl<T: Drop> Groups<Arc<T, Global>> {
         self.rest.push(alloc, item, measure)
     }
 
-    /// Puts an item in the place of the last one. For want of memory that one stays.
+    /// Puts an item in the place of the last one. Out of memory, that one stays.
     pub(crate) fn set_last(
         &mut self,
         alloc: Global,
@@ -97,7 +97,7 @@ impl<T: Drop> Groups<Arc<T, Global>> {
         self.rest.set_last(alloc, item, measure)
     }
 
-    /// Puts a chunk behind the others. For want of memory the first of its items may be there, and the others are not.
+    /// Appends a chunk to the others. Out of memory, the first of its items may be there, and the others are not.
     pub(crate) fn put(
         &mut self,
         alloc: Global,
@@ -121,7 +121,7 @@ impl<T: Drop> Groups<Arc<T, Global>> {
         self.put_small(alloc, second)
     }
 
-    /// Puts a chunk behind the others, where the rest has fewer than 64 chunks or this one at most 32 items. For want of memory
+    /// Appends a chunk to the others, where the rest has fewer than 64 chunks or this one at most 32 items. Out of memory,
     /// the items stay as they were.
     fn put_small(
         &mut self,
@@ -140,8 +140,8 @@ impl<T: Drop> Groups<Arc<T, Global>> {
         self.rest.put(alloc, chunk)
     }
 
-    /// Puts a part behind the others and shares it, where the rest is a part too or has no items: `true`. Else nothing changes.
-    /// For want of memory all stays as it was.
+    /// Appends a part to the others and shares it, where the rest is a part too or has no items: `true`. Else nothing
+    /// changes. Out of memory, all stays as it was.
     pub(crate) fn share(
         &mut self,
         alloc: Global,

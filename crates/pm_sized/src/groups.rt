@@ -11,9 +11,9 @@ use std::sync::Arc;
 /// The number of chunks of a part.
 pub(crate) const PART: usize = 64;
 
-/// Items in order, each with its measure: parts of 64 chunks of 32 to 63, and behind them the rest in chunks of its own. Parts are
-/// shared as wholes: beside each, and beside the rest, stand its start, the sum of the measures before it, and how many items
-/// are before it.
+/// Items in order, each with its measure: parts of 64 chunks of 32 to 63, and after them the rest in chunks of its own.
+/// Parts are shared as wholes: beside each, and beside the rest, stand its start, the sum of the measures before it, and how
+/// many items are before it.
 #[derive(Drop)]
 pub struct Groups<T> {
     pub(crate) parts: Vec<Arc<Many<T>, Global>>,
@@ -23,7 +23,7 @@ pub struct Groups<T> {
 }
 
 impl<T> Groups<T> {
-    /// These items, with no parts before them. For want of memory they are let go.
+    /// These items, with no parts before them. Out of memory, they are dropped.
     pub(crate) fn of(alloc: Global, rest: Many<T>) -> Result<Groups<T>, AllocError>
     where
         T: Drop,
@@ -56,7 +56,7 @@ impl<T> Groups<T> {
         self.starts[self.parts.len()] + self.rest.total
     }
 
-    /// Part number `at`, counted from 0, or the rest behind the last of them. It takes no memory.
+    /// Part number `at`, counted from 0, or the rest after the last of them. It takes no memory.
     pub(crate) fn part(&self, at: usize) -> &Many<T>
         ensures { result.now ≡ part_of self.now at }
     {
@@ -77,7 +77,7 @@ impl<T> Groups<T> {
         self.part(at).item(i - self.firsts[at])
     }
 
-    /// Puts a part behind the others, and lets the rest go. For want of memory all stays as it was.
+    /// Appends a part to the others, and drops the rest. Out of memory, all stays as it was.
     pub(crate) fn add(
         &mut self,
         alloc: Global,

@@ -1,4 +1,4 @@
-//! Shared items in chunks, one by one behind the others, and chunks of them.
+//! Shared items in chunks, one by one after the others, and chunks of them.
 ghost use Rattle.std.specs.Prelude.{◌≡◌, ◌+◌, ◌-◌, ◌<◌, ◌≤◌, ◌^◌, [], ◌∷◌, ◌++◌, length, take, true, false, IfOk, OnOk, OnErr};
 ghost use Rattle.std.specs.Arc.{arc_value};
 ghost use Rattle.pm_sized.specs.Pairs.{many_pairs, all_pairs, chunk_pairs, total_of, IsMany, IsChunk, AreFull};
@@ -14,8 +14,8 @@ use std::sync::Arc;
 const MOST: usize = 63;
 
 impl<T: Drop> Many<T> {
-    /// Puts an item behind the last one, in its chunk, where that has fewer than 32 items and nothing else shares it. Else the
-    /// item comes back, and nothing changes. For want of memory the items stay as they were, and this one is let go.
+    /// Appends an item, in its chunk, where that has fewer than 32 items and nothing else shares it. Else the
+    /// item comes back, and nothing changes. Out of memory, the items stay as they were, and this one is dropped.
     fn grow(&mut self, item: T, measure: usize) -> Result<Option<T>, AllocError>
         requires laid { IsMany self.old }
         requires some { 1 ≤ measure }
@@ -41,7 +41,7 @@ impl<T: Drop> Many<T> {
 }
 
 impl<T: Drop> Many<Arc<T, Global>> {
-    /// Puts an item behind the last one. For want of memory the items stay as they were, and this one is let go.
+    /// Appends an item. Out of memory, the items stay as they were, and this one is dropped.
     pub(crate) fn push(
         &mut self,
         alloc: Global,
@@ -64,7 +64,7 @@ impl<T: Drop> Many<Arc<T, Global>> {
         Ok(())
     }
 
-    /// Puts an item in the place of the last one. For want of memory that one stays.
+    /// Puts an item in the place of the last one. Out of memory, that one stays.
     pub(crate) fn set_last(
         &mut self,
         alloc: Global,
@@ -88,8 +88,8 @@ impl<T: Drop> Many<Arc<T, Global>> {
         Ok(())
     }
 
-    /// Puts a chunk behind the others, which is shared where the last one has 32 items or more. Else its items are put behind
-    /// those of the last chunk as far as they have room there, and the others behind it. For want of memory the items stay as
+    /// Appends a chunk to the others, which is shared where the last one has 32 items or more. Else its items are put after
+    /// those of the last chunk as far as they have room there, and the others after it. Out of memory, the items stay as
     /// they were.
     pub(crate) fn put(
         &mut self,
@@ -121,7 +121,7 @@ impl<T: Drop> Many<Arc<T, Global>> {
         count > 0 && self.chunks[count - 1].items.len() < CHUNK
     }
 
-    /// Puts a chunk's items behind those of the last chunk, which has fewer than 32: all where they are 63 at most together,
+    /// Puts a chunk's items after those of the last chunk, which has fewer than 32: all where they are 63 at most together,
     /// else so many that it has 32.
     fn merge(
         &mut self,
@@ -151,7 +151,7 @@ impl<T: Drop> Many<Arc<T, Global>> {
         Ok(())
     }
 
-    /// Puts two chunks in the place of the last one. For want of memory it stays.
+    /// Puts two chunks in the place of the last one. Out of memory, it stays.
     fn replace_by_two(
         &mut self,
         full: Arc<Chunk<Arc<T, Global>>, Global>,

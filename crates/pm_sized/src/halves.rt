@@ -5,7 +5,7 @@ use crate::steps::Steps;
 use std::marker::Brand;
 use std::sync::ledger::{Blank, Ledger};
 
-/// The number of the last start at or before a position, where the first start is and no start behind that one is. Among n
+/// The number of the last start at or before a position, where the first start is and no start after that one is. Among n
 /// starts it takes at most k steps, where n is at most 2^k. It takes no memory.
 pub(crate) fn search<L: Ledger>(starts: &[usize], pos: usize, steps: &mut Steps<L>) -> usize
     requires some { 0 < length starts.now }

@@ -58,7 +58,7 @@ impl<T> Many<T> {
         })
     }
 
-    /// The items with their measures, in chunks of 32 but the last. For want of memory they are let go.
+    /// The items with their measures, in chunks of 32 but the last. Out of memory, they are dropped.
     pub(crate) fn from_vec(alloc: Global, items: Vec<(T, usize)>) -> Result<Many<T>, AllocError>
     where
         T: Drop,
@@ -86,7 +86,7 @@ impl<T> Many<T> {
         &self.chunks[at].items[i - self.firsts[at]]
     }
 
-    /// Puts a chunk behind the last one, which is shared, where each chunk has 32 items or more. For want of memory the chunks
+    /// Appends a chunk, which is shared, where each chunk has 32 items or more. Out of memory, the chunks
     /// stay as they were.
     pub(crate) fn push_chunk(&mut self, chunk: Arc<Chunk<T>, Global>) -> Result<(), AllocError>
     where
@@ -146,7 +146,7 @@ impl<T> Many<T> {
     }
 }
 
-/// Puts the growing chunk behind the others where it has 32 items, so that it has fewer. After an error both are of no use.
+/// Appends the growing chunk to the others where it has 32 items, so that it has fewer. After an error both are of no use.
 fn make_room<T: Drop>(
     alloc: Global,
     made: &mut Many<T>,
@@ -167,7 +167,7 @@ fn make_room<T: Drop>(
     Ok(())
 }
 
-/// The chunks, with the growing one behind the others where it has any item. For want of memory all are let go.
+/// The chunks, with the growing one after the others where it has any item. Out of memory, all are dropped.
 fn finish<T: Drop>(alloc: Global, made: Many<T>, tail: Chunk<T>) -> Result<Many<T>, AllocError>
     requires built { IsBuilt made tail }
     requires few { length (built_pairs made tail) < 2 ^ 32 }

@@ -11,7 +11,7 @@ use std::alloc::{AllocError, Global};
 use std::sync::Arc;
 
 impl<T: Drop> Chunk<Arc<T, Global>> {
-    /// Puts the items from..to of another chunk behind the last one, shared with it. After an error the chunk is of no use.
+    /// Appends the items from..to of another chunk, shared with it. After an error the chunk is of no use.
     pub(crate) fn append_run(
         &mut self,
         source: &Chunk<Arc<T, Global>>,
@@ -55,7 +55,7 @@ pub(crate) fn run<T: Drop>(
     Ok(Arc::new(alloc, made)?)
 }
 
-/// A chunk, with the first `count` items of another one behind.
+/// A chunk, with the first `count` items of another one after.
 pub(crate) fn extended<T: Drop>(
     alloc: Global,
     chunk: &Chunk<Arc<T, Global>>,

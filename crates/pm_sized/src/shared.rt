@@ -1,4 +1,4 @@
-//! Shared items, copied and put behind others.
+//! Shared items, copied and put after others.
 ghost use Rattle.std.specs.Prelude.{◌≡◌, ℕ, ◌+◌, ◌<◌, ◌≤◌, ◌^◌, [], ◌∷◌, ◌++◌, if◌then◌else◌, length, true, IfOk, OnOk, OnErr};
 ghost use Rattle.std.specs.Arc.{arc_value};
 ghost use Rattle.pm_sized.specs.Pairs.{total_of, IsLaid, IsChunk, IsPart};
@@ -26,7 +26,7 @@ impl<T: Drop> Chunks<Arc<T, Global>> {
         }
     }
 
-    /// Puts an item behind the last one. For want of memory the items stay as they were, and this one is let go.
+    /// Appends an item. Out of memory, the items stay as they were, and this one is dropped.
     pub fn push(
         &mut self,
         alloc: Global,
@@ -49,7 +49,7 @@ impl<T: Drop> Chunks<Arc<T, Global>> {
         }
     }
 
-    /// Puts an item in the place of the last one. For want of memory that one stays.
+    /// Puts an item in the place of the last one. Out of memory, that one stays.
     pub fn set_last(
         &mut self,
         alloc: Global,
@@ -74,7 +74,7 @@ impl<T: Drop> Chunks<Arc<T, Global>> {
         }
     }
 
-    /// Puts the items of a chunk behind the others, which then lie in chunks. For want of memory the first of them may be there,
+    /// Appends the items of a chunk to the others, which then lie in chunks. Out of memory, the first of them may be there,
     /// and the others are not.
     pub(crate) fn put(
         &mut self,
@@ -97,7 +97,7 @@ impl<T: Drop> Chunks<Arc<T, Global>> {
         }
     }
 
-    /// Puts the items into chunks, where they lie in none and are `least` or more. For want of memory they stay.
+    /// Puts the items into chunks, where they lie in none and are `least` or more. Out of memory, they stay.
     fn widen(&mut self, alloc: Global, least: usize) -> Result<(), AllocError>
         requires laid { IsLaid self.old }
         ensures laid { IsLaid self.new }
@@ -140,8 +140,8 @@ impl<T: Drop> Chunks<Arc<T, Global>> {
         }
     }
 
-    /// Puts a part behind the others and shares it, where all of these lie in parts, or are as many, or none: `true`. Else the
-    /// items stay as they were. So they do for want of memory.
+    /// Appends a part to the others and shares it, where all of these lie in parts, or are as many, or none: `true`. Else the
+    /// items stay as they were. So they do out of memory.
     pub(crate) fn share(
         &mut self,
         alloc: Global,
@@ -162,7 +162,7 @@ impl<T: Drop> Chunks<Arc<T, Global>> {
         }
     }
 
-    /// Makes groups of no items. For want of memory, and where there are items, they stay as they were.
+    /// Makes groups of no items. Out of memory, and where there are items, they stay as they were.
     fn begin(&mut self, alloc: Global) -> Result<(), AllocError>
         requires laid { IsLaid self.old }
         ensures laid { IsLaid self.new }
@@ -175,7 +175,7 @@ impl<T: Drop> Chunks<Arc<T, Global>> {
         Ok(())
     }
 
-    /// Makes groups of items that take as many chunks as a part has. For want of memory they stay as they were.
+    /// Makes groups of items that take as many chunks as a part has. Out of memory, they stay as they were.
     fn deepen(&mut self, alloc: Global) -> Result<(), AllocError>
         requires laid { IsLaid self.old }
         ensures laid { IsLaid self.new }

@@ -48,7 +48,7 @@ clipped-none ts f t e k = made ts f t 0 [] [] (path-start ts f (omega (arith, e,
 pub clipped-whole : (ts : List Token) (f t : ℕ) → Balanced ts → f ≡ 0 → length ts ≤ t → clipped ts f t ≡ ts
 clipped-whole ts f t b e h = made ts f t 0 [] ts (path-start ts f e) (part_all f t ts e h) (depth-past ts t b h) ∙ append-nil ts
 
--- positions behind the end are as good as the end
+-- positions after the end are as good as the end
 pub clipped-within : (ts : List Token) (f t n u v : ℕ) → Balanced ts → f ≤ t → n ≡ length ts → u ≡ min n f → v ≡ min n t → clipped ts u v ≡ clipped ts f t
 clipped-within ts f t n u v b h size eu ev = elim (cases_lt f n) [
   | inl k ↦
@@ -70,7 +70,7 @@ module _ (xs ys : List Token) (f t : ℕ) (b : Balanced xs) (h : f ≤ t) where
   abbrev v : ℕ
   v = t - length xs
 
-  -- the part begins behind the first nodes
+  -- the part begins after the first nodes
   behind : length xs ≤ f → clipped (xs ++ ys) f t ≡ clipped xs f t ++ clipped ys u v
   behind k =
       let q : part f t (xs ++ ys) ≡ part u v ys = part-append f t xs ys ∙ ap (λ z. z ++ part u v ys) (part_past f t xs k) in
@@ -157,7 +157,7 @@ module _ (n : Node) (inner : List Token) (f t : ℕ) (is : n.body ≡ Children i
         made (node_tokens n) f t (1 + depth_at inner (t - 1)) (o ∷ p) (q ++ []) (path-inside n inner f is b k lt) m deep
         ∙ (ap (λ z. o ∷ (p ++ z)) closes ∙ ap (λ z. o ∷ z) (sym (append_assoc p (q ++ replicate (depth_at inner (t - 1)) Close) (Close ∷ []))))
 
-  -- the end lies behind it: its close is there
+  -- the end lies after it: its close is there
   to-end : 0 < f → length (node_tokens n) ≤ t → clipped (node_tokens n) f t ≡ o ∷ (clipped inner (f - 1) (t - 1) ++ (Close ∷ []))
   to-end k i =
       let close : part (f - 1 - length inner) (t - 1 - length inner) (Close ∷ []) ≡ Close ∷ [] = part_all (f - 1 - length inner) (t - 1 - length inner) (Close ∷ []) (omega (arith, lt, size)) (omega (arith, i, size)) in

@@ -107,7 +107,7 @@ module _ {Z : Type 0} (xs : List (Arc Node Z)) (f t : ℕ) (h : f ≤ t) (w : Ea
   part-room i j r m c l s =
       omega (arith, c.small, ap length (front-run xs i j l), length-append (front xs i) (list_tokens (part i j xs)), ap length (front-rest xs j), length-append (front xs j) (rest xs j))
 
-  -- and for the child behind it
+  -- and for the child after it
   pub last-room : (i : ℕ) (x : Arc Node Z) (m : List Token) → Clipped xs i f t m → i < length xs → x ≡ get_or xs i x → length m + length (node_tokens (arc_value x)) ≤ length (list_tokens xs)
   last-room i x m c k q =
       let ts = node_tokens (arc_value x) in
@@ -144,7 +144,7 @@ module _ {Z : Type 0} (xs : List (Arc Node Z)) (f t : ℕ) (h : f ≤ t) (w : Ea
   pub clipped-small : (i : ℕ) (m : List Token) → Clipped xs i f t m → length m ≤ length (list_tokens xs)
   clipped-small i m c = omega (arith, c.small, ap length (front-rest xs i), length-append (front xs i) (rest xs i))
 
-  -- a position stands at or before the end of the children behind it
+  -- a position stands at or before the end of the children after it
   pub stands-within : (i j r : ℕ) → Stands xs t j r → j < i → i ≤ length xs → t ≤ length (front xs i)
   stands-within i j r s l k =
       let at : length (front xs j) + r ≡ t = s.offset in

@@ -71,7 +71,7 @@ across-kept ts made from to os oe b i f m s e =
 
 -- ---- the child that a part begins in
 
--- the positions as they lie behind the first i children
+-- the positions as they lie after the first i children
 pub record Sought {Z : Type 0} (xs : List (Arc Node Z)) (i from to start end : ℕ) : Type 0 where
   pub at_from : start + length (front xs i) ≡ from
   pub at_to : end + length (front xs i) ≡ to
@@ -128,7 +128,7 @@ module _ {Z : Type 0} (xs : List (Arc Node Z)) (from to : ℕ) where
     | inr p ↦ flat-here i start end w o (omega (arith, p))
   ]
 
-  -- behind the last child
+  -- after the last child
   pub flat-end : (i start end : ℕ) → Sought xs i from to start end → length xs ≤ i → from ≤ to → to ≤ length (list_tokens xs) → Flat (list_tokens xs) from to
   flat-end i start end w k o le =
       let f : length (front xs i) ≡ length (list_tokens xs) = ap (λ (zs : List (Arc Node Z)). length (list_tokens zs)) (take_all i xs k) in

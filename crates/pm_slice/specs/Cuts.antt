@@ -22,7 +22,7 @@ pub record IsCut (ts : List Token) (from to : ℕ) (sl : Slice) : Type 0 where
   pub start : sl.open_start + shared_depth ts from to ≡ depth_at ts from
   pub end : sl.open_end + shared_depth ts from to ≡ depth_at ts to
 
--- the slice is the cut, where the positions are in range; Range comes where they are not, and want of memory with any
+-- the slice is the cut, where the positions are in range; Range comes where they are not, and running out of memory with any
 abbrev pub Cuts : List Token → ℕ → ℕ → Result Slice CutError → Type 0
 Cuts ts from to (Ok sl) = IsCut ts from to sl
 Cuts ts from to (Err Range) = ¬ InRange ts from to

@@ -54,11 +54,11 @@ abbrev pub slice_code : Coded Slice
 slice_code =
     code_by (List Token × (ℕ × ℕ)) (coded× tokens_code (coded× coded_ℕ coded_ℕ)) (λ sl. (sl.content, (sl.open_start, sl.open_end))) (λ p. record { content = p.0; open_start = p.1.0; open_end = p.1.1 }) (λ _. refl)
 
--- the tokens from..to, with the nodes around `from` opened before them and those around `to` closed behind them
+-- the tokens from..to, with the nodes around `from` opened before them and those around `to` closed after them
 abbrev pub clipped : List Token → ℕ → ℕ → List Token
 clipped ts from to = path ts from ++ (part from to ts ++ replicate (depth_at ts to) Close)
 
--- Of the first i children, which end at or behind the start of a part, m is made.
+-- Of the first i children, which end at or after the start of a part, m is made.
 pub record Clipped {Z : Type 0} (xs : List (Arc Node Z)) (i from to : ℕ) (m : List Token) : Type 0 where
   pub within : i ≤ length xs
   pub starts : from ≤ length (list_tokens (take i xs))

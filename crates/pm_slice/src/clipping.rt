@@ -8,7 +8,7 @@ use pm_node::{Body, Children, Fragment, Node};
 use std::alloc::{AllocError, Global};
 use std::sync::Arc;
 
-/// The tokens from..to of a content, with the nodes around `from` opened before them and those around `to` closed behind
+/// The tokens from..to of a content, with the nodes around `from` opened before them and those around `to` closed after
 /// them. It shares each whole node.
 #[cycle(clip)]
 pub fn clip(
@@ -85,7 +85,7 @@ fn put_first(
     Ok(first.index + 1)
 }
 
-/// Puts the part of a node that is not whole in it behind the others.
+/// Appends the part of a node that is not whole in it to the others.
 #[cycle(clip)]
 fn put_part(
     alloc: Global,

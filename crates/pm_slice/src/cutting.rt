@@ -14,6 +14,7 @@ use std::alloc::{AllocError, Global};
 /// The part from..to of a document as a slice. Its tokens are the document's from..to. Nodes that are around one of the two
 /// positions and not around both are open in it, with their attributes and marks. Range comes exactly where not
 /// from <= to <= size.
+/// ProseMirror: `Node.slice`.
 pub fn cut(alloc: Global, doc: &Document, from: usize, to: usize) -> Result<Slice, CutError>
     ensures { Cuts doc.now.tokens from to result }
 {

@@ -10,6 +10,7 @@ use std::marker::Model;
 
 /// A content whose first `open_start` tokens, which are opens, and whose last `open_end` tokens, which are closes, are not
 /// part of the slice: these nodes are open at its start and at its end.
+/// ProseMirror: `Slice`.
 #[derive(Drop)]
 pub struct Slice {
     pub(crate) content: Fragment,

@@ -11,8 +11,9 @@ use pm_map::{Positions, Span, StepMap};
 use pm_slice::Slice;
 use std::alloc::{AllocError, Global};
 
-/// Puts a slice in place of what stands from `from` to `to`, and keeps what stands from `gap_from` to `gap_to`: it comes behind
-/// the first `insert` tokens of the slice. With `structure` it may overwrite closes followed by opens alone.
+/// Puts a slice in place of what stands from `from` to `to`, and keeps what stands from `gap_from` to `gap_to`: it comes
+/// after the first `insert` tokens of the slice. With `structure` it may overwrite closes followed by opens alone.
+/// ProseMirror: `ReplaceAroundStep`.
 #[derive(Drop)]
 pub struct ReplaceAroundStep {
     pub from: u64,
@@ -40,7 +41,7 @@ impl ReplaceAroundStep {
         })
     }
 
-    /// How positions move over this step: it has one range before its gap and one behind it. It takes no memory.
+    /// How positions move over this step: it has one range before its gap and one after it. It takes no memory.
     pub fn step_map(&self) -> StepMap
         requires { HasSize (step_of (Step.ReplaceAround self.now)) }
         ensures { result ≡ step_map (step_of (Step.ReplaceAround self.now)) }

@@ -12,6 +12,7 @@ use pm_value::{Text, Value};
 use std::alloc::{AllocError, Global};
 
 /// Gives the attribute `attr` of the node that begins at `pos` the value.
+/// ProseMirror: `AttrStep`.
 #[derive(Drop)]
 pub struct AttrStep {
     pub pos: u64,
@@ -38,7 +39,7 @@ impl AttrStep {
         StepMap::new(None, None, false)
     }
 
-    /// The step over a mapping: `pos` by `After`. It is lost where the token behind it is deleted.
+    /// The step over a mapping: `pos` by `After`. It is lost where the token after it is deleted.
     pub fn carry<P: Positions>(
         &self,
         alloc: Global,

@@ -11,6 +11,7 @@ use pm_value::{Text, Value};
 use std::alloc::{AllocError, Global};
 
 /// Gives the attribute `attr` of the top node the value.
+/// ProseMirror: `DocAttrStep`.
 #[derive(Drop)]
 pub struct DocAttrStep {
     pub attr: Text,

@@ -13,6 +13,7 @@ use std::alloc::{AllocError, Global};
 
 /// Adds a mark to the units and the inline leaves and atoms from `from` to `to`, where their parents allow it, or takes it from
 /// all that is inline there.
+/// ProseMirror: `AddMarkStep`, `RemoveMarkStep`.
 #[derive(Drop)]
 pub struct MarkStep {
     pub from: u64,

@@ -12,6 +12,7 @@ use pm_map::{Positions, StepMap};
 use std::alloc::{AllocError, Global};
 
 /// Adds a mark to the node that begins at `pos`, or takes it away.
+/// ProseMirror: `AddNodeMarkStep`, `RemoveNodeMarkStep`.
 #[derive(Drop)]
 pub struct NodeMarkStep {
     pub pos: u64,
@@ -36,7 +37,7 @@ impl NodeMarkStep {
         StepMap::new(None, None, false)
     }
 
-    /// The step over a mapping: `pos` by `After`. It is lost where the token behind it is deleted.
+    /// The step over a mapping: `pos` by `After`. It is lost where the token after it is deleted.
     pub fn carry<P: Positions>(
         &self,
         alloc: Global,

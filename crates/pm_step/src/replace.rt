@@ -12,6 +12,7 @@ use pm_slice::Slice;
 use std::alloc::{AllocError, Global};
 
 /// Puts a slice in place of what stands from `from` to `to`. With `structure` it may overwrite closes followed by opens alone.
+/// ProseMirror: `ReplaceStep`.
 #[derive(Drop)]
 pub struct ReplaceStep {
     pub from: u64,

@@ -15,6 +15,7 @@ use pm_map::{Positions, StepMap};
 use std::alloc::{AllocError, Global};
 
 /// A small change of a document. Positions are in tokens. Each kind is a type of its own; what they have in common is said here.
+/// ProseMirror: `Step`.
 #[derive(Drop)]
 pub enum Step {
     /// Puts a slice in place of a range.
@@ -48,6 +49,7 @@ impl Step {
 
     /// How positions move over this step, by the ranges that it replaces. The step must be within some size below 2^32 tokens:
     /// its positions are in order and do not pass it, and `insert` does not pass the size of the slice. It takes no memory.
+    /// ProseMirror: `Step.getMap`.
     pub fn step_map(&self) -> StepMap
         requires { HasSize (step_of self.now) }
         ensures { result ≡ step_map (step_of self.now) }
@@ -64,6 +66,7 @@ impl Step {
 
     /// The step over a mapping, or None where it is lost, as `carry` of its kind says. `positions` tells where
     /// positions go over the mapping, which must lead from a document of a size that the step is within.
+    /// ProseMirror: `Step.map`.
     pub fn carry<P: Positions>(
         &self,
         alloc: Global,

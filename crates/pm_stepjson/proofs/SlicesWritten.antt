@@ -30,12 +30,12 @@ pub broken-none : (at : ℕ) (high : Option Marks) (ts : List Token) → Paired 
 broken-none at high [] p = refl
 broken-none at high (t ∷ ts) p = let q = paired-token high t ts p in joined at high t ts q.0 (broken-none (at + 1) (high_of t) ts q.1)
 
--- behind a front that ends in no half of a pair
+-- after a front that ends in no half of a pair
 pub paired-behind : (xs zs : List Token) → ends_high xs ≡ false → Paired None (xs ++ zs) → Paired None zs
 paired-behind [] zs e h = h
 paired-behind (x ∷ xs) zs e h = paired-rest x None xs zs e h
 
--- another end behind such a front
+-- another end after such a front
 pub paired-end : (xs ys zs : List Token) → ends_high xs ≡ false → Paired None (xs ++ zs) → Paired None ys → Paired None (xs ++ ys)
 paired-end [] ys zs e p q = q
 paired-end (x ∷ xs) ys zs e p q = paired-front x None xs ys zs e p q

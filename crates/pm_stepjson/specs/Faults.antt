@@ -6,7 +6,7 @@ use Rattle.pm_value.specs.declared.fault.ValueError.TheVariants as value
 use Rattle.pm_stepjson.specs.declared.fault.StepReadError.{StepReadError}
 use Rattle.pm_stepjson.specs.declared.fault.StepReadError.TheVariants.{Slice, Mark, Value, NoMemory as OutOfMemory}
 
--- want of memory stays what it is
+-- running out of memory stays what it is
 abbrev pub slice_fault : DocReadError → StepReadError
 slice_fault Shape = Slice Shape
 slice_fault UnknownType = Slice UnknownType

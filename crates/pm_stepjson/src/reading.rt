@@ -17,12 +17,17 @@ use pm_schema::Schema;
 use pm_step::{MarkStep, Marking, NodeMarkStep, Step};
 use std::alloc::Global;
 
-/// The step of a JSON value, or its first fault in the order `stepType` and then the fields of that kind. `Shape` comes where a
-/// field is missing that must be there, or is of another kind: a position or `insert` is a whole number from 0 to 4,294,967,295,
-/// `structure` a truth value, `attr` a text. `UnknownKind` comes where no kind of steps has the name, `Slice` at the first fault
-/// of the slice, `Mark` at that of the mark, and `Value` at that of the value. A slice that is absent or null is the empty one,
-/// and a `structure` that is absent or null is false; a `value` must be there, and null is a value. Whether a type has the
-/// attribute is asked where the step is applied.
+/// The step of a JSON value. A slice that is absent or null is the empty one, and a `structure` that is absent or null is false;
+/// a `value` must be there, and null is a value. Whether a type has the attribute is asked where the step is applied.
+/// ProseMirror: `Step.fromJSON`.
+///
+/// # Errors
+///
+/// The first fault in the order `stepType` and then the fields of that kind.
+/// - `Shape`: a field is missing that must be there, or is of another kind: a position or `insert` is a whole number from 0 to
+///   4,294,967,295, `structure` a truth value, `attr` a text.
+/// - `UnknownKind`: no kind of steps has the name.
+/// - `Slice`, `Mark`, `Value`: the first fault of the slice, of the mark, or of the value.
 #[tactic(auto, unfolding(crate::specs::Reading::step_read))]
 pub fn read_step<J: JsonRef>(alloc: Global, schema: &Schema, json: J) -> Result<Step, StepReadError>
     ensures { Gives step_of result (step_read schema.now.spec (J.seen json)) }

@@ -124,7 +124,7 @@ pub presents-kept : (s : Schema) (a : LiveAuthority) (ms : List (Message Step)) 
 presents-kept s a [] kept = kept
 presents-kept s a (m ∷ ms) kept = presents-kept s (presented meaning s a m).1 ms (presented-kept s a m kept)
 
--- behind the lines the authority is the one after the messages in them
+-- after the lines the authority is the one after the messages in them
 pub folded : (live : Live) (lines : List Line) → (after live lines).authority ≡ presents live.schema live.authority (messages live lines)
 folded live [] = refl
 folded live (line ∷ lines) =
@@ -135,7 +135,7 @@ folded live (line ∷ lines) =
     ∙ (ap (λ a. presents live.schema a (messages next lines)) (line-authority live line)
     ∙ sym (presents-append live.schema live.authority own (messages next lines))))
 
--- behind each number of lines all is valid
+-- after each number of lines all is valid
 pub valid : (live : Live) (lines : List Line) → IsKept meaning live.schema live.authority → IsKept meaning live.schema (after live lines).authority
 valid live lines kept =
     subst (IsKept meaning live.schema) (sym (folded live lines)) (presents-kept live.schema live.authority (messages live lines) kept)

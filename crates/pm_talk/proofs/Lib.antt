@@ -1,5 +1,4 @@
 pub mod Places
-pub mod StepLaws
 pub mod Answering
 pub mod Fronts
 pub mod Hearing

@@ -79,7 +79,7 @@ first-after live version id steps a accepted ids place room h k e =
 pub room-lt : (ids : List (List ℕ)) → length ids < MAX_IDS → nat_lt (length ids) MAX_IDS ≡ true
 room-lt ids h = grind arith
 
--- the ID that was added is let go again where it isn't kept
+-- the ID that was added is dropped again where it isn't kept
 pub first-ids : (ids : List (List ℕ)) (id : List ℕ) (count : ℕ) (kept : Bool) (added now : List (List ℕ)) → count ≡ length ids → added ≡ ids ++ id ∷ []
     → now ≡ (if kept then added else take count added) → now ≡ (if kept then ids ++ id ∷ [] else ids)
 first-ids ids id count true added now n a h = h ∙ a

@@ -1,26 +1,21 @@
 -- What a line asks. `op` is read first, and then the other fields in the order in which they stand here.
-use Rattle.std.specs.Prelude.{ℕ, nat_eq, Bool, List, [], ◌∷◌, codes, Option, Some, None, Result, Ok, if◌then◌else◌}
-use Rattle.std.specs.Cmp.Lexicographic.{pointwise}
-use Rattle.serde_json.specs.Data.{Data, Items, no_items, item}
-use Rattle.serde_json.specs.Find.{get, as_array}
+use Rattle.std.specs.Prelude.{ℕ, List, codes, Option, Some, None, Result, Ok, if◌then◌else◌}
+use Rattle.serde_json.specs.Data.{Data}
 use Rattle.pm_list.specs.Readings.{◌>>=◌, or_fault}
 use Rattle.pm_schema.specs.declared.spec.SchemaSpec.{SchemaSpec}
-use Rattle.pm_meaning.specs.Steps.{Step}
-use Rattle.pm_stepjson.specs.Reading.{step_read}
 use Rattle.pm_head.specs.declared.code.Code.{Code}
-use Rattle.pm_head.specs.declared.code.Code.TheVariants.{WrongShape, UnknownName}
+use Rattle.pm_head.specs.declared.code.Code.TheVariants.{UnknownName}
 use Rattle.pm_head.specs.Lines.{json_line}
 use Rattle.pm_talk.specs.declared.asked.Asked.{Asked}
 use Rattle.pm_talk.specs.declared.asked.Asked.TheVariants.{Submit, Since, Doc}
 use Rattle.pm_talk.specs.declared.asked.Word.{Word}
 use Rattle.pm_talk.specs.declared.asked.Word.TheVariants as word
-use Rattle.pm_talk.specs.Codes.{coded}
-use Rattle.pm_talk.specs.Fields.{text_in, number_in, id_in}
+use Rattle.pm_opjson.specs.Words.{says}
+use Rattle.pm_opjson.specs.Fields.{text_in, number_in}
+use Rattle.pm_opjson.specs.Parts.{steps_in}
+use Rattle.pm_talk.specs.Fields.{id_in}
 
--- the text is this word
-abbrev pub says : List ℕ → List ℕ → Bool
-says text word = pointwise nat_eq text word
-
+-- the word of this text
 abbrev pub word_named : List ℕ → Option Word
 word_named text =
     if says text (codes "submit") then Some word.Submit
@@ -38,27 +33,12 @@ since_in d = do
   Ok (Since version)
 
 module _ (s : SchemaSpec) where
-  -- the values as steps, from the front
-  unfoldable pub step_list : Items → Result (List Step) Code
-  step_list no_items = Ok []
-  step_list (item d ds) = do
-    first ← coded (step_read s d)
-    rest ← step_list ds
-    Ok (first ∷ rest)
-
-  -- the list of steps at `steps`, which may be empty
-  unfoldable pub steps_in : Data → Result (List Step) Code
-  steps_in d = do
-    value ← or_fault WrongShape (get (codes "steps") d)
-    items ← or_fault WrongShape (as_array value)
-    step_list items
-
   -- `submit`: a version, the client's ID, and the steps
   unfoldable pub submit_in : Data → Result Asked Code
   submit_in d = do
     version ← number_in (codes "version") d
     id ← id_in d
-    steps ← steps_in d
+    steps ← steps_in s d
     Ok (Submit version id steps)
 
   -- what the word asks

@@ -1,20 +1,11 @@
--- The fields of a line. One that is absent, or of another kind than it must be, is of a wrong shape.
-use Rattle.std.specs.Prelude.{ℕ, Bool, true, false, not, List, codes, Result, Ok, Err, option_and_then, if◌then◌else◌}
+-- The ID of a client in a line. One that is absent, or is neither a text nor a whole number, is of a wrong shape.
+use Rattle.std.specs.Prelude.{ℕ, Bool, true, false, not, List, codes, Result, Ok, Err, if◌then◌else◌}
 use Rattle.serde_json.specs.Data.{Data, null, boolean, number, string, array, object}
-use Rattle.serde_json.specs.Find.{get, as_str, is_float}
+use Rattle.serde_json.specs.Find.{get, is_float}
 use Rattle.serde_json.specs.Written.{compact_text}
 use Rattle.pm_list.specs.Readings.{◌>>=◌, or_fault}
-use Rattle.pm_slicejson.specs.Numbers.{as_count}
 use Rattle.pm_head.specs.declared.code.Code.{Code}
 use Rattle.pm_head.specs.declared.code.Code.TheVariants.{WrongShape}
-
--- a text
-abbrev pub text_in : List ℕ → Data → Result (List ℕ) Code
-text_in key d = or_fault WrongShape (option_and_then as_str (get key d))
-
--- a whole number from 0 to 4,294,967,295
-abbrev pub number_in : List ℕ → Data → Result ℕ Code
-number_in key d = or_fault WrongShape (option_and_then as_count (get key d))
 
 -- a text or a whole number may be a client's ID
 abbrev pub is_id : Data → Bool

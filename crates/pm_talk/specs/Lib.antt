@@ -1,4 +1,3 @@
-pub mod Codes
 pub mod Fields
 pub mod Asked
 pub mod Ids

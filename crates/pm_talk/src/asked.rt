@@ -1,20 +1,18 @@
 //! What a line asks.
-ghost use Rattle.serde_json.specs.View.{view, items_view};
+ghost use Rattle.std.specs.Prelude.{◌≡◌};
+ghost use Rattle.serde_json.specs.View.{view};
 ghost use Rattle.pm_head.specs.Answers.{Gives};
-ghost use Rattle.pm_talk.specs.Codes.{coded};
-ghost use Rattle.pm_talk.specs.Asked.{submit_in, since_in, asked_of, asked_line, step_list, steps_in, word_named};
-ghost use Rattle.pm_stepjson.specs.Reading.{step_read};
+ghost use Rattle.pm_talk.specs.Asked.{submit_in, since_in, asked_of, asked_line, word_in, word_named};
 
-use crate::codes::step_fault;
-use crate::fields::{id_in, number_in, text_in};
+use crate::fields::id_in;
 use pm_apply::DocChange;
 use pm_head::{Code, LineError, json_line};
 use pm_list::Listed;
+use pm_opjson::{count_in, steps_in, text_in};
 use pm_schema::Schema;
-use pm_stepjson::read_step;
 use pm_value::Text;
 use serde_json::Value;
-use std::alloc::{AllocError, Global};
+use std::alloc::Global;
 
 /// What a line asks.
 #[derive(Drop)]
@@ -62,8 +60,6 @@ fn asked_of(alloc: Global, schema: &Schema, json: &Value) -> Result<Asked, LineE
     }
 }
 
-ghost use Rattle.pm_talk.specs.Asked.{word_in};
-
 /// The word that `op` says.
 fn word_in(json: &Value) -> Result<Word, LineError>
     ensures { Gives (λ w. w) result (word_in (view json.now)) }
@@ -74,8 +70,6 @@ fn word_in(json: &Value) -> Result<Word, LineError>
         None => Err(LineError::Code(Code::UnknownName)),
     }
 }
-
-ghost use Rattle.std.specs.Prelude.{◌≡◌};
 
 fn word_named(text: &str) -> Option<Word>
     ensures { result ≡ word_named text.now }
@@ -96,7 +90,7 @@ fn word_named(text: &str) -> Option<Word>
 fn submit_in(alloc: Global, schema: &Schema, json: &Value) -> Result<Asked, LineError>
     ensures { Gives (λ a. a) result (submit_in schema.now.spec (view json.now)) }
 {
-    let version = number_in(json, "version")?;
+    let version = count_in(json, "version")?;
     let id = id_in(alloc, json)?;
     let steps = steps_in(alloc, schema, json)?;
     Ok(Asked::Submit { version, id, steps })
@@ -107,51 +101,6 @@ fn submit_in(alloc: Global, schema: &Schema, json: &Value) -> Result<Asked, Line
 fn since_in(json: &Value) -> Result<Asked, LineError>
     ensures { Gives (λ a. a) result (since_in (view json.now)) }
 {
-    let version = number_in(json, "version")?;
+    let version = count_in(json, "version")?;
     Ok(Asked::Since { version })
-}
-
-/// The list of steps at `steps`, read from the front.
-#[tactic(auto, unfolding(crate::specs::Asked::steps_in))]
-fn steps_in(alloc: Global, schema: &Schema, json: &Value) -> Result<Listed<DocChange>, LineError>
-    ensures { Gives (λ l. l) result (steps_in schema.now.spec (view json.now)) }
-{
-    let Some(value) = json.get("steps") else {
-        return Err(LineError::Code(Code::WrongShape));
-    };
-    let Some(items) = value.as_array() else {
-        return Err(LineError::Code(Code::WrongShape));
-    };
-    step_list(alloc, schema, items)
-}
-
-/// The values as steps.
-#[tactic(auto, using(pm_list::specs::Readings::fronts), unfolding(crate::specs::Asked::step_list))]
-fn step_list(
-    alloc: Global,
-    schema: &Schema,
-    items: &[Value],
-) -> Result<Listed<DocChange>, LineError>
-    ensures { Gives (λ l. l) result (step_list schema.now.spec (items_view items.now)) }
-{
-    let mut steps = Listed::new(alloc);
-    for item in items {
-        let step = step_from(alloc, schema, item)?;
-        steps.push(step)?;
-    }
-    Ok(steps)
-}
-
-/// The value as a step.
-#[tactic(auto, using(crate::proofs::StepLaws::read_steps))]
-fn step_from(alloc: Global, schema: &Schema, json: &Value) -> Result<DocChange, LineError>
-    ensures { Gives (λ c. c) result (coded (step_read schema.now.spec (view json.now))) }
-{
-    match read_step(alloc, schema, json) {
-        Ok(step) => match DocChange::new(alloc, step) {
-            Ok(change) => Ok(change),
-            Err(AllocError) => Err(LineError::NoMemory),
-        },
-        Err(error) => Err(step_fault(error)),
-    }
 }

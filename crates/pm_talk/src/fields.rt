@@ -1,43 +1,16 @@
-//! The fields of a line.
+//! The ID of a client in a line.
 ghost use Rattle.std.specs.Prelude.{◌≡◌};
 ghost use Rattle.serde_json.specs.View.{view};
 ghost use Rattle.pm_head.specs.Answers.{Gives};
-ghost use Rattle.pm_talk.specs.Fields.{text_in, number_in, is_id, id_in};
+ghost use Rattle.pm_talk.specs.Fields.{is_id, id_in, id_from};
 
 use pm_head::{Code, LineError};
-use pm_slicejson::as_count;
 use pm_value::Text;
 use serde_json::Value;
 use std::alloc::Global;
 
-/// A text, which must be there.
-pub(crate) fn text_in<'a>(json: &'a Value, key: &str) -> Result<&'a str, LineError>
-    ensures { Gives (λ s. s.now) result (text_in key.now (view json.now)) }
-{
-    match json.get(key) {
-        Some(value) => match value.as_str() {
-            Some(text) => Ok(text),
-            None => Err(LineError::Code(Code::WrongShape)),
-        },
-        None => Err(LineError::Code(Code::WrongShape)),
-    }
-}
-
-/// A whole number from 0 to 4,294,967,295, which must be there.
-pub(crate) fn number_in(json: &Value, key: &str) -> Result<u32, LineError>
-    ensures { Gives (λ n. n) result (number_in key.now (view json.now)) }
-{
-    match json.get(key) {
-        Some(value) => match as_count(value) {
-            Some(number) => Ok(number as u32),
-            None => Err(LineError::Code(Code::WrongShape)),
-        },
-        None => Err(LineError::Code(Code::WrongShape)),
-    }
-}
-
-/// The ID of a client, a text or a whole number, as its JSON text.
-pub(crate) fn id_in(alloc: Global, json: &Value) -> Result<Text, LineError>
+/// The ID of a client at `clientID`, a text or a whole number, as its JSON text. `WrongShape` comes where it is absent or neither.
+pub fn id_in(alloc: Global, json: &Value) -> Result<Text, LineError>
     ensures { Gives (λ t. t) result (id_in (view json.now)) }
 {
     match json.get("clientID") {
@@ -46,10 +19,8 @@ pub(crate) fn id_in(alloc: Global, json: &Value) -> Result<Text, LineError>
     }
 }
 
-ghost use Rattle.pm_talk.specs.Fields.{id_from};
-
-/// The value as an ID.
-fn id_from(alloc: Global, json: &Value) -> Result<Text, LineError>
+/// The value as an ID: a text or a whole number, as its JSON text. `WrongShape` comes where it is neither.
+pub fn id_from(alloc: Global, json: &Value) -> Result<Text, LineError>
     ensures { Gives (λ t. t) result (id_from (view json.now)) }
 {
     if !is_id(json) {

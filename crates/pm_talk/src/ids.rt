@@ -68,7 +68,7 @@ impl ClientIds {
         }
     }
 
-    /// Puts an ID that is not there behind the last one. For want of memory the list stays as it was.
+    /// Appends an ID that is not there. Out of memory, the list stays as it was.
     pub fn add(&mut self, alloc: Global, id: &str) -> Result<(), AllocError>
         requires new { list_any (bytes_eq id.now) self.old ≡ false }
         requires room { length self.old < MAX_IDS }

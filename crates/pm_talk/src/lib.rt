@@ -13,7 +13,6 @@
 #![tactic(auto)]
 
 mod asked;
-mod codes;
 mod fields;
 mod ids;
 mod live;
@@ -24,8 +23,11 @@ mod theorems;
 mod writing;
 
 pub use asked::Asked;
+pub use fields::{id_from, id_in};
 pub use ids::ClientIds;
 pub use live::Live;
 pub use talk::Talk;
-pub use texts::no_memory;
+pub use texts::{
+    fault_place, fault_text, no_memory, opening_fault_text, reason_number, refused_text,
+};
 pub use theorems::laws;

@@ -25,7 +25,7 @@ pub(crate) struct Told {
 }
 
 /// Presents steps of the client with this number to the authority. The line for `Accepted` is made before anything changes, so
-/// that want of memory changes nothing.
+/// that running out of memory changes nothing.
 pub(crate) fn present(
     alloc: Global,
     schema: &Schema,

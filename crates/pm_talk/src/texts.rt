@@ -14,7 +14,7 @@ pub fn no_memory() -> &'static [u8]
 }
 
 /// The answer to a line with a fault.
-pub(crate) fn fault_text(alloc: Global, code: Code) -> Result<String, AllocError>
+pub fn fault_text(alloc: Global, code: Code) -> Result<String, AllocError>
     ensures { IfOk result (λ s. string_bytes s ≡ fault_text code) }
 {
     let number = code.number();
@@ -22,7 +22,7 @@ pub(crate) fn fault_text(alloc: Global, code: Code) -> Result<String, AllocError
 }
 
 /// The answer to a fault of line 1 or 2.
-pub(crate) fn opening_fault_text(alloc: Global, code: Code, line: u32) -> Result<String, AllocError>
+pub fn opening_fault_text(alloc: Global, code: Code, line: u32) -> Result<String, AllocError>
     ensures { IfOk result (λ s. string_bytes s ≡ opening_fault_text code line) }
 {
     let number = code.number();
@@ -52,7 +52,7 @@ pub(crate) fn version_text(alloc: Global, length: u64) -> Result<String, AllocEr
 
 /// A step does not apply: its place in the submission, counted from 0, and the reason by its number, with the place of the
 /// fault where it is `Content`.
-pub(crate) fn refused_text(alloc: Global, index: u64, reason: &Reason) -> Result<String, AllocError>
+pub fn refused_text(alloc: Global, index: u64, reason: &Reason) -> Result<String, AllocError>
     ensures { IfOk result (λ s. string_bytes s ≡ refused_text index reason.now) }
 {
     let number = reason_number(reason);
@@ -67,7 +67,7 @@ pub(crate) fn refused_text(alloc: Global, index: u64, reason: &Reason) -> Result
 ghost use Rattle.pm_talk.specs.Texts.{reason_number, fault_place};
 
 /// Where the fault is, where the reason is a fault of content.
-fn fault_place(reason: &Reason) -> Option<usize>
+pub fn fault_place(reason: &Reason) -> Option<usize>
     ensures { result ≡ fault_place reason.now }
 {
     match reason {
@@ -88,7 +88,7 @@ fn fault_place(reason: &Reason) -> Option<usize>
 }
 
 /// The number by which a report tells a reason.
-fn reason_number(reason: &Reason) -> u32
+pub fn reason_number(reason: &Reason) -> u32
     ensures { result ≡ reason_number reason.now }
 {
     match reason {

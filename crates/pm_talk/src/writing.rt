@@ -66,7 +66,7 @@ fn entries_from(log: &[Named<DocChange>], place: usize) -> &[Named<DocChange>]
     }
 }
 
-/// Puts the IDs of the clients that made the steps behind the text, and the end of their list.
+/// Appends the IDs of the clients that made the steps to the text, and the end of their list.
 fn push_ids(
     text: &mut String,
     ids: &ClientIds,
@@ -92,7 +92,7 @@ fn push_item(text: &mut String, later: bool, item: &str) -> Result<(), AllocErro
     text.push_str(item)
 }
 
-/// Puts the steps behind the text, and the end of their list.
+/// Appends the steps to the text, and the end of their list.
 fn push_steps(
     alloc: Global,
     schema: &Schema,

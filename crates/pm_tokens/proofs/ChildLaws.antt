@@ -30,7 +30,7 @@ parts-below d (node k a m {inner = inner} {ts = ts} i b) ys =
     (ap (parts (suc (suc d))) (append_assoc inner (Close ∷ ts) ys)
     ∙ (parts-below (suc d) i (Close ∷ (ts ++ ys)) ∙ (ap (λ z. with_front inner (with_first Close z)) (parts-below d b ys) ∙ sym (front-append inner (Close ∷ ts) (parts (suc d) ys)))))
 
--- a node, and then the children behind it
+-- a node, and then the children after it
 pub children-node : (k : ℕ) (a : Attrs) (m : Marks) {inner : List Token} → Balanced inner → (ts : List Token) → children (Open k a m ∷ (inner ++ (Close ∷ ts))) ≡ (Open k a m ∷ (inner ++ (Close ∷ []))) ∷ children ts
 children-node k a m {inner = inner} i ts = ap (with_first (Open k a m)) (parts-below 0 i (Close ∷ ts) ∙ front-part inner (Close ∷ []) (children ts))
 
@@ -41,7 +41,7 @@ ends-next m (Close ∷ ts) h = refl
 ends-next m (Leaf k a n ∷ ts) h = refl
 ends-next m (CodeUnit u n ∷ ts) h = marks-differ m n h
 
--- a text, and then the children behind it
+-- a text, and then the children after it
 pub children-text : (m : Marks) (u : ℕ) (us : List ℕ) (ts : List Token) → EndsText m ts → children (text_tokens m (u ∷ us) ++ ts) ≡ text_tokens m (u ∷ us) ∷ children ts
 children-text m u [] ts h = ap (λ z. cond z (with_first (CodeUnit u m) (children ts)) ((CodeUnit u m ∷ []) ∷ children ts)) (ends-next m ts h)
 children-text m u (v ∷ us) ts h =

@@ -37,7 +37,7 @@ around-length (x ∷ o) (k ∷ s) (Close ∷ xs) h = around-length o s xs (omega
 around-length o s (Leaf k a m ∷ xs) h = around-length o s xs h
 around-length o s (CodeUnit u m ∷ xs) h = around-length o s xs h
 
--- no close of the front, and of the part behind it, goes further out than the list
+-- no close of the front, and of the part after it, goes further out than the list
 pub front-met : (a x b : List Token) → unmet 0 (a ++ (x ++ b)) ≡ 0 → (unmet 0 a ≡ 0) × (unmet (length (unclosed [] a)) x ≡ 0)
 front-met a x b h =
     let m₀ = unmet-append [] a (x ++ b) in

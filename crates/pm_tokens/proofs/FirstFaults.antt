@@ -9,7 +9,7 @@ use Rattle.pm_tokens.specs.Faults.{attrs_fit, marks_fit, content_fits, high_of, 
 use Rattle.pm_tokens.specs.FirstFaults.{IsFirst, fits_at, pair_at, sound_at, FaultAt, FirstFault, IsFault, large, deep, broken, top, inside, IsLeastPlace}
 use Rattle.pm_tokens.proofs.ValidLaws.{under-is}
 
--- one token more in front, which the test does not refuse
+-- one token more at the front, which the test does not refuse
 one-more : (test later : List Token → Token → List Token → Bool) (x : Token) (ts : List Token) (n : ℕ) → test [] x ts ≡ true → ((b : List Token) (t : Token) (f : List Token) → test (x ∷ b) t f ≡ later b t f)
     → IsFirst later ts n → IsFirst test (x ∷ ts) (suc n)
 one-more test later x ts n h same i = record {

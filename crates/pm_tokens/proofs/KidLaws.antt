@@ -40,7 +40,7 @@ module _ (text : ℕ) where
   kids-run m (u ∷ us) ts =
       ap (λ z. cond z (kids text 0 (Some m) (text_tokens m us ++ ts)) (text ∷ kids text 0 (Some m) (text_tokens m us ++ ts))) (marks-itself m) ∙ kids-run m us ts
 
-  -- behind the end of a text it does not matter that one was there
+  -- after the end of a text it does not matter that one was there
   pub kids-fresh : (m : Marks) (ts : List Token) → EndsText m ts → kids text 0 (Some m) ts ≡ kids text 0 None ts
   kids-fresh m [] h = refl
   kids-fresh m (Open k a n ∷ ts) h = refl

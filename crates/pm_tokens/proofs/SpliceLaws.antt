@@ -98,7 +98,7 @@ module _ (c : ℕ → ℕ → Bool) (ts : List Token) (from to : ℕ) (sl : Slic
   in-three : spliced ts from to sl ≡ owned [] a ++ (owned st m ++ owned (unclosed (unclosed [] a) x) b)
   in-three = rw (owned-front sp, slice-owned-is sl, owned-back sp) refl
 
-  -- the tokens: those before, the slice's, and those behind
+  -- the tokens: those before, the slice's, and those after
   pub spliced-plain : plain (spliced ts from to sl) ≡ a ++ (m ++ b)
   spliced-plain =
       ap plain in-three
@@ -161,7 +161,7 @@ module _ (c : ℕ → ℕ → Bool) (ts : List Token) (from to gf gt : ℕ) (sl 
   in-five : spliced_around ts from to gf gt sl insert ≡ owned [] p ++ (owned u s₁ ++ (owned was₁ g ++ (owned (unclosed u s₁) s₂ ++ owned was₂ q)))
   in-five = rw (owned-front (pieces-first pieces), slice-owned-is sl, owned-take insert u n, owned-drop insert u n, owned-gap pieces gap, owned-last pieces gap) refl
 
-  -- the tokens: those before, the slice's first ones, the gap's, the slice's others, and those behind
+  -- the tokens: those before, the slice's first ones, the gap's, the slice's others, and those after
   pub around-plain : plain (spliced_around ts from to gf gt sl insert) ≡ p ++ (s₁ ++ (g ++ (s₂ ++ q)))
   around-plain =
       ap plain in-five

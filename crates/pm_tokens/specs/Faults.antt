@@ -60,7 +60,7 @@ last_high high (t ∷ ts) = last_high (high_of t) ts
 
 -- ---- valid documents
 
--- the token t stands in the list, with these tokens before and these behind it
+-- the token t stands in the list, with these tokens before and these after it
 abbrev pub StandsIn : List Token → List Token → Token → List Token → Type 0
 StandsIn ts before t behind = ts ≡ before ++ (t ∷ behind)
 

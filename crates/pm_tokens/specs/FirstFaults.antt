@@ -6,7 +6,7 @@ use Rattle.pm_tokens.specs.Scan.{head_of, unclosed, deepest}
 use Rattle.pm_tokens.specs.Kids.{kids}
 use Rattle.pm_tokens.specs.Faults.{attrs_fit, marks_fit, content_fits, pair_fits, last_high, StandsIn, Fault, Large, Deep, Pair, fault_unless, first_broken, no_marks, top_fault, token_fits, top_fits}
 
--- The token at place n is the first that the test refuses. The test has the tokens before, the token, and those behind.
+-- The token at place n is the first that the test refuses. The test has the tokens before, the token, and those after.
 pub record IsFirst (test : List Token → Token → List Token → Bool) (ts : List Token) (n : ℕ) : Type 0 where
   pub before : List Token
   pub token : Token

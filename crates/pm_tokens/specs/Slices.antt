@@ -50,7 +50,7 @@ cut_around ts from to gap_from gap_to = closed_over (take from ts) (part from ga
 abbrev pub spliced : List Token → ℕ → ℕ → Slice → List Owned
 spliced ts from to sl = take from (owned [] ts) ++ (slice_owned sl ++ drop to (owned [] ts))
 
--- the same, with the gap's tokens kept behind the slice's first `insert` tokens
+-- the same, with the gap's tokens kept after the slice's first `insert` tokens
 abbrev pub spliced_around : List Token → ℕ → ℕ → ℕ → ℕ → Slice → ℕ → List Owned
 spliced_around ts from to gap_from gap_to sl insert =
     take from (owned [] ts) ++ (take insert (slice_owned sl) ++ (part gap_from gap_to (owned [] ts) ++ (drop insert (slice_owned sl) ++ drop to (owned [] ts))))

@@ -36,13 +36,6 @@ impl Piece {
         }
     }
 
-    /// The units of a text of these bytes, which are ASCII.
-    pub(crate) fn of_bytes(alloc: Global, bytes: &[u8]) -> Result<Piece, AllocError>
-        ensures { IfOk result (λ p. piece_units p ≡ bytes.now) }
-    {
-        Ok(Piece::Narrow(Vec::from_slice(alloc, bytes)?))
-    }
-
     /// The number of units. It takes no memory.
     pub(crate) fn len(&self) -> usize
         ensures { result ≡ length (piece_units self.now) }

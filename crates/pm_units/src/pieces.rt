@@ -92,7 +92,7 @@ impl Pieces {
         self.piece(place.index).unit(place.rest)
     }
 
-    /// Puts a piece after the last one, or joins the two where they fit together in one. After out of memory the pieces are
+    /// Appends a piece, or joins the two where they fit together in one. After out of memory the pieces are
     /// of no use.
     pub(crate) fn push(&mut self, alloc: Global, piece: Piece) -> Result<(), AllocError>
         requires pieces { IsPieces self.old }
@@ -136,7 +136,7 @@ impl Pieces {
         Ok(true)
     }
 
-    /// Puts the pieces from..to of another text after the last one, shared with it; the first of them is joined with the last
+    /// Appends the pieces from..to of another text, shared with it; the first of them is joined with the last
     /// one where the two fit together in one. After out of memory the pieces are of no use.
     pub(crate) fn append(
         &mut self,
@@ -184,7 +184,7 @@ impl Pieces {
         Ok(from)
     }
 
-    /// Puts the pieces from..to of another text after the last one, shared with it. After out of memory the pieces are of no
+    /// Appends the pieces from..to of another text, shared with it. After out of memory the pieces are of no
     /// use.
     fn share(
         &mut self,

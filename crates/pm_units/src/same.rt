@@ -1,4 +1,4 @@
-//! Texts compared, a run of units at a time.
+//! Texts compared.
 ghost use Rattle.std.specs.Prelude.{◌≡◌, ◌↔◌, ◌+◌, ◌≤◌, length, slice_range, IsTrue};
 ghost use Rattle.pm_units.specs.Pieces.{form_units, piece_units, IsForm};
 

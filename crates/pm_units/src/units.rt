@@ -103,7 +103,7 @@ impl Units {
         Ok(Units { form, whole })
     }
 
-    /// Puts these units after the last one. After out of memory the text is as it was.
+    /// Appends these units. After out of memory the text is as it was.
     pub fn append(&mut self, alloc: Global, units: &Units) -> Result<(), AllocError>
         ensures ok { OnOk result (self.new ≡ self.old ++ units.now) }
         ensures err { OnErr result (self.new ≡ self.old) }

@@ -21,7 +21,7 @@ abbrev mutual
   list_signs none = inl 0 ∷ []
   list_signs (one v vs) = signs v ++ list_signs vs
 
--- Reading goes from the last sign to the first, over the lists that stand behind, the innermost first
+-- Reading goes from the last sign to the first, over the lists that stand after, the innermost first
 abbrev pub put_in : Plain → List Plains → List Plains
 put_in v [] = []
 put_in v (vs ∷ behind) = one v vs ∷ behind

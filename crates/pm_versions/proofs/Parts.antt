@@ -131,7 +131,7 @@ module _ {Rules Doc Reason C : Type 0} (m : Meaning Rules Doc Reason C) (rules :
         let e : n ≡ 64 * (n / 64) + (n - 64 * (n / 64)) = omega arith in
         ap (λ k. take k v.log) e ∙ take-add (64 * (n / 64)) (n - 64 * (n / 64)) v.log
 
-    -- the steps behind a checkpoint apply to it
+    -- the steps after a checkpoint apply to it
     pub rest-applies : (end : Doc) × AllApply m rules d (slice_range v.log (64 * (n / 64)) n) end
     rest-applies =
         let whole = ap (λ l. fold m rules v.first (changes_of l)) (take-append-drop n v.log) ∙ kept.folded in

@@ -6,7 +6,7 @@ use Rattle.pm_versions.specs.declared.versions.Versions.{Versions}
 use Rattle.pm_versions.specs.declared.at.AtError.{AtError}
 use Rattle.pm_versions.specs.declared.at.AtError.TheVariants.{Past, NoMemory}
 
--- the first document, and those behind it that are kept
+-- the first document, and those after it that are kept
 abbrev pub checkpoints : {Rules Doc Reason C : Type 0} → Versions C Rules Doc Reason → List Doc
 checkpoints v = v.first ∷ v.later
 

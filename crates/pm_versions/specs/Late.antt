@@ -19,7 +19,7 @@ use Rattle.pm_session.specs.Suits.{enters, SuitsRoom}
 use Rattle.pm_versions.specs.declared.late.LateRoom.{LateRoom}
 use Rattle.pm_versions.specs.Checkpoints.{IsVersions}
 
--- Some of the first of these steps stand behind the old ones, and nothing else is new.
+-- Some of the first of these steps stand after the old ones, and nothing else is new.
 abbrev pub HasFront : {C : Type 0} → List (Named C) → List (Named C) → List (Named C) → Type 0
 HasFront {C} old steps new = (pushed rest : List (Named C)) × (pushed ++ rest ≡ steps) × (new ≡ old ++ pushed)
 

@@ -50,7 +50,7 @@ impl<C: Change> LateRoom<C> {
         &self.room
     }
 
-    /// The versions of the room's log. After want of memory they may be those of a front of it.
+    /// The versions of the room's log. After running out of memory they may be those of a front of it.
     pub fn versions(&self) -> &Versions<C>
         ensures { result.now ≡ self.now.versions }
     {
@@ -58,8 +58,8 @@ impl<C: Change> LateRoom<C> {
     }
 
     /// Plays a line, which must suit the room. By `Enter` an editor that has drawn no serial and composed no message is put at
-    /// the log's end, with the document there. Every other line is played as `Room::play` says. Want of memory leaves the room
-    /// as before, or as `Room::play` says, or after the line.
+    /// the log's end, with the document there. Every other line is played as `Room::play` says. Running out of memory leaves
+    /// the room as before, or as `Room::play` says, or after the line.
     pub fn play<K: Maker<C>>(
         &mut self,
         alloc: Global,
@@ -92,7 +92,8 @@ impl<C: Change> LateRoom<C> {
     }
 
     /// Plays lines in order, and tells what became of each. Each must suit the room as the lines before it leave it, and who enters
-    /// has no earlier line. Want of memory leaves the room after the lines that were played, and the next as `play` says.
+    /// has no earlier line. Running out of memory leaves the room after the lines that were played, and the next as `play`
+    /// says.
     pub fn play_all<K: Maker<C>>(
         &mut self,
         alloc: Global,
@@ -120,7 +121,8 @@ impl<C: Change> LateRoom<C> {
         Ok(outcomes)
     }
 
-    /// Settles the room as `Room::settle` says. Want of memory leaves the room as before, or as `Room::settle` says, or settled.
+    /// Settles the room as `Room::settle` says. Running out of memory leaves the room as before, or as `Room::settle` says,
+    /// or settled.
     pub fn settle(&mut self, alloc: Global, rules: &C::Rules) -> Result<(), AllocError>
         requires { IsLate C.means rules.now self.old }
         ensures settles { OnOk result (state_of self.new.room ≡ settled C.means rules.now (state_of self.old.room)) }
@@ -155,8 +157,8 @@ impl<C: Change> LateRoom<C> {
         Ok(Outcome::Entered { version })
     }
 
-    /// Pushes the entries of the room's log that the versions lack, each with the document that it gives. Want of memory leaves
-    /// some of them pushed.
+    /// Pushes the entries of the room's log that the versions lack, each with the document that it gives. Running out of
+    /// memory leaves some of them pushed.
     fn reach(&mut self, alloc: Global, rules: &C::Rules) -> Result<(), AllocError>
         requires { IsLate C.means rules.now self.old }
         ensures room { self.new.room ≡ self.old.room }
@@ -169,7 +171,7 @@ impl<C: Change> LateRoom<C> {
     }
 }
 
-/// Pushes these steps, each with the document that it gives. Want of memory leaves some of them pushed.
+/// Pushes these steps, each with the document that it gives. Running out of memory leaves some of them pushed.
 fn follow<C: Change>(
     alloc: Global,
     rules: &C::Rules,

@@ -12,7 +12,7 @@ use std::alloc::{AllocError, Global};
 pub const SPACING: usize = 64;
 
 /// A first document, and named steps that apply to it one after another. `doc` is the document after them. It keeps the document
-/// after each `SPACING` steps, too: those behind the first document are `later`.
+/// after each `SPACING` steps, too: those after the first document are `later`.
 #[derive(Drop)]
 pub struct Versions<C: Change> {
     pub(crate) first: C::Doc,
@@ -57,7 +57,7 @@ impl<C: Change> Versions<C> {
         self.log.as_slice()
     }
 
-    /// Puts a step behind the last one. `after` is the document that it gives, which is kept where a checkpoint is due. Want of
+    /// Appends a step. `after` is the document that it gives, which is kept where a checkpoint is due. Want of
     /// memory leaves all as it was.
     pub fn push(
         &mut self,

@@ -1,4 +1,4 @@
--- What is ahead at a child, and behind it.
+-- What is ahead at a child, and after it.
 use Rattle.std.specs.Prelude.{◌≡◌, ℕ, ◌+◌, ◌-◌, ◌≤◌, ◌<◌, ◌⊎◌, min, Some, List, [], ◌∷◌, ◌++◌, length, take, drop, Result, IfOk}
 use Rattle.std.proofs.Common.{zero, suc, inl, inr, refl, ap, sym, ◌∙◌, arith, subst, append_assoc, length-append, length-take, length-drop}
 use Rattle.std.proofs.lemmas.List.{append-nil, drop_all, take_min}
@@ -41,7 +41,7 @@ first-either : (xs ys : List Known) (t : Known) → first (xs ++ ys) ≡ Some t 
 first-either [] ys t e = inr e
 first-either (x ∷ xs) ys t e = inl e
 
--- behind a node comes its close
+-- after a node comes its close
 behind-ends : (m : Marks) (os : List Around) → EndsText m (behind_all os)
 behind-ends m [] v e = absurd (cc)
 behind-ends m (o ∷ os) v e = elim (first-either (behind_all os) (behind_one o) (Piece v m) e) [
@@ -113,7 +113,7 @@ module _ (ts : List Token) (at rest end : ℕ) (n : Node) (k : IsNext ts at rest
       ∙ (ap (λ r. drop r (Opening h ∷ (known [] inner ++ (Closing h ∷ []))) ++ ahead ts end os) (flat-in-child ts at rest end n inner k b f)
       ∙ ap (λ z. Opening h ∷ z) (append_assoc (known [] inner) (Closing h ∷ []) (ahead ts end os) ∙ ahead-inner inner 0 a node content place))
 
-  -- inside of a child, behind its open
+  -- inside of a child, after its open
   pub ahead-within : (inner : List Token) (r : ℕ) (a : Around) → n.body ≡ Children inner → rest ≡ suc r → a.node.now ≡ n → a.content.now ≡ ts → a.at ≡ end
       → ahead ts at os ≡ ahead inner r (os ++ (a ∷ []))
   ahead-within inner r a b e node content place =

@@ -1,4 +1,4 @@
--- A child of a content and what is around it: its tokens, their depth, and what comes behind it.
+-- A child of a content and what is around it: its tokens, their depth, and what comes after it.
 use Rattle.std.specs.Prelude.{◌≡◌, ℕ, ◌+◌, ◌-◌, ◌≤◌, ◌<◌, Some, List, [], ◌∷◌, ◌++◌, length, take, drop, get_or}
 use Rattle.std.specs.declared.sync.Arc.{Arc}
 use Rattle.std.specs.Arc.{arc_value}
@@ -70,7 +70,7 @@ apart-ends n (y ∷ ys) t w a v e =
 
 -- ---- the child that a position is at or inside of
 
--- `rest` of the tokens of the node n, a child, are before the position `at`, and `end` is the position behind the child
+-- `rest` of the tokens of the node n, a child, are before the position `at`, and `end` is the position after the child
 pub record IsNext (ts : List Token) (at rest end : ℕ) (n : Node) : Type 0 where
   pub tokens : drop at (known [] ts) ≡ drop rest (known [] (node_tokens n)) ++ drop end (known [] ts)
   pub behind : IsFlat ts end
@@ -133,7 +133,7 @@ flat-in-child ts at (suc r) end n inner k b f = absurd (omega (arith, f, depth-i
 pub depth-in-flat : (ts : List Token) (at rest end : ℕ) (n : Node) → IsNext ts at rest end n → ((inner : List Token) → n.body ≡ Children inner → ⊥) → depth_at ts at ≡ 0
 depth-in-flat ts at rest end n k b = k.depth ∙ depth-flat n rest b
 
--- behind the last child the content is at its end
+-- after the last child the content is at its end
 pub stands-end : {Z : Type 0} (xs : List (Arc Node Z)) (ts : List Token) (at i r : ℕ) → list_tokens xs ≡ ts → Stands xs at i r → length xs ≤ i → length ts ≤ at
 stands-end xs ts at i r e s h = omega (arith, s.offset, ap length e, ap (λ z. length (list_tokens z)) (take_all i xs h))
 

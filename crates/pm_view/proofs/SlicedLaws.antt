@@ -14,7 +14,7 @@ use Rattle.pm_view.specs.Views.{viewed}
 use Rattle.pm_view.specs.Sliced.{open_of, opens_before, slice_with, sliced}
 use Rattle.pm_view.proofs.KnownLaws.{tokens-viewed}
 
--- the nodes that are open behind the tokens, the innermost first
+-- the nodes that are open after the tokens, the innermost first
 abbrev pub heads : List Head → List Token → List Head
 heads s [] = s
 heads s (Open k a m ∷ ts) = heads (head k a m ∷ s) ts

@@ -15,7 +15,7 @@ abbrev pub behind_all : List Around → List Known
 behind_all [] = []
 behind_all (a ∷ os) = behind_all os ++ behind_one a
 
--- the rest of a content, and what is behind the nodes around it
+-- the rest of a content, and what is after the nodes around it
 abbrev pub ahead : List Token → ℕ → List Around → List Known
 ahead ts at outer = drop at (known [] ts) ++ behind_all outer
 
@@ -24,7 +24,7 @@ pub record IsFlat (ts : List Token) (at : ℕ) : Type 0 where
   pub within : at ≤ length ts
   pub flat : depth_at ts at ≡ 0
 
--- the same of the positions behind the nodes
+-- the same of the positions after the nodes
 abbrev pub AreFlat : List Around → Type 0
 AreFlat [] = Unit {0}
 AreFlat (a ∷ os) = IsFlat a.content.now a.at × AreFlat os

@@ -18,7 +18,7 @@ opens_before (suc d) (Closing h ∷ ts) = opens_before d ts
 opens_before d (Single h ∷ ts) = opens_before d ts
 opens_before d (Piece u m ∷ ts) = opens_before d ts
 
--- these tokens behind these opens, with a close for each node that they leave open
+-- these tokens after these opens, with a close for each node that they leave open
 abbrev pub slice_with : List Token → List Token → ℕ → Slice
 slice_with opens ts start =
     let end = length (unclosed [] ts) in

@@ -19,7 +19,7 @@ use std::marker::Model;
 pub struct Tokens<'a> {
     /// What the next part stands in.
     content: &'a Fragment,
-    /// How many tokens of it are behind.
+    /// How many tokens of it are after.
     at: usize,
     /// How many tokens of the view are left.
     left: usize,
@@ -47,7 +47,7 @@ impl<'a> Model for Tokens<'a> {
 }
 
 impl<'a> Tokens<'a> {
-    /// The next `left` tokens of a content from `at` on, and of what is behind the nodes around it. `outer` has room for the
+    /// The next `left` tokens of a content from `at` on, and of what is after the nodes around it. `outer` has room for the
     /// nodes around each of them.
     pub(crate) fn enter(
         content: &'a Fragment,

@@ -12,7 +12,7 @@ pub removed : {A : Type 0} (xs rest : List A) (x : A) → x ≡ get_or xs 0 x �
 removed [] rest x e f lt = absurd (omega (arith, lt))
 removed (y ∷ ys) rest x e f lt = ap₂ (λ a b. a ∷ b) e (f ∙ drop-none ys)
 
--- one more in front
+-- one more at the front
 pub in-front : {A : Type 0} (xs : List A) (x : A) → insert xs 0 x ≡ x ∷ xs
 in-front xs x = ap₂ (λ a b. a ++ x ∷ b) (take-none xs) (drop-none xs)
 

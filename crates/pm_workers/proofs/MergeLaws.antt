@@ -69,7 +69,7 @@ parted (line ∷ lines) = by line.1 (parted lines)
     by true h = refl
     by false h = ap (λ l. line ∷ l) h
 
--- the lines of one client in front, and then an order of what is left
+-- the lines of one client at the front, and then an order of what is left
 pub in-front : (left : List (List ℕ)) (i : ℕ) (front back order : List ℕ) → slice_get left i ≡ Some (front ++ back)
     → IsOrder (slice_set left i back) order → IsOrder left (front ++ order)
 in-front left i [] back order at h = subst (λ l. IsOrder l order) (set-same left i back at) h

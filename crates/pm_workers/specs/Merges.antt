@@ -10,7 +10,7 @@ ClientLine = ℕ × Bool
 abbrev pub numbers : List ClientLine → List ℕ
 numbers lines = map (λ line. line.0) lines
 
--- the lines in front, up to and with the first that presents
+-- the lines at the front, up to and with the first that presents
 abbrev pub through_call : List ClientLine → List ClientLine
 through_call [] = []
 through_call (line ∷ lines) = line ∷ (if line.1 then [] else through_call lines)

@@ -15,8 +15,8 @@ pub struct File {
     pub places: Vec<Vec<(u32, bool)>>,
 }
 
-/// The file of these lines of so many clients. `AllocError` comes from want of memory, and where the places of the lines are no
-/// numbers of 32 bits.
+/// The file of these lines of so many clients. `AllocError` comes from running out of memory, and where the places of the
+/// lines are no numbers of 32 bits.
 pub fn file_of<O, C>(alloc: Global, count: usize, lines: &[Line<O, C>]) -> Result<File, AllocError>
     requires { All (λ line. line.client < count) lines.now }
     ensures { IfOk result (λ file. IsFileOf count lines.now file) }

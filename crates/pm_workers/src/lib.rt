@@ -5,7 +5,8 @@
 //!
 //! Proved, where it returns: there is an order in which each line stands once and each client's lines in theirs;
 //! outcomes and room are those of the session on one thread in that order; the order is what the calls of its own
-//! presenting lines make of the clients' lines (`IsOrderly`). Which order comes, no clause says.
+//! presenting lines make of the clients' lines (`IsOrderly`). A history of calls at a new authority makes this order, and
+//! the room's authority is the one after these calls (`history`). Which order comes, no clause says.
 #![tactic(auto)]
 
 mod apart;

@@ -45,7 +45,7 @@ where
 /// the room that is opened so.
 ///
 /// It is then the session on one thread, in the order that the calls of the clients came to: each client's lines stand in it in
-/// their order. `AllocError` comes from want of memory, and where the places of the lines are no numbers of 32 bits.
+/// their order. `AllocError` comes from running out of memory, and where the places of the lines are no numbers of 32 bits.
 pub fn play_on_threads<C, K, G, R>(
     alloc: Global,
     crew: &Crew<K, G, R>,

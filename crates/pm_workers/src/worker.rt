@@ -193,7 +193,7 @@ where
 /// Each worker plays its lines at this desk, in a thread of its own where one can be made. The crew's gate is asked before
 /// each call of the desk. A worker's seat is this desk's and has its member's name as its number, the member stands to the log
 /// that the seat has seen, each line is the member's and suits it as the lines before leave it, and there is no outcome yet.
-/// Want of memory leaves each worker with the outcomes of the lines that it finished.
+/// Running out of memory leaves each worker with the outcomes of the lines that it finished.
 pub fn run_lines<
     C: Change + Send + Sync,
     K: Maker<C> + Sync,

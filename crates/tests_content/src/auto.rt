@@ -17,7 +17,7 @@ fn built(alloc: Global, text: &str) -> Result<Auto, Fail> {
     Ok(automaton.copy(alloc)?)
 }
 
-/// Whether these types lead on, and behind them the content may end.
+/// Whether these types lead on, and after them the content may end.
 fn goes_on(automaton: &Auto, from: State, types: &[TypeId], to_end: bool) -> bool
     requires { from < length automaton.now.sets }
 {

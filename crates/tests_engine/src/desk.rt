@@ -1,4 +1,4 @@
-//! Two threads put a letter each in front of one document, at a shared desk.
+//! Two threads put a letter each before one document, at a shared desk.
 ghost use Rattle.std.specs.Prelude.{◌≡◌, [], IfOk};
 ghost use Rattle.pm_engine.specs.Words.{Valid, documents_of, meaning, IsKept, IsOwn, IsSeatOf, first_seat};
 
@@ -168,7 +168,7 @@ fn written<R: Threads + Wait + Sync>(
     close(desk, first, second)
 }
 
-/// The steps that put Ann's letter and Bob's in front of the text.
+/// The steps that put Ann's letter and Bob's before the text.
 fn letters(alloc: Global, schema: &Schema) -> Result<(DocChange, DocChange)> {
     let ann = insertion(alloc, schema, 1, 'A')?;
     let bob = insertion(alloc, schema, 1, 'B')?;

@@ -84,7 +84,7 @@ fn history_of(alloc: Global, first: &[Act], then: &[Act]) -> Result<Branches<u8>
     Ok(history)
 }
 
-/// Writes the serials of each event's names, and a semicolon behind each event.
+/// Writes the serials of each event's names, and a semicolon after each event.
 fn push_events(text: &mut String, events: &[Event]) -> Result<(), AllocError> {
     for event in events {
         push_serials(text, event.names.as_slice())?;
@@ -241,7 +241,7 @@ fn a_history_keeps_events_and_what_is_live(rt: HostRuntime) -> Result<(), AllocE
     Ok(())
 }
 
-/// Whether maps behind the step of this serial are there, and its changes are those of an item.
+/// Whether maps after the step of this serial are there, and its changes are those of an item.
 fn is_found(alloc: Global, history: &Branches<u8>, serial: u64) -> Result<bool, AllocError> {
     let later = history.later(alloc, named(serial))?;
     Ok(later.is_some() && history.inverse(named(serial)) == Some([10, 20].as_slice()))

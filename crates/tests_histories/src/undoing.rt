@@ -138,7 +138,7 @@ const TWO: [Line; 2] = [
     },
 ];
 
-/// 9 is put in, and then a foreign 7 in front.
+/// 9 is put in, and then a foreign 7 at the front.
 const FRONT: [Line; 2] = [
     Line {
         edit: Edit::Insert { at: 1, value: 9 },
@@ -217,7 +217,7 @@ const ROWS: [Row; 7] = [
         left: &[5, 6],
         made: 2,
     },
-    // A foreign number came in front.
+    // A foreign number came at the front.
     Row {
         limit: 9,
         numbers: &[1, 2],

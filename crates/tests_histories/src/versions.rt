@@ -1,4 +1,4 @@
-//! The documents of a log of 130 letters, each put in front of those before it.
+//! The documents of a log of 130 letters, each put before those before it.
 ghost use Rattle.std.specs.Prelude.{◌≡◌, ◌+◌, ◌<◌, IfOk, OnOk};
 ghost use Rattle.pm_versions.specs.Checkpoints.{IsVersions};
 
@@ -10,7 +10,7 @@ use std::alloc::{AllocError, Global};
 use std::marker::Brand;
 use std::sync::ledger::{Blank, Ledger};
 
-/// Puts a step behind the last one, where it applies.
+/// Appends a step, where it applies.
 fn push<C: Change>(
     alloc: Global,
     rules: &C::Rules,
@@ -76,7 +76,7 @@ fn size_at<C: Change, L: Ledger>(
     Ok(C::size(&doc))
 }
 
-/// A letter put in front.
+/// A letter put first.
 fn letter(alloc: Global, serial: u64) -> Result<Named<Replace>, AllocError> {
     Ok(Named {
         name: Name { client: 0, serial },

@@ -1,4 +1,4 @@
-//! Rows of a table: the kind of a value, its text, and behind an arrow the text that is written of it, or `!` and a fault.
+//! Rows of a table: the kind of a value, its text, and after an arrow the text that is written of it, or `!` and a fault.
 use crate::again::{again, tree_again};
 use pm_schema::Schema;
 use pm_schemajson::read_schema;

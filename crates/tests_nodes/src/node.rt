@@ -53,7 +53,7 @@ fn document(alloc: Global, units: &[u16]) -> Result<Document, Fail> {
 }
 
 /// Texts of one unit each, and the first fault of the document with them: halves of pairs at an end and the wrong way round,
-/// and behind a letter.
+/// and after a letter.
 const FAULTS: [(&[u16], Option<CheckError>); 4] = [
     (&[97, 0xD83D, 0xDE00, 98], None),
     (&[97, 0xD83D], Some(CheckError::Pair { at: 3 })),

@@ -24,7 +24,7 @@ fn node(alloc: Global, kind: TypeId, body: Body) -> Node
     }
 }
 
-/// What is open at first, within a line, and behind it.
+/// What is open at first, within a line, and after it.
 type Opened = (Option<TypeId>, Option<TypeId>, Option<TypeId>);
 
 /// A quote with a line, whose type is that of a leaf, and what was open on the way.

@@ -32,7 +32,7 @@ impl Sink for Fives {
     }
 }
 
-// A schema, a paragraph "ab", one client, a letter put in front, and a push.
+// A schema, a paragraph "ab", one client, a letter put first, and a push.
 const SESSION: &str =
     r#"{"nodes":[{"name":"doc","content":"paragraph+"},{"name":"paragraph","content":"text*"},{"name":"text"}]}
 {"type":"doc","content":[{"type":"paragraph","content":[{"type":"text","text":"ab"}]}]}

@@ -39,7 +39,7 @@ fn applied(alloc: Global, schema: &Schema, before: &Document, step: Step) -> Res
     told(alloc, schema, change.apply(alloc, schema, before))
 }
 
-/// The document by the step that fits the slice in behind the letter, or `!none`.
+/// The document by the step that fits the slice in after the letter, or `!none`.
 fn fitted(alloc: Global, schema: &Schema, before: &Document, slice: &Slice) -> Result<String, Fail>
     requires { Valid (documents_of schema.now.spec) before.now }
 {
@@ -52,7 +52,7 @@ fn fitted(alloc: Global, schema: &Schema, before: &Document, slice: &Slice) -> R
     }
 }
 
-/// What becomes of a paragraph of one letter, behind which the slice is put, as it is or as it fits.
+/// What becomes of a paragraph of one letter, after which the slice is put, as it is or as it fits.
 fn placed(alloc: Global, schema: &Schema, text: &str, fits: bool) -> Result<String, Fail> {
     let before = document(alloc, schema, LETTER)?;
     let slice = slice(alloc, schema, text)?;
@@ -99,7 +99,7 @@ fn of_one(alloc: Global, schema: &Schema, step: Step) -> Result<String, Fail> {
     applied(alloc, schema, &before, step)
 }
 
-/// A step far behind any document.
+/// A step far after any document.
 fn far(alloc: Global) -> Step {
     Step::Replace(ReplaceStep {
         from: u64::MAX,

@@ -4,7 +4,7 @@ use pm_flat::{Letters, Replace};
 use pm_session::{Made, Maker};
 use std::alloc::Global;
 
-/// Puts letters in front of a paragraph's text.
+/// Puts letters before a paragraph's text.
 pub struct Typist;
 
 impl Maker<Replace> for Typist {

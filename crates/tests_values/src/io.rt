@@ -1,4 +1,4 @@
-//! Sources and sinks that fail at a call of a given number, and std's readers and writers behind them.
+//! Sources and sinks that fail at a call of a given number, and std's readers and writers after them.
 use pm_io::{
     MemSink, MemSource, ReadError, StdSink, StdSource, SureSink, SureSource, WriteFault, read_all,
     write_all,
@@ -172,7 +172,7 @@ fn readers_of_std_pass_their_bytes_and_faults(rt: HostRuntime) -> Result<(), Fai
     Ok(())
 }
 
-/// What is told of a write to `Steps`, and the writer behind it.
+/// What is told of a write to `Steps`, and the writer after it.
 fn stepped(
     alloc: Global,
     step: usize,

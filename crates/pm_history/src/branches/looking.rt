@@ -26,7 +26,7 @@ impl<C> Branches<C> {
     pub fn held(&self) -> Held
         ensures items { result.items ≡ length self.now.items }
         ensures inverses { result.inverses ≡ inverses (live_names self.now) self.now.items }
-        // Right behind a call that trims, the inverses kept are those of the live steps.
+        // Right after a call that trims, the inverses kept are those of the live steps.
         ensures trimmed { IsTrimmed self.now → result.inverses ≡ live_count (live_names self.now) self.now.items }
     {
         let items = self.items.as_slice();
@@ -47,7 +47,7 @@ impl<C> Branches<C> {
         &items[start..]
     }
 
-    /// The maps of the steps behind the own step of this name, each with its mirror. None exactly where no item of
+    /// The maps of the steps after the own step of this name, each with its mirror. None exactly where no item of
     /// this name is kept.
     pub fn later(&self, alloc: Global, name: Name) -> Result<Option<Mapping>, AllocError>
         ensures { IfOk result (λ o. o ≡ later_of (find name self.now.items)) }
@@ -59,7 +59,7 @@ impl<C> Branches<C> {
         }
     }
 
-    /// The changes that undo the own step of this name, made one after another right behind it. None exactly where no item of
+    /// The changes that undo the own step of this name, made one after another right after it. None exactly where no item of
     /// this name is kept with them: a live step's are, and those of another only until the history is trimmed. It takes no
     /// memory.
     pub fn inverse(&self, name: Name) -> Option<&[C]>
@@ -92,7 +92,7 @@ fn inverse_at<'a, C>(
     None
 }
 
-/// The maps behind place `k`.
+/// The maps after place `k`.
 fn mapping_behind<C>(alloc: Global, items: &[Item<C>], k: usize) -> Result<Mapping, AllocError>
     requires { k < length items.now }
     ensures { IfOk result (λ ms. ms ≡ paired (drop (k + 1) items.now)) }

@@ -17,7 +17,7 @@ use std::alloc::{AllocError, Global};
 impl<C> Branches<C> {
     /// Puts these foreign steps and the own steps that are kept in place of the last `gone` items, or of all where fewer are
     /// kept. An own step that is gone and not kept leaves its event; the event stays. Then the history is trimmed as by
-    /// `note`. For want of memory nothing changes.
+    /// `note`. Out of memory, nothing changes.
     pub fn rebased(
         &mut self,
         alloc: Global,
@@ -40,7 +40,7 @@ impl<C> Branches<C> {
         }
     }
 
-    /// Puts other items in place of those from place `at` on. Nothing was left to let go, and the first item stays, so only the
+    /// Puts other items in place of those from place `at` on. Nothing was left to drop, and the first item stays, so only the
     /// steps kept are looked at.
     fn rebased_settled(
         &mut self,
@@ -62,7 +62,7 @@ impl<C> Branches<C> {
         Ok(())
     }
 
-    /// The same where it is not known what is left to let go.
+    /// The same where it is not known what is left to drop.
     fn rebased_whole(
         &mut self,
         alloc: Global,

@@ -1,4 +1,4 @@
-//! Steps that are behind the timeline, and the events in which they stand.
+//! Steps that are after the timeline, and the events in which they stand.
 ghost use Rattle.std.specs.Prelude.{◌≡◌, [], IsTrue, IfOk, OnOk, OnErr};
 ghost use Rattle.pm_history.specs.declared.branches.MadeBy.TheVariants.{Edit};
 ghost use Rattle.pm_history.specs.Histories.{noted, opens, recorded_where, noted_all, noted_own, names_in};
@@ -14,9 +14,9 @@ use pm_map::StepMap;
 use std::alloc::{AllocError, Global};
 
 impl<C> Branches<C> {
-    /// A foreign step with this map is behind the timeline. Then the history is trimmed: all items before the first live step
-    /// are let go, or all where there is none, and the changes that undo steps that are not live. The other items keep their
-    /// names and maps, and what they were made to undo. For want of memory nothing changes.
+    /// A foreign step with this map is after the timeline. Then the history is trimmed: all items before the first live step
+    /// are dropped, or all where there is none, and the changes that undo steps that are not live. The other items keep their
+    /// names and maps, and what they were made to undo. Out of memory, nothing changes.
     pub fn note(&mut self, alloc: Global, map: StepMap) -> Result<(), AllocError>
     where
         C: Drop,
@@ -33,7 +33,7 @@ impl<C> Branches<C> {
         Ok(())
     }
 
-    /// A foreign step is behind a timeline of which nothing is left to let go. Where no step is live, it is let go at once.
+    /// A foreign step is after a timeline of which nothing is left to drop. Where no step is live, it is dropped at once.
     fn note_settled(&mut self, alloc: Global, map: StepMap) -> Result<(), AllocError>
     where
         C: Drop,
@@ -59,10 +59,10 @@ impl<C> Branches<C> {
         self.items.push(Item::foreign(alloc, map)?)
     }
 
-    /// An own step, made by the call `made_by`, is behind the timeline. A step of an edit joins the open event where the edit has
-    /// that event's number, as do all further steps of the same call; else it opens a new event. It empties the redo branch,
-    /// and then the history is trimmed as by `note`. A step of an undo stands in an event to redo, one of a redo in an event to
-    /// undo; these do not trim. For want of memory nothing changes.
+    /// An own step, made by the call `made_by`, is after the timeline. A step of an edit joins the open event where the edit
+    /// has that event's number, as do all further steps of the same call; else it opens a new event. It empties the redo
+    /// branch, and then the history is trimmed as by `note`. A step of an undo stands in an event to redo, one of a redo in
+    /// an event to undo; these do not trim. Out of memory, nothing changes.
     pub fn note_own(
         &mut self,
         alloc: Global,
@@ -79,8 +79,8 @@ impl<C> Branches<C> {
         self.note_all(alloc, items, made_by)
     }
 
-    /// Own steps, made in this order by the one call `made_by`, are behind the timeline, all as `note_own` notes one. For want of
-    /// memory nothing changes.
+    /// Own steps, made in this order by the one call `made_by`, are after the timeline, all as `note_own` notes one. For
+    /// want of memory nothing changes.
     pub fn note_all(
         &mut self,
         alloc: Global,
@@ -103,8 +103,8 @@ impl<C> Branches<C> {
         }
     }
 
-    /// Steps of an edit are behind the timeline. Where nothing was left to let go, nothing could be redone, and each step is an
-    /// own one, nothing is left to let go behind them either.
+    /// Steps of an edit are after the timeline. Where nothing was left to drop, nothing could be redone, and each step is an
+    /// own one, nothing is left to drop after them either.
     fn note_edit(
         &mut self,
         alloc: Global,
@@ -147,7 +147,7 @@ impl<C> Branches<C> {
         Ok(())
     }
 
-    /// The live names behind an edit of these steps. Where it has an own step, nothing can be redone then.
+    /// The live names after an edit of these steps. Where it has an own step, nothing can be redone then.
     fn live_after(&self, alloc: Global, items: &[Item<C>]) -> Result<Listed<Name>, AllocError>
         ensures { IfOk result (λ ns. ns ≡ live_after self.now items.now) }
     {
@@ -161,7 +161,7 @@ impl<C> Branches<C> {
         Ok(names)
     }
 
-    /// Own steps of one call are behind the timeline, and nothing is let go.
+    /// Own steps of one call are after the timeline, and nothing is dropped.
     fn put_all(
         &mut self,
         alloc: Global,

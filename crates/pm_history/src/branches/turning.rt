@@ -79,8 +79,8 @@ impl<C> Branches<C> {
         popped
     }
 
-    /// The event that is taken was undone, or redone: it leaves its branch, `items` are behind the timeline, and `made`, unless
-    /// it has no step, is an event of the other branch. No event is open then. For want of memory nothing changes.
+    /// The event that is taken was undone, or redone: it leaves its branch, `items` are after the timeline, and `made`,
+    /// unless it has no step, is an event of the other branch. No event is open then. Out of memory, nothing changes.
     pub fn undone(
         &mut self,
         turn: Turn,

@@ -13,7 +13,7 @@ use Rattle.pm_expr.proofs.reading.parse.Goals as goal
 abbrev outcome_of : goal.Joined-reader → Result Tree Fault
 outcome_of c = outcome c.args.names.now (length c.args.text.now) (tokens c.args.text.now) no_levels start
 
--- what is said of the tokens behind the one that was taken
+-- what is said of the tokens after the one that was taken
 abbrev onward_of : goal.Joined-reader → State → Result Tree Fault
 onward_of c z =
     let t = token_of c.in-Some.token in

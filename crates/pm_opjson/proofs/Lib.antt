@@ -1,0 +1,4 @@
+pub mod Sides
+pub mod PartLaws
+pub mod ValueLaws
+pub mod StepLaws

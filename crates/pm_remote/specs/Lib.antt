@@ -1,0 +1,4 @@
+pub mod Bare
+pub mod Hearings
+pub mod Backs
+pub mod Heard

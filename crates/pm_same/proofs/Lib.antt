@@ -1,0 +1,5 @@
+pub mod TwinWraps
+pub mod SameWrappings
+pub mod SameSteps
+pub mod SameTexts
+pub mod Built
