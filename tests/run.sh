@@ -105,6 +105,20 @@ limit "a step that fills a document of version 2" replay 0 "4 made 1"
 sized 2 999998 4 >"$large"
 limit "a step that makes a document of version 2 too large" replay 0 "4 refused 0 7"
 
+# The document after so many steps of a log of 130 letters, each put in front. `at` goes on from the nearest of each 64 versions.
+{ letters 1 && yes "$(letters 1 | tail -n 1)" | head -n 129; } >"$large"
+version() {
+  "$program" at "$1" <"$large" >"$got" 2>/dev/null
+  judge "version $1 of 130" $? 0 "$wanted"
+}
+for n in 0 1 63 64 65 127 128 130; do
+  text=$(filled "$n" y)x
+  printf 'at %d {"content":[{"content":[{"text":"%s","type":"text"}],"type":"paragraph"}],"type":"doc"}\n' "$n" "$text" >"$wanted"
+  version "$n"
+done
+echo "past 130" >"$wanted"
+version 131
+
 # A large session that is made from a number: its summary begins so, and a second run writes the same bytes.
 printf 'gen 4 2500 1\nlines 10000\n' >"$wanted"
 "$program" gen 4 2500 1 </dev/null >"$whole" 2>/dev/null

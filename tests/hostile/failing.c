@@ -3,10 +3,13 @@
  *
  * Variables, each a number counted from 1 (absent or 0: none):
  *   REFUSE_ALLOC=N   allocation N answers that there is no memory; with REFUSE_REST=1 all later ones too
+ *   REFUSE_TURN=N    the same of allocation N of every other turn; a turn ends with a write, and the first is not among them
  *   FAIL_READ=N      read N fails; SHORT_READ=N: it gives one byte; HALF_READ=N: half of what was asked for
+ *   FIRST_READ=N     the first read gives N bytes at most
  *   FAIL_WRITE=N     write N fails; SHORT_WRITE=N: it takes one byte; HALF_WRITE=N: half of the piece
  *   SHORT_READS=1, SHORT_WRITES=1   each read gives, and each write takes, one byte
- *   COUNTS=FILE      at the end the three counts are written there, in decimal, with blanks between
+ *   COUNTS=FILE      at the end the three counts are written there, and the most allocations of one turn after the first, in
+ *                    decimal, with blanks between
  *
  * What fails with EINTR in place of EIO is told by INTERRUPT=1. */
 #define _GNU_SOURCE
@@ -18,7 +21,8 @@
 #include <unistd.h>
 
 static long allocs, reads, writes, refused, failed_read, failed_write;
-static long short_read, half_read, short_write, half_write, all_reads, all_writes, rest, interrupt;
+static long short_read, half_read, first_read, short_write, half_write, all_reads, all_writes, rest, interrupt;
+static long refused_in_turn, in_turn, most_in_turn;
 static const char *counts;
 
 static void *(*next_malloc)(size_t);
@@ -61,9 +65,11 @@ __attribute__((constructor)) static void start(void) {
   next_write = dlsym(RTLD_NEXT, "write");
   refused = number("REFUSE_ALLOC");
   rest = number("REFUSE_REST");
+  refused_in_turn = number("REFUSE_TURN");
   failed_read = number("FAIL_READ");
   short_read = number("SHORT_READ");
   half_read = number("HALF_READ");
+  first_read = number("FIRST_READ");
   all_reads = number("SHORT_READS");
   failed_write = number("FAIL_WRITE");
   short_write = number("SHORT_WRITE");
@@ -85,6 +91,8 @@ static void tell(void) {
   if (file < 0) return;
   counts = NULL;
   *--at = '\n';
+  at = decimal(at, most_in_turn);
+  *--at = ' ';
   at = decimal(at, writes);
   *--at = ' ';
   at = decimal(at, reads);
@@ -106,10 +114,17 @@ void _exit(int status) {
 /* The next number of a count, which threads may share. */
 static long next_of(long *count) { return __atomic_add_fetch(count, 1, __ATOMIC_SEQ_CST); }
 
+/* Counts an allocation in its turn, and says whether it is refused there. */
+static int refuses_in_turn(void) {
+  long n = next_of(&in_turn);
+  if (writes && n > most_in_turn) most_in_turn = n;
+  return n == refused_in_turn && writes % 2;
+}
+
 /* Whether this allocation is refused. */
 static int refuses(void) {
   long n = next_of(&allocs);
-  if (n != refused && !(rest && refused && n > refused)) return 0;
+  if (!refuses_in_turn() && n != refused && !(rest && refused && n > refused)) return 0;
   errno = ENOMEM;
   return 1;
 }
@@ -155,13 +170,16 @@ static ssize_t allowed(long n, size_t size, long fails, long one, long half, lon
 
 ssize_t read(int file, void *into, size_t size) {
   if (file != 0) return next_read(file, into, size);
-  ssize_t most = allowed(next_of(&reads), size, failed_read, short_read, half_read, all_reads);
+  long n = next_of(&reads);
+  ssize_t most = allowed(n, size, failed_read, short_read, half_read, all_reads);
+  if (n == 1 && first_read && most > first_read) most = first_read;
   return most < 0 ? most : next_read(file, into, (size_t)most);
 }
 
 ssize_t write(int file, const void *from, size_t size) {
   if (file != 1) return next_write(file, from, size);
   ssize_t most = allowed(next_of(&writes), size, failed_write, short_write, half_write, all_writes);
+  in_turn = 0;
   return most < 0 ? most : next_write(file, from, (size_t)most);
 }
 

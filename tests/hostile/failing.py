@@ -3,7 +3,8 @@
 usage: failing.py LIBRARY [--short]
 
 LIBRARY is failing.c, built. WORDS names the words that are tried. With --short a few sessions are played, and of the
-allocations those at the start, at the end and some between.
+allocations those at the start, at the end and some between. The words for rooms, for late clients and for events that lie apart
+have sessions of their own.
 """
 import os, sys, tempfile
 
@@ -11,6 +12,7 @@ sys.path.insert(0, os.path.dirname(os.path.abspath(__file__)))
 from playing import *
 
 LIBRARY, SHORT = os.path.abspath(sys.argv[1]), "--short" in sys.argv
+WORDS = words_given(EVERY_WORD)
 # Twenty sessions of tests/sessions/ that show each kind of line, steps of each kind, raw clients and refusals.
 CHOSEN = """
 a-forger-among-editors/04
@@ -34,12 +36,42 @@ texts-and-deletions-of-three-clients-meet/01
 edits-undo-and-redo-of-several-clients-meet/1002
 edits-undo-and-redo-of-several-clients-meet/1076
 """.split()
+LATE = """
+clients-enter-late-and-versions-are-written/01
+clients-enter-late-and-versions-are-written/26
+clients-enter-late-and-versions-are-written/47
+clients-enter-late-and-versions-are-written/55
+clients-enter-late-and-versions-are-written/500128
+""".split()
+ROOMS = """
+people-in-rooms/a-line-of-no-room
+people-in-rooms/a-raw-person-and-an-editor
+people-in-rooms/one-person-goes-through-three-rooms
+people-in-rooms/the-second-room-has-no-clients
+people-in-rooms/who-presents-comes-first-in-each-room
+each-room-is-played-by-its-own-lines/each-room-is-played-by-itself
+""".split()
+APART = [f"own-events-are-undone-by-number/{it}" for it in ("01", "03", "05", "09")]
 
 
-def chosen():
-    have = [it for it in sessions() if "/examples/" in it]
-    have += [it for it in (f"{TOP}/tests/sessions/{it}.session" for it in CHOSEN)]
-    return [it for it in have if not SHORT or it.endswith(("first.session", "plan.session", "refusals.session", "rooms.session"))]
+def at_places(names):
+    """The paths of sessions of tests/sessions/."""
+    return [f"{TOP}/tests/sessions/{it}.session" for it in names]
+
+
+def chosen(word):
+    """The sessions that are played under a word. In the short form they are four, and of a word with its own the first of these."""
+    examples = [it for it in sessions() if "/examples/" in it]
+    if takes_rooms(word):
+        own = [f"{TOP}/examples/rooms.session", *at_places(ROOMS)]
+    elif takes_late(word):
+        own = [*at_places(LATE), *examples]
+    elif word == "select":
+        own = [f"{TOP}/examples/review.session", *at_places(APART), *examples]
+    else:
+        short = ("first.session", "plan.session", "refusals.session", "rooms.session")
+        return [it for it in examples if it.endswith(short)] if SHORT else examples + at_places(CHOSEN)
+    return own[:1] if SHORT else own
 
 
 def spoilt(variables, **more):
@@ -49,8 +81,8 @@ def spoilt(variables, **more):
 def counted(path, word):
     """Returns a whole run, and how many allocations, reads and writes it made."""
     with tempfile.NamedTemporaryFile("r") as file:
-        whole = play([word], path, spoilt({"COUNTS": file.name}))
-        return whole, [int(it) for it in file.read().split()]
+        whole = play(word.split(), path, spoilt({"COUNTS": file.name}))
+        return whole, [int(it) for it in file.read().split()][:3]
 
 
 def read(path):
@@ -60,7 +92,7 @@ def read(path):
 
 def refused(path, word, whole, variables):
     """An allocation is refused: the whole answer, or status 5 and nothing written."""
-    played = play([word], path, spoilt(variables))
+    played = play(word.split(), path, spoilt(variables))
     if is_answer(word, read(path), played, whole) and played.err == whole.err:
         return None
     if (played.status, played.out, played.err) == (5, b"", TOLD[5]):
@@ -70,7 +102,7 @@ def refused(path, word, whole, variables):
 
 def ended(path, word, whole, variables, status):
     """A read or a write fails or is short: the status of the table and what may be written with it."""
-    played = play([word], path, spoilt(variables))
+    played = play(word.split(), path, spoilt(variables))
     if status is None:
         is_well = is_answer(word, read(path), played, whole)
     elif status == 3:
@@ -98,17 +130,16 @@ def picked(last):
 
 def tasks():
     """Yields each run of one session under one word with one fault."""
-    for path in chosen():
+    for path, word in ((path, word) for word in WORDS for path in chosen(word)):
         words, out, status = wanted(path)
-        for word in WORDS:
-            whole, (allocs, reads, writes) = counted(path, word)
-            if word == words[0] and (whole.out, whole.status) != (out, status):
-                yield "told", f"{path}: {word} does not write what is stored"
-            for n in picked(allocs):
-                yield "refused", path, word, whole, {"REFUSE_ALLOC": n}
-                if not SHORT or n % 7 == 0:
-                    yield "refused", path, word, whole, {"REFUSE_ALLOC": n, "REFUSE_REST": 1}
-            yield from ends(path, word, whole, reads, writes)
+        whole, (allocs, reads, writes) = counted(path, word)
+        if word.split() == words and not is_answer(word, read(path), whole, whole._replace(out=out, status=status)):
+            yield "told", f"{path}: {word} does not write what is stored"
+        for n in picked(allocs):
+            yield "refused", path, word, whole, {"REFUSE_ALLOC": n}
+            if not SHORT or n % 7 == 0:
+                yield "refused", path, word, whole, {"REFUSE_ALLOC": n, "REFUSE_REST": 1}
+        yield from ends(path, word, whole, reads, writes)
 
 
 def ends(path, word, whole, reads, writes):

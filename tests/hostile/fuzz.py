@@ -7,18 +7,20 @@ lines or JSON values. Under each word (WORDS, `late` and `at 2` where none is gi
 table and an output that the status allows, and the words have to agree on what they refuse. `late` and `at` play files that
 clients may enter late, and agree with the other words on files that none does. What `run` writes has to be what `replay`
 writes of the lines in the order that it shows, and each room's part of what `runrooms` writes what `rooms` writes of the
-room's lines in the order shown there. SEED sets the seed, which is printed, and
-JOBS how many runs go side by side: the inputs are a function of both. An input at which a run fails is kept in FINDS (a
-new folder where it is absent).
+room's lines in the order shown there. The word `live`, by itself, has talks of the live authority changed (PM_LIVE): each line has
+one answer, of a form of docs/use/LIVE.md. SEED sets the seed, which is printed, and JOBS how many runs go side by side: the inputs
+are a function of both. An input at which a run fails is kept in FINDS (a new folder where it is absent).
 """
 import hashlib, os, random, sys, tempfile
 
 sys.path.insert(0, os.path.dirname(os.path.abspath(__file__)))
 from playing import *
+import talks
 
 SECONDS = float(sys.argv[1])
 # A name may be more words than one, as "at 2".
-NAMED = sys.argv[2:] or [*WORDS, "late", "at 2"]
+NAMED = sys.argv[2:] or [*words_given("check replay run"), "late", "at 2"]
+IS_LIVE = NAMED == ["live"]
 SEED = int(os.environ.get("SEED", random.randrange(2**32)))
 FINDS = os.environ.get("FINDS") or tempfile.mkdtemp(prefix="fuzz-")
 NUMBERS = [
@@ -102,15 +104,28 @@ def places(value, found=None, holder=None, key=None):
     return found
 
 
+def begun_sessions():
+    """The sessions that changes begin with: those that are played, and those that are refused."""
+    pool, refused = [], []
+    for path in sessions():
+        with open(path, "rb") as file:
+            (refused if wanted(path)[2] else pool).append(file.read())
+    return pool, refused
+
+
+def begun_talks():
+    """Talks of all kinds of lines; and one that has an opening alone."""
+    opening = "".join(it + "\n" for it in talks.opening())
+    made = (talks.talk(number, 60) for number in range(6))
+    return [(opening + "".join(it + "\n" for it in lines)).encode() for lines in made], [opening.encode()]
+
+
 class Changer:
     """Makes inputs, one after another, by a seed."""
 
     def __init__(self, seed):
         self.random = random.Random(seed)
-        self.pool, self.refused = [], []
-        for path in sessions():
-            with open(path, "rb") as file:
-                (self.refused if wanted(path)[2] else self.pool).append(file.read())
+        self.pool, self.refused = begun_talks() if IS_LIVE else begun_sessions()
         self.first = len(self.pool)
 
     def keep(self, data):
@@ -256,8 +271,17 @@ def shown(data, fault):
     print(f"{name}: {fault}", flush=True)
 
 
+def tried_talk(data):
+    """The faults of a talk, and whether it was opened."""
+    played = play(talks.LIVE.split()[1:], data, None, LONGEST, talks.LIVE.split()[0])
+    fault = talks.fault_of_talk(data, played)
+    return [fault] if fault else [], played.status == 0
+
+
 def tried(data):
     """The faults of one input, and whether it is a session."""
+    if IS_LIVE:
+        return tried_talk(data)
     runs = {word: play(word.split(), data) for word in NAMED}
     faults = [it for it in (fault_of(word, played) for word, played in runs.items()) if it]
     if not faults and (fault := fault_between(runs)):
@@ -294,7 +318,7 @@ def counted(number, until):
 
 
 def main():
-    need_program()
+    talks.need_live() if IS_LIVE else need_program()
     print(f"seed {SEED}, {JOBS} side by side, words {', '.join(NAMED)}", flush=True)
     results, until = multiprocessing.Queue(), time.monotonic() + SECONDS
     workers = [multiprocessing.Process(target=work, args=(it, until, results)) for it in range(JOBS)]
@@ -304,7 +328,7 @@ def main():
     for worker in workers:
         worker.join()
     passed, failed, whole = map(sum, zip(*counts))
-    print(f"{whole} of {passed + failed} inputs were sessions")
+    print(f"{whole} of {passed + failed} inputs were {'opened talks' if IS_LIVE else 'sessions'}")
     end(passed, failed)
 
 

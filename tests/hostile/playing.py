@@ -3,13 +3,18 @@ import collections, glob, json, multiprocessing, os, re, subprocess, sys, time
 
 TOP = os.path.dirname(os.path.dirname(os.path.dirname(os.path.abspath(__file__))))
 PROGRAM = os.environ.get("PROGRAM", f"{TOP}/crates/pm_program/out/pm_program")
-WORDS = os.environ.get("WORDS", "check replay run").split()
+EVERY_WORD = "check replay select run late at 2 rooms runrooms"
 JOBS = int(os.environ.get("JOBS", len(os.sched_getaffinity(0))))
 # The seconds that a run may take.
 LONGEST = 10
 TOLD = {0: b"", 1: b"", 2: b"usage: ", 3: b"read fault\n", 4: b"write fault\n", 5: b"no memory\n"}
 
 Played = collections.namedtuple("Played", "status out err seconds")
+
+
+def words_given(absent):
+    """The words that WORDS names, or those that are meant where it is absent. A number belongs to the word before it: `at 2` is one."""
+    return [it.replace("\0", " ") for it in re.sub(r" +(?=\d)", "\0", os.environ.get("WORDS", absent)).split()]
 
 
 def need_program():
@@ -85,7 +90,7 @@ def fault_of_report(text, first=4):
     if lines.pop() != "":
         return "the last line does not end"
     at = 0
-    if lines and lines[0].startswith("order"):
+    if lines and lines[0].startswith(("order", "apart")):
         at = 1
     ops, last = at, 0
     while at < len(lines) and (told := OUTCOME.fullmatch(lines[at])):
@@ -163,7 +168,9 @@ def fault_between(runs):
             return f"the words differ: {refused}"
     if fault := fault_of_late(runs):
         return fault
-    counts, report = runs.get("check"), runs.get("replay")
+    counts, report, apart = runs.get("check"), runs.get("replay"), runs.get("select")
+    if apart and report and report.status == 0 and apart.out.partition(b"\n")[2] != report.out:
+        return "select and replay write different reports"
     if counts and report and counts.status == 0 and report.status == 0:
         ops = next(at for at, it in enumerate(report.out.split(b"\n")) if it.startswith((b"client ", b"log ")))
         if int(counts.out.split()[1]) != ops:

@@ -1,4 +1,4 @@
-//! What texts say, and their faults. The types are 0 doc, 1 paragraph, 2 blockquote, 3 heading, 4 text, 5 image, 6 hr, and
+//! Where the first faults of texts are. The types are 0 doc, 1 paragraph, 2 blockquote, 3 heading, 4 text, 5 image, 6 hr, and
 //! the groups block (1, 2, 3), inline (4, 5) and rule (6). The name `heading` is also a group of type 1.
 use pm_auto::Expr;
 use pm_expr::{ExprError, NameGroups, Names, parse};
@@ -35,50 +35,9 @@ fn names(alloc: Global) -> Result<Names, AllocError> {
     Names::new(alloc, types.as_slice())
 }
 
-pub(crate) fn parsed(alloc: Global, text: &str) -> Result<Expr, ExprError> {
+fn parsed(alloc: Global, text: &str) -> Result<Expr, ExprError> {
     let names = names(alloc)?;
     parse(alloc, text, &names)
-}
-
-fn shown(alloc: Global, text: &str) -> Result<String, ExprError> {
-    let expr = parsed(alloc, text)?;
-    Ok(format!(in alloc; "{expr:?}")?)
-}
-
-/// Texts, and what they say.
-const READ: [(&str, &str); 18] = [
-    ("paragraph", "One(1)"),
-    ("paragraph+", "Plus(One(1))"),
-    ("paragraph*", "Star(One(1))"),
-    ("paragraph?", "Opt(One(1))"),
-    ("heading paragraph+", "Seq([One(3), Plus(One(1))])"),
-    (
-        "(paragraph | blockquote)+",
-        "Plus(Choice([One(1), One(2)]))",
-    ),
-    ("block+", "Plus(Choice([One(1), One(2), One(3)]))"),
-    ("inline*", "Star(Choice([One(4), One(5)]))"),
-    ("rule", "One(6)"),
-    ("paragraph{2}", "Range(One(1), 2, Some(2))"),
-    ("paragraph{1,5}", "Range(One(1), 1, Some(5))"),
-    ("paragraph{2,}", "Range(One(1), 2, None)"),
-    ("paragraph { 02 , 64 }", "Range(One(1), 2, Some(64))"),
-    ("", "Empty"),
-    (" \t\r\n", "Empty"),
-    ("((paragraph))", "One(1)"),
-    ("paragraph+?{0}", "Range(Opt(Plus(One(1))), 0, Some(0))"),
-    (
-        "hr (doc|hr doc) hr|doc",
-        "Choice([Seq([One(6), Choice([One(0), Seq([One(6), One(0)])]), One(6)]), One(0)])",
-    ),
-];
-
-#[test]
-fn reads_the_expressions_of_the_manual(rt: HostRuntime) -> Result<(), Fail> {
-    for (text, said) in &READ {
-        assert!(rt; shown(rt.alloc(), text)?.as_str() == *said, "{text}");
-    }
-    Ok(())
 }
 
 /// Texts, and their first faults.

@@ -1,0 +1,4 @@
+pub mod Words
+pub mod Given
+pub mod Asked
+pub mod Entries

@@ -1,0 +1,10 @@
+pub mod Openings
+pub mod Entered
+pub mod Joinings
+pub mod Clients
+pub mod Editings
+pub mod Turnings
+pub mod Views
+pub mod Answerings
+pub mod Faulting
+pub mod Following

@@ -1,0 +1,4 @@
+pub mod Editors
+pub mod Talk
+pub mod Lines
+pub mod Laws

@@ -1,0 +1,4 @@
+pub mod Listings
+pub mod Lookings
+pub mod Pairings
+pub mod Tellings
