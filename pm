@@ -41,8 +41,8 @@ words
               lines and its report
   gen CLIENTS LINES NUMBER
               make a session from the number, play it as `replay` does, and write a summary; nothing is read
-  live        read a schema, a document and then messages, a line each, and write an answer to each before the next
-              line is read
+  live        read a schema, a document and then messages, a line each, and write an answer to each; no more input is
+              asked for while a whole line has none
 
 statuses
   0  done: the whole output was written

@@ -2,21 +2,21 @@
 # Times the program beside ProseMirror and Yjs on node, on the same inputs, and prints the tables of docs/change/BENCH.md. Each figure is
 # the median of seven runs, with the least and the greatest.
 # usage: bench/run.sh [PART..]      all parts unless told: see `parts`
-# RUNS=N takes N runs in place of seven. PROGRAM and PM_LIVE name other builds of the programs; one that is not named is proved
-# and built where it is missing or older than a source. The WebAssembly module and the node addon are those in bindings/js; where
-# one is missing it is built.
+# RUNS=N takes N runs in place of seven. PROGRAM and PM_LIVE name other builds of the programs, and GEZHUFET_PREFIX the folder of
+# another build of the library; what is not named is proved and built where it is missing or older than a source. The WebAssembly
+# module and the node addon are those in bindings/js; where one is missing it is built.
 
 set -eu
 
 here=$(cd "$(dirname "$0")" && pwd)
 export NODE_PATH=/usr/share/nodejs
 package=$here/../bindings/js
-parts="check typing clients undos rebases edits long generated threads live embed"
+parts="check typing clients undos rebases edits long generated threads live embed library talk"
 
 # What each part runs. The sizes are such that all parts take less than twelve minutes.
 part() {
   case $1 in
-  check | undos | edits | long | live | embed) node "$here/$1.js" ;;
+  check | undos | edits | long | live | embed | library | talk) node "$here/$1.js" ;;
   typing) node "$here/typing.js" 1000 10000 100000 ;;
   clients) node "$here/clients.js" 32 3000 ;;
   rebases) node "$here/rebases.js" 500 10 1 2000 10 1 2000 10 100 ;;
@@ -30,21 +30,28 @@ part() {
 }
 
 install() {
-  node -e '["prosemirror-model", "prosemirror-transform", "yjs"].forEach(name => require(name))' 2>/dev/null &&
+  node -e '["prosemirror-model", "prosemirror-state", "prosemirror-transform", "yjs", "ws"].forEach(name => require(name))' 2>/dev/null &&
     [ -x /usr/bin/time ] && return
-  echo "bench: installing node-prosemirror-model, node-prosemirror-transform, node-yjs and time" >&2
-  apt-get install -y --no-install-recommends node-prosemirror-model node-prosemirror-transform node-yjs time >&2
+  packages="node-prosemirror-model node-prosemirror-state node-prosemirror-transform node-yjs node-ws time"
+  echo "bench: installing $packages" >&2
+  # shellcheck disable=SC2086
+  apt-get install -y --no-install-recommends $packages >&2
 }
 
-# The program that a part times.
+# The program, and the library, that a part times.
 need() {
   case $1 in
   live) [ -n "${PM_LIVE-}" ] || "$here/../pm" build live ;;
+  library)
+    need live
+    [ -n "${GEZHUFET_PREFIX-}" ] || "$here/../pm" lib
+    ;;
   embed)
     need live
     [ -e "$package/gezhufet.wasm" ] || "$here/../pm" wasm
     [ -e "$package/addon/build/gezhufet.node" ] || { "$here/../pm" lib && "$package/addon/build.sh"; }
     ;;
+  talk) [ -e "$here/../out/gezhufet.wasm" ] || "$here/../pm" wasm ;;
   *) [ -n "${PROGRAM-}" ] || "$here/../pm" build ;;
   esac
 }

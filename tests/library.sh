@@ -1,16 +1,19 @@
 #!/bin/sh
 # Tests the C library and the Python package over it: each call with each bad argument, under valgrind and with the address
-# sanitizer, memory refused at each allocation, threads; and the same bytes for the same lines as the live authority.
-# What is missing (the library, gcc, valgrind, python3, the built authority) is said, and what needs it is left out.
+# sanitizer, memory refused at each allocation, threads; the same bytes for the same lines as the live authority, and as the files
+# of tests/editor have for a client; and whole sessions, whose reports have to be those of `replay`.
+# What is missing (the library, gcc, valgrind, python3, the built programs) is said, and what needs it is left out.
 # The last line is `N passed, M failed`.
 # usage: tests/library.sh
-# The variables GEZHUFET_PREFIX and PM_LIVE name another folder than out/ and another program than crates/pm_live/out/pm_live.
+# The variables GEZHUFET_PREFIX, PM_LIVE and PROGRAM name another folder than out/, and other programs than
+# crates/pm_live/out/pm_live and crates/pm_program/out/pm_program.
 
 set -u
 
 top=$(cd "$(dirname "$0")/.." && pwd) || exit 70
 prefix="${GEZHUFET_PREFIX:-$top/out}"
 live="${PM_LIVE:-$top/crates/pm_live/out/pm_live}"
+program="${PROGRAM:-$top/crates/pm_program/out/pm_program}"
 room=$(mktemp -d) || exit 70
 trap 'rm -rf "$room"' EXIT
 passed=0
@@ -75,6 +78,9 @@ says "the shared library links" gcc $flags $source -L "$prefix/lib" -lgezhufet "
 says "memory that is refused links" gcc $flags $wrapped $source $archive -o "$room/wrapped"
 # shellcheck disable=SC2086
 says "the address sanitizer links" gcc $flags -fsanitize=address $source $archive -o "$room/asan"
+# shellcheck disable=SC2086
+says "the example links" gcc $flags "$top/bindings/c/example.c" $archive -o "$room/example"
+says "the example" sh -c "'$room/example' | grep -q '^{\"confirmed\":1,'"
 says "the header is C++" sh -c "echo '#include \"gezhufet.h\"' | gcc -x c++ -fsyntax-only -I '$prefix/include' -"
 part "the static library" "$room/static"
 part "the shared library" "$room/shared"
@@ -86,17 +92,21 @@ else
   leave_out "valgrind is" "it is missing"
 fi
 
-# plays NAME FILE: the file's lines through the library give what the live authority writes.
+# plays KIND FILE WANTED: the file's lines through a talk of the kind give the bytes that are wanted. Where a line of the opening is
+# missing, which a call of the library can't be without, it is left out.
 plays() {
-  "$live" <"$2" >"$room/wanted" 2>/dev/null
-  timeout 300 "$room/static" play <"$2" >"$room/got"
-  says "$1 has the same answers" cmp "$room/wanted" "$room/got"
+  ! grep -q '^{"fault":2,' "$3" || return 0
+  timeout 300 "$room/static" play "$1" <"$2" >"$room/got"
+  says "${2#"$top"/} has the same answers" cmp "$3" "$room/got"
 }
 
+for file in "$top"/tests/editor/*.in; do
+  [ -f "$file" ] && plays client "$file" "${file%.in}.out"
+done
 if has "$live"; then
-  plays "the example" "$top/crates/pm_live/stdin"
-  for file in "$top"/tests/library/*.lines; do
-    [ -f "$file" ] && plays "$(basename "$file")" "$file"
+  for file in "$top"/crates/pm_live/stdin "$top"/tests/library/*.lines; do
+    "$live" <"$file" >"$room/wanted" 2>/dev/null
+    plays authority "$file" "$room/wanted"
   done
 else
   leave_out "the same answers as the live authority's are" "it is not built: $live"
@@ -107,6 +117,13 @@ if has python3; then
   export PYTHONPATH="$top/bindings/python" PYTHONDONTWRITEBYTECODE=1
   part "the Python package" python3 "$top/bindings/python/test.py"
   says "the example of a server" sh -c "python3 '$top/bindings/python/example_server.py' | grep -q '^10 steps: '"
+  says "the example of two clients" sh -c "python3 '$top/bindings/python/example_clients.py' | grep -q '^all the same: True'"
+  if has "$program"; then
+    export PROGRAM="$program"
+    part "sessions through the talks" "$top/tests/library/play.py" --made 200
+  else
+    leave_out "sessions through the talks are" "the program is not built: $program"
+  fi
 else
   leave_out "the Python package is" "python3 is missing"
 fi

@@ -26,7 +26,7 @@ check() {
 
 # Lists the tracked scripts whose first line, or whose name, is of a kind; those that are not committed yet too.
 files() {
-  git ls-files -co --exclude-standard -- pm test .ci bench bindings examples live tests tools | while read -r file; do
+  git ls-files -co --exclude-standard -- pm test .ci bench bindings examples live server tests tools | while read -r file; do
     [ -f "$file" ] || continue
     case $file in
     *.sh) kind="sh" ;;

@@ -55,6 +55,7 @@ if ! have_packages; then
   finish
 fi
 part node "$top/live/editor-test.js"
+if have_chromium; then part node "$top/live/page/local-test.js"; else leave_out "the page without a server is" "chromium is missing"; fi
 
 # shellcheck disable=SC2086
 if ! command -v ${PM_LIVE%% *} >/dev/null 2>&1; then

@@ -99,7 +99,10 @@ MAIN = """
 fn main(rt: HostRuntime) {
     let alloc = rt.alloc();
     let mut talk = handle::Handle::empty(alloc);
-    if exports::pm_c_open(alloc, &mut talk) {
+    if exports::pm_c_open_client(alloc, &mut talk) {
+        exports::pm_c_close(std::mem::replace(&mut talk, handle::Handle::empty(alloc)));
+    }
+    if exports::pm_c_open_authority(alloc, &mut talk) {
         let of = std::mem::replace(&mut talk, handle::Handle::empty(alloc));
         let size = exports::pm_c_tell(alloc, of, &mut talk, "{}".as_bytes());
         let of = std::mem::replace(&mut talk, handle::Handle::empty(alloc));

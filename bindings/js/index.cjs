@@ -4,9 +4,10 @@
 
 const load = () => import("./src/index.js")
 
-/// As `openEngine` and `openAuthority` of src/index.js.
+/// As the calls of src/index.js.
 exports.openEngine = async (...words) => (await load()).openEngine(...words)
 exports.openAuthority = async (...words) => (await load()).openAuthority(...words)
+exports.openClient = async (...words) => (await load()).openClient(...words)
 
 // An error of the package is known by its name, since its class is loaded later than this file.
 function errorClass(...names) {

@@ -72,6 +72,90 @@ export interface Authority<N = JSONObject, S = JSONObject> {
   close(): void
 }
 
+/** What an edit gave: the step under its serial, or why there is none. */
+export type Made<S = JSONObject> = {made: 1; serial: number; steps: [S]} | {none: "range" | "place" | "fit"}
+/** What an edit would give. `at` is there where the reason is 9. */
+export type Possible<S = JSONObject> = {made: 1; steps: [S]} | {none: "range" | "place" | "fit"} | {refused: {reason: number; at?: number}}
+/** What undo, redo and the undo of one event gave: the steps, maybe none, or that there is no such event. */
+export type Turned<S = JSONObject> = {made: number; serials: number[]; steps: S[]} | {none: "event"}
+
+/** What an answer of the authority told the client, where it told something new. */
+export interface Rebased<S = JSONObject> {
+  /** How many pending steps were confirmed, and how many steps of others were taken. */
+  confirmed: number
+  foreign: number
+  version: number
+  cursors: number[]
+  /** The serials of pending steps that are lost by this. */
+  dropped: number[]
+  /** How many of `steps` take pending ones back. */
+  back: number
+  /**
+   * They lead from the document before to the one after: first those that take the pending steps back, the last one first, then
+   * the others' steps, then the pending ones as they are now. Null where they can't be had: then `doc()` has the new document.
+   */
+  steps: S[] | null
+  /** The place in `steps` of a step that takes one back, and that of what the one became: the two are mirrors. */
+  pairs: [number, number][] | null
+}
+export type Taken<S = JSONObject> =
+  | Rebased<S>
+  | {confirmed: number; version: number}
+  /** The answer says nothing new; the client's version. */
+  | {stale: number}
+  /** The answer is of later than what the client lacks, which is to be asked for; the client's version. */
+  | {gap: number}
+  /** The authority took nothing; how many steps are pending. */
+  | {kept: number}
+
+/** An editor's client: the document with steps that the log need not have yet. */
+export interface Client<N = JSONObject, S = JSONObject> {
+  readonly engine: unknown
+  /**
+   * Makes an edit as docs/use/FORMATS.md describes them: `{op: "text", from: 1, to: 1, text: "a", event: 1}`. ProseMirror's slices,
+   * nodes, marks and types may stand in it. Edits with one event number, one after another, are undone together.
+   * @throws RefusedError where its step does not apply
+   */
+  edit(edit: JSONObject): Made<S>
+  /** Makes this step: `edit({op: "step", step, event})`. */
+  step(step: JSONObject | {toJSON(): any}, event?: number): Made<S>
+  /** What an edit would give. Nothing changes. */
+  can(edit: JSONObject): Possible<S>
+  undo(): Turned<S>
+  redo(): Turned<S>
+  /** Undoes the last event of this number, and leaves what came later. */
+  undoEvent(event: number): Turned<S>
+  /** Sets a cursor, which goes past what is put in at its place by side 1. There are 64 at most. */
+  cursor(pos: number, side?: 1 | -1): {cursor: number; pos: number} | {none: "range"}
+  /** The message with the pending steps, as many as a line holds. */
+  compose(): {op: "submit"; version: number; clientID: ClientID; steps: JSONObject[]}
+  /** The message that asks for what the log has past the client's version. */
+  ask(): {op: "since"; version: number}
+  /**
+   * Takes the authority's answer, as JSON or as its text, late or twice too.
+   * @throws RefusedError where a step of the log does not apply; nothing has changed
+   */
+  take(answer: JSONObject | string): Taken<S>
+  /** An answer as several, none longer than a line, which are to be taken in turn. */
+  parts(answer: JSONObject): JSONObject[]
+  /** The document, pending steps included, and how many steps of the log it has. */
+  doc(): Document<N>
+  /** `pending` counts steps, `undo` and `redo` events, and `size` the document's tokens. */
+  state(): {clientID: ClientID; cursors: number[]; pending: number; redo: number; size: number; undo: number; version: number}
+  /** The answer to a line of the client's talk, both without LF. A fault is an answer too. */
+  tell(line: string): string
+  /** Lets the client go. Later calls throw an EndedError. */
+  close(): void
+}
+
+/** What a client begins with: the authority's document at a version, 0 unless told, and an ID that no other client of it has. */
+export interface ClientOf<D> {
+  schema: D
+  doc?: NodeValue | JSONObject | null
+  version?: number
+  clientID: ClientID
+}
+
 export interface AuthorityOptions<S = JSONObject> {
   /** ProseMirror's class `Step`: `since` then gives steps of it, where the schema is a `Schema`. */
   Step?: StepClass<S>
@@ -86,7 +170,7 @@ export interface EngineOptions {
   module?: WebAssembly.Module | ArrayBuffer | ArrayBufferView | URL | string
 }
 
-/** An engine in which authorities are opened. */
+/** An engine in which authorities and clients are opened. */
 export interface Engine {
   readonly kind: "wasm" | "addon"
   /** Of wasm: the bytes in use, and those of the whole memory, which never shrinks. */
@@ -97,6 +181,8 @@ export interface Engine {
     options?: AuthorityOptions<S>
   ): Authority<N, S>
   openAuthority(schema: SchemaJSON | string, doc?: NodeValue | JSONObject | string | null): Authority
+  openClient<N, S = JSONObject>(of: ClientOf<SchemaValue<N>>, options?: AuthorityOptions<S>): Client<N, S>
+  openClient(of: ClientOf<SchemaJSON | string>): Client
 }
 
 /**
@@ -121,22 +207,33 @@ export function openAuthority(
   options?: EngineOptions & {engine?: Engine},
 ): Promise<Authority>
 
+/**
+ * Opens a client, in an engine of its own unless one is given.
+ * @throws FaultError where the schema, the document, the ID or the version is none
+ * @throws MemoryError where there is no memory for them
+ */
+export function openClient<N, S = JSONObject>(
+  of: ClientOf<SchemaValue<N>>,
+  options?: AuthorityOptions<S> & EngineOptions & {engine?: Engine},
+): Promise<Client<N, S>>
+export function openClient(of: ClientOf<SchemaJSON | string>, options?: EngineOptions & {engine?: Engine}): Promise<Client>
+
 /** Each error of the package. */
 export class GezhufetError extends Error {}
 
-/** A line that the authority can't read. */
+/** A line that can't be read. */
 export class FaultError extends GezhufetError {
   /** The fault's number. */
   readonly code: number
-  /** 1 for the schema, 2 for the document, and else undefined. */
-  readonly line?: 1 | 2
+  /** 1 for the schema, 2 for the document, 3 for a client's ID and version, and else undefined. */
+  readonly line?: 1 | 2 | 3
 }
 
 /** A step that does not apply. */
 export class RefusedError extends GezhufetError {
   /** The number of why. */
   readonly reason: number
-  /** The step's place among those submitted, counted from 0. */
+  /** The step's place among those submitted or taken, counted from 0. */
   readonly index: number
   /** Where the reason is 9, the place of the fault: 0 for the top node, and p + 1 for the token at position p. */
   readonly at?: number
@@ -145,7 +242,7 @@ export class RefusedError extends GezhufetError {
 /** There was no memory. Nothing has changed, and the call may be made again. */
 export class MemoryError extends GezhufetError {}
 
-/** The authority was closed, or its engine has stopped by a fault of its own, which `cause` is. */
+/** The authority or the client was closed, or its engine has stopped by a fault of its own, which `cause` is. */
 export class EndedError extends GezhufetError {}
 
 /** The line that a talk begins with, of a `Schema`. An Error names what it can't have. */

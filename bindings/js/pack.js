@@ -1,4 +1,4 @@
-// Makes what the package has besides its sources: the built module, and the types for CommonJS. `npm pack` runs it.
+// Makes what the package has besides its sources: the built module, the types for CommonJS, and the licence. `npm pack` runs it.
 
 import fs from "node:fs"
 
@@ -9,6 +9,7 @@ if (!fs.existsSync(built)) {
   process.exit(1)
 }
 fs.copyFileSync(built, new URL("gezhufet.wasm", here))
+fs.copyFileSync(new URL("../../LICENSE", here), new URL("LICENSE", here))
 // CommonJS has all but the two makers of lines.
 const types = fs.readFileSync(new URL("index.d.ts", here), "utf8")
 fs.writeFileSync(new URL("index.d.cts", here), types.replace(/\n\/\*\* The line that a talk begins with[^]*$/, ""))

@@ -1,18 +1,51 @@
 """Tests of the package over the library. The last line is `N passed, M failed`."""
 
+import inspect
 import threading
 import unittest
-from typing import Any, List
+from typing import Any, List, Union
 
 import gezhufet
-from gezhufet import Authority, Fault, Refused, WrongVersion
+from gezhufet import (
+    Authority,
+    Client,
+    Confirmed,
+    Cursor,
+    Fault,
+    Gap,
+    Kept,
+    Made,
+    NothingMade,
+    Rebased,
+    Refusal,
+    Refused,
+    Stale,
+    State,
+    WrongVersion,
+    edits,
+)
 
 SCHEMA = {"nodes": [{"name": "doc", "content": "paragraph+"}, {"name": "paragraph", "content": "text*"}, {"name": "text"}]}
 DOC = {"type": "doc", "content": [{"type": "paragraph", "content": [{"type": "text", "text": "ab"}]}]}
+# A schema in which each edit can be made.
+RICH = {
+    "nodes": [
+        {"name": "doc", "content": "block+", "attrs": {"lang": {"default": "en"}}},
+        {"name": "paragraph", "content": "text*", "group": "block"},
+        {"name": "heading", "content": "text*", "group": "block", "attrs": {"level": {"default": 1}}},
+        {"name": "quote", "content": "block+", "group": "block"},
+        {"name": "text"},
+    ],
+    "marks": [{"name": "em"}],
+}
 
 
 def insert(at: int, text: str) -> Any:
     return {"stepType": "replace", "from": at, "to": at, "slice": {"content": [{"type": "text", "text": text}]}}
+
+
+def delete(from_: int, to: int) -> Any:
+    return {"stepType": "replace", "from": from_, "to": to}
 
 
 def text_of(doc: Any) -> str:
@@ -102,6 +135,261 @@ class Tests(unittest.TestCase):
 
     def test_the_version_is_the_tree_s(self) -> None:
         self.assertRegex(gezhufet.version(), r"^\d+\.\d+\.\d+$")
+
+
+class ClientTests(unittest.TestCase):
+    def setUp(self) -> None:
+        self.authority = Authority(SCHEMA, DOC)
+        self.ann = self.join("ann")
+        self.bob = self.join(7)
+
+    def join(self, client_id: Union[int, str], version: int = 0) -> Client:
+        client = Client(SCHEMA, DOC, client_id, version)
+        self.addCleanup(client.close)
+        return client
+
+    def submit(self, client: Client) -> Any:
+        return client.take(self.authority.tell(client.compose()))
+
+    def pull(self, client: Client) -> Any:
+        return client.take(self.authority.tell(client.ask()))
+
+    def test_an_edit_makes_its_step(self) -> None:
+        self.assertEqual(self.ann.edit(edits.text(1, 1, "x")), Made([insert(1, "x")], [1]))
+        self.assertEqual(text_of(self.ann.doc), "xab")
+        self.assertEqual(self.ann.edit(edits.step(delete(1, 2))), Made([delete(1, 2)], [2]))
+        self.assertEqual(self.ann.state, State("ann", 0, 2, 4, [], 2, 0))
+
+    def test_an_edit_that_makes_nothing_says_why(self) -> None:
+        self.assertEqual(self.ann.edit(edits.text(9, 9, "x")), NothingMade("range"))
+        self.assertEqual(self.ann.edit(edits.lift(1)), NothingMade("place"))
+        self.assertEqual(self.ann.edit(edits.insert(1, {"type": "paragraph"})), NothingMade("fit"))
+        self.assertEqual(self.ann.undo(), NothingMade("event"))
+        self.assertEqual(self.ann.redo(), NothingMade("event"))
+        self.assertEqual(self.ann.state, State("ann", 0, 0, 4, [], 0, 0))
+
+    def test_an_edit_that_is_refused_says_why(self) -> None:
+        refusal = self.ann.edit(edits.step(delete(0, 4)))
+        self.assertEqual(refusal, Refusal(9, 0))
+        self.assertIn("valid", refusal.words)
+        self.assertEqual(self.ann.edit(edits.step(delete(0, 9))), Refusal(1))
+        self.assertEqual(self.ann.state.pending, 0)
+
+    def test_what_an_edit_would_come_to_changes_nothing(self) -> None:
+        self.assertEqual(self.ann.can(edits.text(1, 1, "x")), Made([insert(1, "x")], []))
+        self.assertEqual(self.ann.can(edits.text(9, 9, "x")), NothingMade("range"))
+        self.assertEqual(self.ann.can(edits.step(delete(0, 4))), Refusal(9, 0))
+        self.assertEqual(self.ann.state, State("ann", 0, 0, 4, [], 0, 0))
+        self.assertEqual(self.ann.edit(edits.text(1, 1, "x")), Made([insert(1, "x")], [1]))
+
+    def test_each_of_the_fourteen_edits(self) -> None:
+        em, quote = {"type": "em"}, {"type": "quote", "content": [{"type": "paragraph"}]}
+        with Client(RICH, DOC, "ann") as client:
+            for edit in (
+                edits.step(insert(1, "x")),
+                edits.text(1, 2, "yz"),
+                edits.delete(1, 2),
+                edits.paste(1, 1, {"content": [{"type": "text", "text": "c"}]}),
+                edits.paste(1, 2, None),
+                edits.insert(0, quote),
+                edits.split(6),
+                edits.join(7),
+                edits.wrap(4, 9, "quote"),
+                edits.lift(4),
+                edits.set_type(4, "heading", {"level": 2}),
+                edits.add_mark(5, 7, em),
+                edits.remove_mark(5, 6, em),
+                edits.attr(4, "level", 3),
+                edits.doc_attr("lang", "de"),
+            ):
+                made = client.edit(edit)
+                self.assertIsInstance(made, Made, edit)
+                self.assertEqual(len(made.steps), 1)
+            self.assertEqual(client.doc["attrs"], {"lang": "de"})
+            self.assertEqual(client.doc["content"][1]["attrs"], {"level": 3})
+        makers = [it for name, it in vars(edits).items() if inspect.isfunction(it) and not name.startswith("_")]
+        self.assertEqual(len(makers), 14)
+
+    def test_edits_of_one_event_are_undone_as_one(self) -> None:
+        for letter in "xyz":
+            self.ann.edit(edits.text(1, 1, letter), event=5)
+        self.ann.edit(edits.text(1, 1, "w"))
+        self.assertEqual(self.ann.undo_event(4), NothingMade("event"))
+        undone = self.ann.undo_event(5)
+        self.assertEqual((undone.serials, text_of(self.ann.doc)), ([5, 6, 7], "wab"))
+        self.assertEqual(self.ann.redo().serials, [8, 9, 10])
+        self.assertEqual(text_of(self.ann.doc), "wzyxab")
+        self.assertEqual(self.ann.redo(), NothingMade("event"))
+
+    def test_cursors_move(self) -> None:
+        self.assertEqual(self.ann.cursor(3), Cursor(0, 3))
+        self.assertEqual(self.ann.cursor(1, -1), Cursor(1, 1))
+        self.assertEqual(self.ann.cursor(9), NothingMade("range"))
+        self.ann.edit(edits.text(1, 1, "x"))
+        self.assertEqual(self.ann.state.cursors, [4, 1])
+        with self.assertRaises(Fault) as raised:
+            self.ann.cursor(1, 2)
+        self.assertEqual(raised.exception.code, 6)
+        for _ in range(62):
+            self.ann.cursor(0)
+        with self.assertRaises(Fault) as raised:
+            self.ann.cursor(0)
+        self.assertEqual(raised.exception.code, 18)
+
+    def test_a_message_is_composed_and_confirmed(self) -> None:
+        self.assertEqual(self.ann.compose(), {"clientID": "ann", "op": "submit", "steps": [], "version": 0})
+        self.ann.edit(edits.text(1, 1, "x"))
+        message = self.ann.compose()
+        self.assertEqual(message, {"clientID": "ann", "op": "submit", "steps": [insert(1, "x")], "version": 0})
+        answer = self.authority.tell(message)
+        self.assertEqual(self.ann.take(answer), Confirmed(1, 1))
+        self.assertEqual(self.ann.take(answer), Stale(1))
+        self.assertEqual((self.ann.version, self.ann.state.pending), (1, 0))
+
+    def test_a_step_is_carried_past_others(self) -> None:
+        self.ann.edit(edits.text(1, 1, "x"))
+        self.submit(self.ann)
+        self.bob.edit(edits.text(3, 3, "y"))
+        self.bob.cursor(3)
+        self.assertEqual(self.submit(self.bob), Kept(1))
+        self.assertEqual(
+            self.pull(self.bob),
+            Rebased(
+                version=1,
+                confirmed=0,
+                foreign=1,
+                back=1,
+                steps=[delete(3, 4), insert(1, "x"), insert(4, "y")],
+                pairs=[(0, 2)],
+                dropped=[],
+                cursors=[4],
+            ),
+        )
+        self.assertEqual(self.submit(self.bob), Confirmed(1, 2))
+        self.assertEqual(self.pull(self.ann).steps, [insert(4, "y")])
+        self.assertEqual([text_of(it.doc) for it in (self.ann, self.bob, self.authority)], ["xaby"] * 3)
+
+    def test_a_step_of_which_nothing_is_left_is_dropped(self) -> None:
+        self.ann.edit(edits.delete(1, 3))
+        self.submit(self.ann)
+        self.bob.edit(edits.text(2, 2, "y"))
+        rebased = self.pull(self.bob)
+        self.assertEqual((rebased.dropped, rebased.pairs), ([1], []))
+        self.assertEqual((rebased.back, rebased.steps), (1, [delete(2, 3), delete(1, 3)]))
+        self.assertEqual(self.bob.state.pending, 0)
+
+    def test_where_the_schema_takes_no_single_steps_back_there_are_none(self) -> None:
+        content = "(text | br) | (text text (text | br))"
+        nodes = [{"name": "doc", "content": "p+"}, {"name": "p", "content": content}, {"name": "br", "inline": True}, {"name": "text"}]
+        em = {"type": "em"}
+        texts = [{"type": "text", "text": it, "marks": [em] * (it != "b")} for it in "abc"]
+        doc = {"type": "doc", "content": [{"type": "p", "content": texts}, {"type": "p", "content": [{"type": "text", "text": "d"}]}]}
+        with Client({"nodes": nodes, "marks": [{"name": "em"}]}, doc, "ann") as ann:
+            self.assertEqual(len(ann.edit(edits.remove_mark(1, 4, em)).steps), 1)
+            rebased = ann.take({"clientIDs": ["bob"], "steps": [insert(6, "x")], "version": 1})
+            self.assertEqual((rebased.back, rebased.steps, rebased.pairs, rebased.foreign, rebased.dropped), (0, None, None, 1, []))
+            self.assertEqual((text_of(ann.doc), ann.state.pending), ("abcxd", 1))
+
+    def test_an_answer_that_was_lost_comes_back_as_entries(self) -> None:
+        self.ann.edit(edits.text(1, 1, "x"))
+        self.authority.tell(self.ann.compose())
+        taken = self.pull(self.ann)
+        self.assertEqual((taken.confirmed, taken.foreign, taken.steps, taken.version), (1, 0, [], 1))
+        self.assertEqual(self.ann.state.pending, 0)
+
+    def test_an_undo_amid_others_changes(self) -> None:
+        self.ann.edit(edits.delete(1, 3))
+        self.submit(self.ann)
+        self.pull(self.bob)
+        self.bob.edit(edits.text(1, 1, "z"))
+        self.submit(self.bob)
+        self.pull(self.ann)
+        self.assertEqual(self.ann.undo().serials, [2])
+        self.assertIn(text_of(self.ann.doc), ("abz", "zab"))
+        self.submit(self.ann)
+        self.pull(self.bob)
+        self.assertEqual(text_of(self.bob.doc), text_of(self.ann.doc))
+
+    def test_answers_past_the_version_are_a_gap(self) -> None:
+        late = {"clientIDs": ["bob"], "steps": [insert(1, "x")], "version": 3}
+        self.assertEqual(self.ann.take(late), Gap(0))
+        self.assertEqual(self.ann.take({"accepted": {"count": 1, "from": 0}}), Gap(0))
+        self.assertEqual(self.ann.take({"version": 3}), Kept(0))
+
+    def test_a_foreign_step_that_does_not_apply_raises(self) -> None:
+        wrong = {"clientIDs": ["bob", "bob"], "steps": [insert(1, "x"), delete(0, 5)], "version": 2}
+        with self.assertRaises(Refused) as raised:
+            self.ann.take(wrong)
+        self.assertEqual((raised.exception.index, raised.exception.reason, raised.exception.at), (1, 9, 0))
+        self.assertEqual(self.ann.version, 0)
+
+    def test_entries_too_long_for_a_line_are_taken_in_parts(self) -> None:
+        steps = [insert(1, "x" * 1000), delete(1, 1001)] * 1000
+        with self.assertRaises(Fault) as raised:
+            self.ann.take({"clientIDs": ["bob"] * 2000, "steps": steps, "version": 2000})
+        self.assertEqual(raised.exception.code, 3)
+        for end in (1000, 2000):
+            part = {"clientIDs": ["bob"] * 1000, "steps": steps[:1000], "version": end}
+            self.assertEqual(self.ann.take(part).foreign, 1000)
+        self.assertEqual((self.ann.version, text_of(self.ann.doc)), (2000, "ab"))
+
+    def test_faults_raise_with_their_codes(self) -> None:
+        for message, code in (
+            ({"op": "text", "from": 1, "to": 1}, 6),
+            ({"op": "submit"}, 7),
+            ({"op": "step", "step": {"stepType": "none"}}, 7),
+            ({"op": "insert", "pos": 1, "node": {"type": "text", "text": ""}}, 13),
+        ):
+            with self.assertRaises(Fault, msg=message) as raised:
+                self.ann.edit(message)
+            self.assertEqual((raised.exception.code, raised.exception.line), (code, None), message)
+        for answer in ({}, {"fault": 6}, {"accepted": {}}, {"steps": 1, "version": 1}):
+            with self.assertRaises(Fault, msg=answer) as raised:
+                self.ann.take(answer)
+            self.assertEqual(raised.exception.code, 6, answer)
+
+    def test_an_opening_with_a_fault_raises(self) -> None:
+        for opening, code, line in (
+            (({}, DOC, "ann"), 6, 1),
+            ((SCHEMA, {"type": "paragraph"}, "ann"), 16, 2),
+            ((SCHEMA, DOC, 1.5), 6, 3),
+            ((SCHEMA, DOC, "ann", -1), 6, 3),
+        ):
+            with self.assertRaises(Fault) as raised:
+                Client(*opening)
+            self.assertEqual((raised.exception.code, raised.exception.line), (code, line))
+
+    def test_a_client_joins_at_a_version(self) -> None:
+        self.ann.edit(edits.text(1, 1, "x"))
+        self.submit(self.ann)
+        with Client(SCHEMA, self.authority.doc, "eve", self.authority.version) as eve:
+            self.assertEqual(eve.state, State("eve", 1, 0, 5, [], 0, 0))
+            self.assertEqual(self.pull(eve), Stale(1))
+
+    def test_a_closed_client_raises(self) -> None:
+        self.ann.close()
+        self.ann.close()
+        with self.assertRaises(ValueError):
+            self.ann.compose()
+
+    def test_text_beyond_ascii_counts_utf16_units(self) -> None:
+        with Client(SCHEMA, DOC, "änn") as client:
+            client.edit(edits.text(1, 1, "é😀"))
+            self.assertEqual(client.state.size, 7)
+            self.assertEqual(client.edit(edits.step(delete(2, 3))), Refusal(5))
+            self.assertEqual(client.compose()["clientID"], "änn")
+
+    def test_threads_take_turns(self) -> None:
+        def write() -> None:
+            for _ in range(50):
+                self.ann.edit(edits.text(1, 1, "z"))
+
+        threads = [threading.Thread(target=write) for _ in range(4)]
+        for it in threads:
+            it.start()
+        for it in threads:
+            it.join()
+        self.assertEqual(self.ann.state.pending, 200)
 
 
 if __name__ == "__main__":

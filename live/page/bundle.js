@@ -1,10 +1,11 @@
 // One script of a module and all that it requires, for a browser. Each module is a function as node makes it one; packages are
-// found as node finds them.
+// found as node finds them. The ES modules of bindings/js are taken too.
 
 "use strict"
 
 const fs = require("fs")
 const {createRequire} = require("module")
+const {asCommon} = require("./modules")
 
 // Gives the modules from `entry` on, each with its text and, for each name that it requires, the file that has it.
 function collect(entry) {
@@ -12,7 +13,7 @@ function collect(entry) {
   while (open.length) {
     const file = open.pop()
     if (modules.has(file)) continue
-    const text = fs.readFileSync(file, "utf8"), from = createRequire(file), needs = {}
+    const text = asCommon(fs.readFileSync(file, "utf8")), from = createRequire(file), needs = {}
     for (const [, name] of text.matchAll(/\brequire\(["']([^"']+)["']\)/g)) needs[name] = from.resolve(name)
     modules.set(file, {text, needs})
     open.push(...Object.values(needs))

@@ -1,4 +1,4 @@
-// A headless Chromium with one page, driven by its DevTools protocol over two pipes.
+// A headless Chromium with one page or more, driven by its DevTools protocol over two pipes.
 
 "use strict"
 
@@ -7,12 +7,12 @@ const os = require("os")
 const path = require("path")
 const {spawn, spawnSync} = require("child_process")
 
-const PATIENCE = 30000
+const PATIENCE = Number(process.env.PATIENCE || 30000)
 
 /// The program, or null where the machine has none.
 const chromium = () => ["chromium", "chromium-browser"].find(name => spawnSync(name, ["--version"]).status === 0) || null
 
-const MODIFIERS = {Ctrl: 2, Shift: 8}
+const MODIFIERS = {Alt: 1, Ctrl: 2, Shift: 8}
 
 // What the browser is told of a key that is not a letter.
 const KEYS = {
@@ -20,7 +20,12 @@ const KEYS = {
   Backspace: {key: "Backspace", code: "Backspace", windowsVirtualKeyCode: 8},
   ArrowLeft: {key: "ArrowLeft", code: "ArrowLeft", windowsVirtualKeyCode: 37},
   ArrowDown: {key: "ArrowDown", code: "ArrowDown", windowsVirtualKeyCode: 40},
+  ArrowUp: {key: "ArrowUp", code: "ArrowUp", windowsVirtualKeyCode: 38},
+  Delete: {key: "Delete", code: "Delete", windowsVirtualKeyCode: 46},
   Home: {key: "Home", code: "Home", windowsVirtualKeyCode: 36},
+  ArrowRight: {key: "ArrowRight", code: "ArrowRight", windowsVirtualKeyCode: 39},
+  Tab: {key: "Tab", code: "Tab", windowsVirtualKeyCode: 9},
+  Escape: {key: "Escape", code: "Escape", windowsVirtualKeyCode: 27},
   End: {key: "End", code: "End", windowsVirtualKeyCode: 35},
 }
 
@@ -32,15 +37,64 @@ function keyOf(name) {
   return {key: name, code: /[A-Z]/.test(upper) ? `Key${upper}` : "", windowsVirtualKeyCode: upper.charCodeAt(0), text: name}
 }
 
+// A page of a browser, by its session.
+class Tab {
+  constructor(browser, session) {
+    this.browser = browser
+    this.session = session
+  }
+
+  call(method, params = {}) { return this.browser.call(method, params, this.session) }
+
+  /// Opens the page at an address, in a window of this size.
+  async open(url, {width = 1000, height = 460} = {}) {
+    await this.call("Page.enable")
+    // Each page takes keys, as the one in front does.
+    await this.call("Emulation.setFocusEmulationEnabled", {enabled: true})
+    await this.call("Emulation.setDeviceMetricsOverride", {width, height, deviceScaleFactor: 1, mobile: false})
+    await this.call("Page.navigate", {url})
+  }
+
+  /// The value of an expression in the page.
+  async value(expression) {
+    const {result, exceptionDetails} = await this.call("Runtime.evaluate", {expression, returnByValue: true, awaitPromise: true})
+    if (exceptionDetails) throw new Error(`the page says: ${exceptionDetails.exception.description || exceptionDetails.text}`)
+    return result.value
+  }
+
+  /// Waits until an expression in the page is true, for so many milliseconds at most.
+  async until(expression, patience = PATIENCE) {
+    for (const start = Date.now(); Date.now() - start < patience;) {
+      if (await this.value(expression)) return
+      await new Promise(resolve => setTimeout(resolve, 50))
+    }
+    throw new Error(`the page does not come to ${expression}`)
+  }
+
+  /// Presses a key with modifiers, as `Ctrl-Shift-z`.
+  async press(name) {
+    const words = name.split("-"), key = keyOf(words.pop())
+    const modifiers = words.reduce((sum, word) => sum + MODIFIERS[word], 0)
+    const text = modifiers & (MODIFIERS.Ctrl | MODIFIERS.Alt) ? undefined : key.text
+    await this.call("Input.dispatchKeyEvent", {...key, type: text ? "keyDown" : "rawKeyDown", modifiers, text})
+    await this.call("Input.dispatchKeyEvent", {...key, type: "keyUp", modifiers, text: undefined})
+  }
+
+  /// A picture of the page, as a PNG.
+  async picture() { return Buffer.from((await this.call("Page.captureScreenshot", {format: "png"})).data, "base64") }
+}
+
 class Browser {
   constructor(program) {
     this.folder = fs.mkdtempSync(path.join(os.tmpdir(), "live-page-"))
     this.process = spawn(program, [
       "--headless", "--no-sandbox", "--disable-gpu", "--disable-dev-shm-usage", "--no-first-run", "--remote-debugging-pipe",
+      "--disable-background-timer-throttling", "--disable-renderer-backgrounding",
       "--hide-scrollbars", `--user-data-dir=${this.folder}`, "about:blank",
     ], {stdio: ["ignore", "ignore", "ignore", "pipe", "pipe"]})
     this.ended = new Promise(resolve => this.process.on("close", resolve))
     this.count = 0
+    this.next = Promise.resolve()
     this.waiting = new Map()
     this.text = ""
     this.process.stdio[4].setEncoding("utf8").on("data", text => this.read(text))
@@ -59,9 +113,9 @@ class Browser {
     }
   }
 
-  call(method, params = {}) {
+  call(method, params = {}, session = undefined) {
     const id = ++this.count
-    const message = {id, method, params, ...(this.session && {sessionId: this.session})}
+    const message = {id, method, params, ...(session && {sessionId: session})}
     this.process.stdio[3].write(JSON.stringify(message) + "\0")
     return new Promise((resolve, reject) => {
       const timer = setTimeout(() => reject(new Error(`Chromium does not answer ${method}`)), PATIENCE)
@@ -73,47 +127,24 @@ class Browser {
     })
   }
 
-  /// Opens the page at an address.
-  async open(url) {
+  /// One more page, at an address, in a window of this size.
+  async open(url, size) {
+    this.next = this.next.then(() => this.attach())
+    const tab = new Tab(this, await this.next)
+    await tab.open(url, size)
+    return tab
+  }
+
+  // The session of an empty page: that which the browser begins with, or a new one.
+  async attach() {
     const {targetInfos} = await this.call("Target.getTargets")
-    const {targetId} = targetInfos.find(({type}) => type == "page")
+    const empty = targetInfos.find(it => it.type == "page" && !it.attached)
+    const {targetId} = empty || await this.call("Target.createTarget", {url: "about:blank", newWindow: true})
     const {sessionId} = await this.call("Target.attachToTarget", {targetId, flatten: true})
-    this.session = sessionId
-    await this.call("Page.enable")
-    await this.call("Emulation.setDeviceMetricsOverride", {width: 1000, height: 460, deviceScaleFactor: 1, mobile: false})
-    await this.call("Page.navigate", {url})
+    return sessionId
   }
-
-  /// The value of an expression in the page.
-  async value(expression) {
-    const {result, exceptionDetails} = await this.call("Runtime.evaluate", {expression, returnByValue: true, awaitPromise: true})
-    if (exceptionDetails) throw new Error(`the page says: ${exceptionDetails.exception.description || exceptionDetails.text}`)
-    return result.value
-  }
-
-  /// Waits until an expression in the page is true.
-  async until(expression) {
-    for (const start = Date.now(); Date.now() - start < PATIENCE;) {
-      if (await this.value(expression)) return
-      await new Promise(resolve => setTimeout(resolve, 50))
-    }
-    throw new Error(`the page does not come to ${expression}`)
-  }
-
-  /// Presses a key with modifiers, as `Ctrl-Shift-z`.
-  async press(name) {
-    const words = name.split("-"), key = keyOf(words.pop())
-    const modifiers = words.reduce((sum, word) => sum + MODIFIERS[word], 0)
-    const text = modifiers & MODIFIERS.Ctrl ? undefined : key.text
-    await this.call("Input.dispatchKeyEvent", {...key, type: text ? "keyDown" : "rawKeyDown", modifiers, text})
-    await this.call("Input.dispatchKeyEvent", {...key, type: "keyUp", modifiers, text: undefined})
-  }
-
-  /// A picture of the page, as a PNG.
-  async picture() { return Buffer.from((await this.call("Page.captureScreenshot", {format: "png"})).data, "base64") }
 
   async close() {
-    this.session = undefined
     await this.call("Browser.close").catch(() => this.process.kill())
     await this.ended
     fs.rmSync(this.folder, {recursive: true, force: true, maxRetries: 5})

@@ -6,11 +6,12 @@
 const {Node} = require("prosemirror-model")
 const {EditorView} = require("prosemirror-view")
 const {Editor} = require("../editor")
-const {undoDepth, redoDepth} = require("../undo")
-const {commands, keymap} = require("./commands")
+const {undo, redo, undoDepth, redoDepth} = require("../undo")
+const {commandsOf} = require("./commands")
 const {schema} = require("./schema")
 
 const PAUSE = 1000
+const {commands, keymap} = commandsOf({undo, redo})
 
 /// The authority's answer to a message.
 async function ask(line) {

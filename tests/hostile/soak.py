@@ -1,6 +1,7 @@
 """Plays sessions, halls of rooms and talks of new numbers beside each other for hours, each with a judge.
 
 usage: soak.py HOURS [KIND..]
+       soak.py again KIND SEED WORKER PLACE     plays one case anew, by the numbers that a fault is told with
 
 kinds, all where none is named:
   gen       what `gen` writes of three numbers is what `replay` writes of the lines that they make; `check`, `select` and `late` agree
@@ -9,27 +10,30 @@ kinds, all where none is named:
             `at` writes the first document, the last one, and documents of versions between
   runrooms  a hall of rooms: `rooms` of each room's lines in the printed order writes the same report
   live      a talk of the live authority: `replay` of its submissions as a raw client's comes to the same answers and document
-  library   sessions through the talks of the C library (tests/library/play.py), where ./pm lib has built it
+  library   sessions through the talks of an authority and of its clients (tests/library/play.py), where ./pm lib has built them:
+            the whole report is that of `replay`, and each view comes to its client's document by the steps that it was told
   node      editors over ProseMirror's libraries (live/test.js), where node has them
 
-Each worker goes from kind to kind. Each run has a limit of memory, MEMORY in bytes (2,000,000,000 where it is absent), and one of time.
-SEED sets the seed, which is printed, JOBS how many workers there are, and FINDS the folder in which an input is kept at which a run
-failed. Every ten minutes the counts are told, and at the end.
+Each worker goes from kind to kind. Each run has a limit of memory, MEMORY in bytes (2,000,000,000 where it is absent; node has none, since
+it reserves more addresses), and one of time. SEED sets the seed, which is printed, JOBS how many workers there are, and FINDS the folder
+in which an input is kept at which a run failed; of each kind the first twenty faults are told and kept, and all are counted. Every ten
+minutes the counts are told, and at the end. A worker that was killed counts as a fault.
 """
-import os, random, resource, sys, tempfile
+import os, queue, random, resource, sys, tempfile
 
 sys.path[:0] = [os.path.dirname(os.path.abspath(__file__)), os.path.dirname(os.path.dirname(os.path.abspath(__file__))) + "/library"]
 from playing import *
 import drawing, talks
 from talks import LIVE, size_of
 
-SECONDS = float(sys.argv[1]) * 3600
 SEED = int(os.environ.get("SEED", random.randrange(2**32)))
 FINDS = os.environ.get("FINDS") or tempfile.mkdtemp(prefix="soak-")
 MEMORY = int(os.environ.get("MEMORY", 2_000_000_000))
 PREFIX = os.environ.get("GEZHUFET_PREFIX", f"{TOP}/out")
 # The seconds that a run may take where many run beside it, and the seconds between two lines of counts.
 LONG, TOLD_EACH = 600, 600
+# The faults of a kind that are told and kept.
+FAULTS_TOLD = 20
 
 
 class Wrong(Exception):
@@ -265,11 +269,17 @@ def library(draws):
     number = draws.randrange(2**40)
     words = [f"{TOP}/tests/library/play.py", "--made", "6", "--from", str(number)]
     more = {"GEZHUFET_LIBRARY": f"{PREFIX}/lib/libgezhufet.so", "JOBS": "1", "PROGRAM": PROGRAM}
-    # No folder but an empty one, so that the made sessions alone are played.
-    with tempfile.TemporaryDirectory() as empty:
-        played = play(words[1:] + [empty], b"", more, LONG, words[0])
+    # Those of `gen`, and some that have every op of an editor.
+    sessions = {f"{it}.session": file_of(drawn(draws, draws.randint(3, 25))) for it in range(4)}
+    with tempfile.TemporaryDirectory() as folder:
+        for name, data in sessions.items():
+            with open(f"{folder}/{name}", "wb") as file:
+                file.write(data)
+        played = play(words[1:] + [folder], b"", more, LONG, words[0])
     told = re.search(rb"^play: (\d+) op lines", played.out, re.M)
-    ensure(played.status == 0 and told, f"play.py --made 6 --from {number}: {played.status} {played.out[-400:]!r} {played.err[-200:]!r}")
+    wrong = next((data for name, data in sessions.items() if f"/{name}:".encode() in played.out), b"")
+    what = f"play.py --made 6 --from {number}: {played.status} {played.out[-600:]!r} {played.err[-200:]!r}"
+    ensure(played.status == 0 and told, what, wrong)
     return {"lines": int(told[1]), "steps": 0}
 
 
@@ -308,79 +318,129 @@ def missing(kind):
 
 
 def kept(kind, number, data):
+    """Keeps an input, and returns where; a fault of some kinds has none, and is made anew by its numbers."""
+    if not data:
+        return "no input"
     name = f"{FINDS}/{kind}-{number.replace(' ', '-')}.input"
     with open(name, "wb") as file:
         file.write(data)
     return name
 
 
-def work(worker, kinds, until, results):
-    """Plays case after case until a time."""
+def case(kind, number, keeps=True):
+    """Plays the case of these numbers, and returns its counts or its fault."""
+    try:
+        return KINDS[kind](random.Random(f"{kind} {number}"))
+    except Wrong as fault:
+        what, data = fault.args
+        place = kept(kind, number, data) if keeps else "not kept"
+        return {"fault": f"{place}: {kind} {number}: {what}"[:1000]}
+    except Exception as fault:
+        return {"fault": f"{kind} {number}: {type(fault).__name__}: {fault}"[:1000]}
+
+
+def limit_memory():
     resource.setrlimit(resource.RLIMIT_AS, (MEMORY, resource.RLIM_INFINITY))
-    at = worker
+
+
+def work(worker, kinds, until, results):
+    """Plays case after case until a time. The memory of a run is told where it took more than all before it."""
+    limit_memory()
+    at, most, faults = worker, 0, collections.Counter()
     while time.monotonic() < until:
         kind, number = kinds[at % len(kinds)], f"{SEED} {worker} {at}"
         at += 1
-        try:
-            counts = KINDS[kind](random.Random(f"{kind} {number}"))
-        except Wrong as fault:
-            what, data = fault.args
-            counts = {"fault": f"{kept(kind, number, data)}: {kind} {number}: {what}"[:1000]}
-        except Exception as fault:
-            counts = {"fault": f"{kind} {number}: {type(fault).__name__}: {fault}"[:1000]}
-        results.put((kind, counts, resource.getrusage(resource.RUSAGE_CHILDREN).ru_maxrss))
+        counts = case(kind, number, faults[kind] < FAULTS_TOLD)
+        faults[kind] += "fault" in counts
+        memory = resource.getrusage(resource.RUSAGE_CHILDREN).ru_maxrss
+        results.put((kind, counts, memory if memory > most else 0))
+        most = max(most, memory)
     results.put(None)
 
 
-def show(sums, orders, begun, most):
-    minutes = (time.monotonic() - begun) / 60
-    print(f"soak: {minutes:.0f} minutes, at most {most / 1000:.0f} MB in one run", flush=True)
-    for kind, it in sums.items():
-        told = f", {len(orders[kind])} orders" if orders[kind] else ""
-        print(f"soak:   {kind}: {it['runs']} runs, {it['lines']} lines, {it['steps']} steps{told}", flush=True)
+class Sums:
+    """What came of the runs so far, by kind."""
 
+    def __init__(self, kinds):
+        self.begun, self.failed = time.monotonic(), 0
+        self.counts = {it: collections.Counter() for it in kinds}
+        self.orders = {it: set() for it in kinds}
+        self.memory = dict.fromkeys(kinds, 0)
 
-def gather(results, kinds):
-    """Adds what the workers tell, until all have ended; returns how many runs were well, and how many were not."""
-    sums = {it: collections.Counter() for it in kinds}
-    orders, begun, next_at, failed, most, left = {it: set() for it in kinds}, time.monotonic(), TOLD_EACH, 0, 0, JOBS
-    while left:
-        told = results.get()
-        if told is None:
-            left -= 1
-            continue
-        kind, counts, memory = told
-        most = max(most, memory)
-        sums[kind]["runs"] += 1
-        if "fault" in counts:
-            failed += 1
-            print(f"soak: {counts['fault']}", flush=True)
+    def add(self, kind, counts, memory):
+        of_kind = self.counts[kind]
+        self.memory[kind] = max(self.memory[kind], memory)
+        of_kind["runs"] += 1
         if "order" in counts:
-            orders[kind].add(hash(counts.pop("order")))
-        sums[kind].update({key: it for key, it in counts.items() if key != "fault"})
-        if time.monotonic() - begun > next_at:
+            self.orders[kind].add(hash(counts.pop("order")))
+        if fault := counts.pop("fault", None):
+            self.failed += 1
+            of_kind["faults"] += 1
+            if of_kind["faults"] <= FAULTS_TOLD:
+                print(f"soak: {fault}", flush=True)
+        of_kind.update(counts)
+
+    def show(self):
+        print(f"soak: {(time.monotonic() - self.begun) / 60:.0f} minutes", flush=True)
+        for kind, it in self.counts.items():
+            told = f", {len(self.orders[kind])} orders" if self.orders[kind] else ""
+            told += f", {self.memory[kind] / 1000:.0f} MB at most" if self.memory[kind] else ""
+            told += f", {it['faults']} FAULTS" if it["faults"] else ""
+            print(f"soak:   {kind}: {it['runs']} runs, {it['lines']} lines, {it['steps']} steps{told}", flush=True)
+
+
+def gather(results, workers, kinds):
+    """Adds what the workers tell, until all have ended; returns how many runs were well, and how many were not."""
+    sums, next_at, ended = Sums(kinds), TOLD_EACH, 0
+    while ended < len(workers):
+        try:
+            told = results.get(timeout=60)
+        except queue.Empty:
+            # Who has ended and has told nothing for so long was killed.
+            killed = [it for it in workers if it.exitcode not in (None, 0)]
+            if len(killed) + ended == len(workers):
+                print(f"soak: {len(killed)} workers were killed, by {[it.exitcode for it in killed]}")
+                sums.failed += len(killed)
+                break
+            told = ()
+        if told is None:
+            ended += 1
+        elif told:
+            sums.add(*told)
+        if time.monotonic() - sums.begun > next_at:
             next_at += TOLD_EACH
-            show(sums, orders, begun, most)
-    show(sums, orders, begun, most)
-    return sum(it["runs"] for it in sums.values()) - failed, failed
+            sums.show()
+    sums.show()
+    return sum(it["runs"] - it["faults"] for it in sums.counts.values()), sums.failed
 
 
-def main():
-    need_program()
-    kinds = sys.argv[2:] or [*KINDS]
+def soak(hours, kinds):
     for kind in [it for it in kinds if missing(it)]:
         print(f"soak: {kind} is left out, for {missing(kind)}")
         kinds.remove(kind)
     print(f"soak: seed {SEED}, {JOBS} side by side, finds in {FINDS}: {', '.join(kinds)}", flush=True)
-    results, until = multiprocessing.Queue(), time.monotonic() + SECONDS
+    results, until = multiprocessing.Queue(), time.monotonic() + hours * 3600
     workers = [multiprocessing.Process(target=work, args=(it, kinds, until, results)) for it in range(JOBS)]
     for worker in workers:
         worker.start()
-    passed, failed = gather(results, kinds)
+    passed, failed = gather(results, workers, kinds)
     for worker in workers:
         worker.join()
     end(passed, failed)
 
 
+def main(words):
+    if words[:1] == ["again"] and len(words) == 5 and words[1] in KINDS:
+        need_program()
+        limit_memory()
+        print(case(words[1], " ".join(words[2:])))
+    elif words and re.fullmatch(r"\d+(\.\d+)?|\.\d+", words[0]) and set(words[1:]) <= set(KINDS):
+        need_program()
+        soak(float(words[0]), words[1:] or [*KINDS])
+    else:
+        print(__doc__, file=sys.stderr)
+        sys.exit(2)
+
+
 if __name__ == "__main__":
-    main()
+    main(sys.argv[1:])

@@ -65,26 +65,41 @@ unsigned open(unsigned schema, unsigned document) {
   return leave((word)talk);
 }
 
+// A client's talk by its three lines, as `open` has an authority's.
+unsigned open_client(unsigned schema, unsigned document, unsigned client) {
+  enter();
+  gezhufet_talk *talk = NULL;
+  last = 0;
+  if (provide(schema + document + client)) {
+    const char *second = buffer + schema;
+    last = gezhufet_open_client(buffer, schema, second, document, second + document, client, &talk);
+  }
+  return leave((word)talk);
+}
+
 // Whether the talk was opened, so that lines are answered.
 unsigned is_open(unsigned talk) {
   enter();
   return leave(gezhufet_is_open(talk_at(talk)));
 }
 
-// Tells a talk the line of so many bytes that lies in the buffer.
-void tell(unsigned talk, unsigned bytes) {
+// Tells a talk the line of so many bytes that lies in the buffer, and puts the answer's first bytes there, as many as the least room
+// takes. Gives the bytes of the answer, its LF too.
+unsigned ask(unsigned talk, unsigned bytes) {
   enter();
   last = gezhufet_tell(talk_at(talk), buffer, bytes);
-  leave(0);
+  shrink();
+  gezhufet_answer(talk_at(talk), buffer, LEAST_ROOM);
+  return leave(last);
 }
 
-// The bytes of the answer to the last call of `open` or `tell`, its LF too.
+// The bytes of the answer to the last call of `open`, `open_client` or `ask`, its LF too.
 unsigned length(void) {
   enter();
   return leave(last);
 }
 
-// Where that answer lies, of the talk that was called, or 0 where there is no memory to hand it out.
+// Where the whole of that answer lies, of the talk that was called, or 0 where there is no memory to hand it out.
 unsigned answer(unsigned talk) {
   enter();
   shrink();

@@ -1,8 +1,14 @@
-/* The document engine of ProseMirror as a library: a line in, an answer out.
+/* The document engine of ProseMirror as a library: a line in, an answer out. There are two kinds of talks, and all calls but those
+ * that open them are the same for both.
  *
- * A talk is a document with the log of its steps. It is opened by two lines of JSON, a schema and a document, and each later
+ * An authority is a document with the log of its steps. It is opened by two lines of JSON, a schema and a document, and each later
  * line asks it something: to append steps, for the log, or for the document. The lines and their answers are those of the
  * live authority (docs: the live authority).
+ *
+ * A client is the document of one editor, whose authority is elsewhere: in this process, or behind a server. It is opened by three
+ * lines, a schema, a document, and who it is. Each later line edits its document, undoes or makes again, sets a cursor, composes a
+ * message for the authority, takes an authority's answer, or asks how the client stands (docs: the client's talk). The caller
+ * carries the messages and the answers.
  *
  * Who owns what. A talk owns its memory until gezhufet_close. Lines and buffers are the caller's: no call keeps a pointer to
  * them. An answer stays with its talk until the next line is told, and the caller copies it.
@@ -43,6 +49,20 @@ unsigned gezhufet_version(void);
 size_t gezhufet_open_authority(const char *schema, size_t schema_size, const char *document, size_t document_size,
                                gezhufet_talk **talk);
 
+/* Opens a client's talk by its three lines: a schema; a document, or `null` for the schema's top type filled; and
+ * {"clientID":ID,"version":V}. ID is a text or a whole number, and V says that the document is the one after the first V steps of
+ * the authority's log; 0 where it is absent. That it is so is the caller's to see to. No two clients of an authority may have one ID,
+ * and a client that is opened anew takes a new one: steps of the log that have the client's ID confirm its pending steps.
+ *
+ * Gives the number of bytes of the answer, which gezhufet_answer copies: {"size":N,"version":V} where the talk is open, N the number
+ * of tokens in the document's content, and {"fault":CODE,"line":1, 2 or 3} or {"fault":"memory"} where it is not. gezhufet_is_open
+ * tells which. `*talk` is the talk in both cases, and has to be closed.
+ *
+ * Gives 0, and sets `*talk` to NULL, where there is no memory for a talk, or a line is NULL and not empty. Where `talk` is NULL
+ * it does nothing and gives 0. */
+size_t gezhufet_open_client(const char *schema, size_t schema_size, const char *document, size_t document_size, const char *client,
+                            size_t client_size, gezhufet_talk **talk);
+
 /* Whether the talk was opened, so that lines are answered. False for NULL. */
 bool gezhufet_is_open(gezhufet_talk *talk);
 
@@ -57,6 +77,13 @@ size_t gezhufet_tell(gezhufet_talk *talk, const char *line, size_t size);
  *
  * Gives 0 where `talk` or `buffer` is NULL. */
 size_t gezhufet_answer(gezhufet_talk *talk, char *buffer, size_t room);
+
+/* Both in one call: tells the talk a line, and copies the answer's first bytes into the buffer, at most `room`. Gives the number of bytes
+ * of the answer. Where they are more than `room`, gezhufet_answer copies all of them into a larger buffer.
+ *
+ * Gives 0, and leaves the last answer and the buffer as they were, where gezhufet_tell gives 0. Where `buffer` is NULL nothing is
+ * copied. */
+size_t gezhufet_ask(gezhufet_talk *talk, const char *line, size_t size, char *buffer, size_t room);
 
 /* Lets the talk and its memory go. The pointer must not be used again. Does nothing for NULL. */
 void gezhufet_close(gezhufet_talk *talk);

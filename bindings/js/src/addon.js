@@ -18,14 +18,18 @@ class AddonEngine {
 
   get kind() { return "addon" }
 
-  open(schema, document) {
-    const [talk, answer] = given(this.#addon.open(schema, document))
-    return {talk, answer: given(answer)}
-  }
+  open(...lines) { return this.#opened(this.#addon.open(...lines)) }
+
+  openClient(...lines) { return this.#opened(this.#addon.openClient(...lines)) }
 
   tell(talk, line) { return given(this.#addon.tell(talk, line)) }
 
   close(talk) { this.#addon.close(talk) }
+
+  #opened(value) {
+    const [talk, answer] = given(value)
+    return {talk, answer: given(answer)}
+  }
 }
 
 /// The addon, or null where it was not built.

@@ -1,4 +1,4 @@
-// What can go wrong. Each error is a GezhufetError, and has in numbers what the authority said.
+// What can go wrong. Each error is a GezhufetError, and has in numbers what the engine said.
 
 // The codes of a faulty line and the reasons of a refused step, as docs/use/FORMATS.md numbers them.
 const CODES = {
@@ -16,6 +16,7 @@ const CODES = {
   14: "marks that are no set",
   15: "a side of a slice that is deeper than its content, or too many tokens",
   16: "the document is not valid or not of the top type, or the top type can't be filled",
+  18: "no room for one more cursor",
   19: "no room for one more client",
 }
 const REASONS = {
@@ -39,18 +40,20 @@ export class GezhufetError extends Error {
   get name() { return this.constructor.name }
 }
 
-/// A line that the authority can't read. `code` is its number; `line` is 1 for the schema, 2 for the document, and else undefined.
+const LINES = {1: "the schema", 2: "the document", 3: "the line of the client"}
+
+/// A line that can't be read. `code` is its number; `line` is 1 for the schema, 2 for the document, 3 for the line of a client's ID and
+/// version, and else undefined.
 export class FaultError extends GezhufetError {
   constructor(code, line) {
-    const what = line === undefined ? "the message" : line == 1 ? "the schema" : "the document"
-    super(`${what} has a fault: ${CODES[code] || "of an unknown kind"} (code ${code})`)
+    super(`${LINES[line] || "the message"} has a fault: ${CODES[code] || "of an unknown kind"} (code ${code})`)
     this.code = code
     this.line = line
   }
 }
 
-/// A step that does not apply: `index` is its place among those submitted, counted from 0, and `reason` the number of why. Where it
-/// is 9, `at` is the place of the fault: 0 for the top node, and p + 1 for the token at position p.
+/// A step that does not apply: `index` is its place among those submitted or taken, counted from 0, and `reason` the number of why.
+/// Where it is 9, `at` is the place of the fault: 0 for the top node, and p + 1 for the token at position p.
 export class RefusedError extends GezhufetError {
   constructor(reason, index, at) {
     const where = at === undefined ? "" : `, at ${at}`
@@ -66,5 +69,5 @@ export class MemoryError extends GezhufetError {
   constructor() { super("there is no memory for it; nothing has changed") }
 }
 
-/// The authority was closed, or its engine has stopped by a fault of its own and is not called again; `cause` is that fault.
+/// The authority or client was closed, or its engine has stopped by a fault of its own and is not called again; `cause` is that fault.
 export class EndedError extends GezhufetError {}

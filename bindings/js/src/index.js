@@ -1,4 +1,4 @@
-// A verified authority for ProseMirror documents, in this process.
+// A verified authority for ProseMirror documents, and a verified client of one, in this process.
 //
 //   import {openAuthority} from "gezhufet"
 //   const authority = await openAuthority(schema, doc)
@@ -6,13 +6,14 @@
 
 import {openAddon} from "./addon.js"
 import {Authority} from "./authority.js"
+import {Client} from "./client.js"
 import {EndedError} from "./errors.js"
 import {openWasm} from "./wasm.js"
 
 export {EndedError, FaultError, GezhufetError, MemoryError, RefusedError} from "./errors.js"
 export {documentLine, schemaLine} from "./lines.js"
 
-// An engine in which authorities are opened.
+// An engine in which authorities and clients are opened.
 class Engine {
   #engine
 
@@ -26,6 +27,9 @@ class Engine {
 
   /// An authority in this engine; see `openAuthority`.
   openAuthority(schema, doc, options) { return new Authority(this.#engine, schema, doc, options) }
+
+  /// A client in this engine; see `openClient`.
+  openClient(of, options) { return new Client(this.#engine, of, options) }
 }
 
 /// Opens an engine. `kind` is `wasm`, `addon`, or undefined: the addon where it was built, and else wasm. `memory` is the most bytes
@@ -43,4 +47,11 @@ export async function openEngine({kind, memory, module} = {}) {
 /// `Node`, or their JSON; without `doc` the schema's top type is filled. A FaultError where one of them is none.
 export async function openAuthority(schema, doc = null, {engine, Step, ...options} = {}) {
   return (engine ?? await openEngine(options)).openAuthority(schema, doc, {Step})
+}
+
+/// Opens a client of an authority that is elsewhere, in an engine of its own unless one is given. `doc` is the authority's document at
+/// `version`, 0 unless told; `clientID` a text or a whole number that no other client of the document has. A FaultError where one of
+/// them is none.
+export async function openClient(of, {engine, Step, ...options} = {}) {
+  return (engine ?? await openEngine(options)).openClient(of, {Step})
 }

@@ -7,7 +7,8 @@ import {readFile} from "./platform.js"
 // The bytes of a line that the engine reads, its LF not counted. Of a longer one, which has a fault, one byte more is told.
 const LINE_LIMIT = 1048576
 const PAGE = 65536
-// A text of so many units has a place in the module's buffer as it always is, since a unit takes three bytes at most.
+// The bytes that the module's buffer has always. A text of a third as many units has a place there, since a unit takes three at most.
+const LEAST = 4096
 const SHORT = 1365
 
 const OWN_MODULE = new URL("../gezhufet.wasm", import.meta.url)
@@ -46,6 +47,7 @@ export async function openWasm({module, memory} = {}) {
 class WasmEngine {
   #exports
   #fault = null
+  #least = null
 
   constructor({exports}, memory) {
     this.#exports = exports
@@ -55,30 +57,34 @@ class WasmEngine {
   get kind() { return "wasm" }
 
   // Calls an export. After an exception memory may be half written, so the instance is never called again.
-  #call(name, first, second) {
+  #call(name, first, second, third) {
     if (this.#fault) throw new EndedError("the engine has stopped by a fault", {cause: this.#fault})
     try {
-      return this.#exports[name](first, second) >>> 0
+      return this.#exports[name](first, second, third) >>> 0
     } catch (fault) {
       this.#fault = fault
       throw new EndedError(`the engine has stopped by a fault: ${fault.message}`, {cause: fault})
     }
   }
 
-  /// A talk by its two lines, which is a number, and the answer to both.
-  open(schema, document) {
-    const lines = [bytesOf(schema), bytesOf(document)]
-    const [first, second] = lines.map(it => it.length)
-    this.#write(lines, first + second)
-    const talk = this.#call("open", first, second)
+  /// An authority's talk by its two lines, which is a number, and the answer to both.
+  open(...lines) { return this.#open("open", lines) }
+
+  /// A client's talk by its three lines, and the answer to them.
+  openClient(...lines) { return this.#open("open_client", lines) }
+
+  #open(name, lines) {
+    const bytes = lines.map(bytesOf), sizes = bytes.map(it => it.length)
+    this.#write(bytes, sizes.reduce((sum, size) => sum + size))
+    const talk = this.#call(name, ...sizes)
     if (talk == 0) throw new MemoryError()
-    return {talk, answer: this.#answer(talk)}
+    return {talk, answer: this.#answer(talk, this.#call("length"))}
   }
 
   /// The answer to a line, without its LF.
   tell(talk, line) {
-    this.#call("tell", talk, this.#put(line))
-    return this.#answer(talk)
+    const length = this.#call("ask", talk, this.#put(line))
+    return length <= LEAST ? this.#text(this.#first(), length) : this.#answer(talk, length)
   }
 
   /// Lets a talk go. A stopped engine has let all go.
@@ -89,7 +95,9 @@ class WasmEngine {
   /// The bytes that are in use, and those of the whole memory, which never shrinks.
   get memory() { return {used: this.#call("used"), size: this.#exports.memory.buffer.byteLength} }
 
+  // The place of so many bytes of the buffer, which may move.
   #room(length) {
+    this.#least = null
     const at = this.#call("room", length)
     if (at == 0) throw new MemoryError()
     return at
@@ -97,10 +105,7 @@ class WasmEngine {
 
   // Puts a line into the buffer, and gives how many bytes it has.
   #put(line) {
-    if (line.length <= SHORT) {
-      const room = 3 * line.length
-      return encoder.encodeInto(line, this.#bytes(this.#room(room), room)).written
-    }
+    if (line.length <= SHORT) return encoder.encodeInto(line, this.#first()).written
     const bytes = bytesOf(line)
     this.#write([bytes], bytes.length)
     return bytes.length
@@ -115,12 +120,22 @@ class WasmEngine {
     }
   }
 
-  #answer(talk) {
-    const length = this.#call("length")
+  // The first bytes of the buffer. They are looked for again where it may have moved, or the memory has grown.
+  #first() {
+    if (this.#least?.buffer !== this.#exports.memory.buffer) this.#least = this.#bytes(this.#room(LEAST), LEAST)
+    return this.#least
+  }
+
+  // A whole answer of so many bytes.
+  #answer(talk, length) {
+    this.#least = null
     const at = this.#call("answer", talk)
     if (at == 0) throw new MemoryError()
-    return decoder.decode(this.#bytes(at, length - 1))
+    return this.#text(this.#bytes(at, length), length)
   }
+
+  // The text of an answer without its LF, of which all bytes are there.
+  #text(bytes, length) { return decoder.decode(bytes.subarray(0, length - 1)) }
 
   #bytes(at, length) { return new Uint8Array(this.#exports.memory.buffer, at, length) }
 }

@@ -35,5 +35,6 @@ describe("the package", () => {
   it("opens by CommonJS", {skip: engines.length == 0 && "no engine is built"}, async () => {
     assert.equal((await commonDoor.openAuthority(schemaJSON, docJSON)).version, 0)
     assert.equal((await commonDoor.openEngine()).openAuthority(schemaJSON).version, 0)
+    assert.equal((await commonDoor.openClient({schema: schemaJSON, doc: docJSON, clientID: 1})).state().version, 0)
   })
 })

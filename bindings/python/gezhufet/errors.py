@@ -30,10 +30,11 @@ class GezhufetError(Exception):
 
 
 class Fault(GezhufetError):
-    """A line is not one that can be answered: `code` says why. `line` is 1 for the schema and 2 for the document."""
+    """A line is not one that can be answered: `code` says why. `line` is 1 for the schema, 2 for the document and 3 for the ID and
+    the version of a client; None where the talk was open already."""
 
     def __init__(self, code: int, line: Optional[int] = None) -> None:
-        place = {1: " in the schema", 2: " in the document"}.get(line or 0, "")
+        place = {1: " in the schema", 2: " in the document", 3: " in the client's ID or version"}.get(line or 0, "")
         super().__init__(f"fault {code}{place}")
         self.code = code
         self.line = line
@@ -52,7 +53,8 @@ class WrongVersion(GezhufetError):
 
 
 class Refused(GezhufetError):
-    """A step does not apply: `index` is its place in the submission, counted from 0, and `reason` says why.
+    """A step does not apply: `index` is its place in the submission, or in the entries that a client takes, counted from 0, and
+    `reason` says why.
 
     `at` says where the document would not be valid, where `reason` is 9: 0 for the top node, and p + 1 for the node or unit whose
     token is the p-th.

@@ -7,6 +7,8 @@ from pathlib import Path
 from typing import Iterator, Optional
 
 NAME = "libgezhufet.so"
+# The bytes of a talk's buffer for answers.
+ROOM = 4096
 
 
 def _places() -> Iterator[str]:
@@ -32,12 +34,16 @@ def _load() -> ctypes.CDLL:
         library.gezhufet_version.restype = ctypes.c_uint
         library.gezhufet_open_authority.argtypes = [text, size, text, size, ctypes.POINTER(talk)]
         library.gezhufet_open_authority.restype = size
+        library.gezhufet_open_client.argtypes = [text, size, text, size, text, size, ctypes.POINTER(talk)]
+        library.gezhufet_open_client.restype = size
         library.gezhufet_is_open.argtypes = [talk]
         library.gezhufet_is_open.restype = ctypes.c_bool
         library.gezhufet_tell.argtypes = [talk, text, size]
         library.gezhufet_tell.restype = size
         library.gezhufet_answer.argtypes = [talk, ctypes.c_void_p, size]
         library.gezhufet_answer.restype = size
+        library.gezhufet_ask.argtypes = [talk, text, size, ctypes.c_void_p, size]
+        library.gezhufet_ask.restype = size
         library.gezhufet_close.argtypes = [talk]
         library.gezhufet_close.restype = None
         return library
@@ -56,10 +62,18 @@ def version() -> str:
 class Talk:
     """A talk of the C library. One call at a time may use it, which its caller sees to."""
 
-    def __init__(self, schema: bytes, doc: bytes) -> None:
-        """Opens a talk. `opening` is its answer, None where there was no memory for the talk itself."""
+    def __init__(self, schema: bytes, doc: bytes, client: Optional[bytes] = None) -> None:
+        """Opens a client's talk where its third line is given, else an authority's. `opening` is its answer, None where there was no
+        memory for the talk itself."""
+        self._buffer = ctypes.create_string_buffer(ROOM)
+        self._address = ctypes.addressof(self._buffer)
+        self._bytes = memoryview(self._buffer)
         pointer = ctypes.c_void_p()
-        size = _library.gezhufet_open_authority(schema, len(schema), doc, len(doc), ctypes.byref(pointer))
+        lines = [schema, len(schema), doc, len(doc)]
+        if client is None:
+            size = _library.gezhufet_open_authority(*lines, ctypes.byref(pointer))
+        else:
+            size = _library.gezhufet_open_client(*lines, client, len(client), ctypes.byref(pointer))
         self._pointer: Optional[int] = pointer.value
         self.opening: Optional[bytes] = self._answer(size) if self._pointer else None
 
@@ -72,12 +86,15 @@ class Talk:
         """The answer to a line. A talk that was closed has none."""
         if self._pointer is None:
             raise ValueError("the talk is closed")
-        return self._answer(_library.gezhufet_tell(self._pointer, line, len(line)))
+        # One call copies a short answer too.
+        size: int = _library.gezhufet_ask(self._pointer, line, len(line), self._address, ROOM)
+        return self._bytes[:size].tobytes() if size <= ROOM else self._answer(size)
 
     def _answer(self, size: int) -> bytes:
-        buffer = ctypes.create_string_buffer(max(size, 1))
+        # A long answer gets a buffer of its own, so that its memory is given back.
+        buffer = self._buffer if size <= ROOM else ctypes.create_string_buffer(size)
         count = _library.gezhufet_answer(self._pointer, buffer, size)
-        return buffer.raw[:count]
+        return ctypes.string_at(buffer, count)
 
     def close(self) -> None:
         """Lets the talk go. It may be called again."""

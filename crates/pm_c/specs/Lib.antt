@@ -1,2 +1,3 @@
+pub mod Eithers
 pub mod Held
 pub mod Conversations

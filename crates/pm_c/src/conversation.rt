@@ -1,29 +1,29 @@
 //! A talk, with the answer that it gave last.
 ghost use Rattle.std.specs.Prelude.{◌≡◌, []};
-ghost use Rattle.pm_talk.specs.declared.talk.Talk.TheVariants.{AwaitsSchema};
-ghost use Rattle.pm_talk.specs.Talk.{IsGood};
 ghost use Rattle.pm_c.specs.Conversations.{answer_of, Told};
+ghost use Rattle.pm_c.specs.Eithers.{IsGood};
 
+use crate::either::EitherTalk;
 use pm_serve::Reply;
-use pm_talk::{Talk, no_memory};
+use pm_talk::no_memory;
 use std::alloc::{AllocError, Global};
 
 /// A talk, and the answer that it gave last.
 #[derive(Drop)]
 pub struct Conversation {
-    pub talk: Talk,
+    pub talk: EitherTalk,
     /// None where there was no memory for it.
     pub answer: Option<String>,
 }
 
 impl Conversation {
-    /// A talk of which no line came. Its answer is empty.
-    pub(crate) fn new(alloc: Global) -> Conversation
-        ensures talk { result.talk ≡ AwaitsSchema }
+    /// This talk, of which no line came. Its answer is empty.
+    pub(crate) fn new(alloc: Global, talk: EitherTalk) -> Conversation
+        ensures talk { result.talk ≡ talk }
         ensures answer { answer_of result ≡ [] }
     {
         Conversation {
-            talk: Talk::AwaitsSchema,
+            talk,
             answer: Some(String::new(alloc)),
         }
     }

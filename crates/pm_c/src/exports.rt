@@ -1,13 +1,19 @@
 //! The library's calls. A handle is passed twice: by value as `of`, and by its storage as `to`, which holds it again afterwards.
 ghost use Rattle.std.specs.Prelude.{◌≡◌, ◌++◌, length, min, take, drop, true, false, Some};
-ghost use Rattle.pm_talk.specs.Talk.{is_open, IsGood};
+ghost use Rattle.pm_talk.specs.declared.talk.Talk.TheVariants as authority;
+ghost use Rattle.pm_editor.specs.declared.talk.ClientTalk.TheVariants as client;
 ghost use Rattle.pm_c.specs.declared.conversation.Conversation.{Conversation};
+ghost use Rattle.pm_c.specs.declared.either.EitherTalk.TheVariants.{Authority, Client};
+ghost use Rattle.pm_c.specs.Eithers.{is_open, IsGood};
 ghost use Rattle.pm_c.specs.Conversations.{answer_of, IsNew, Holds, Told};
 ghost use Rattle.pm_c.specs.declared.exports.TheConstants.{VERSION};
 
 use crate::conversation::Conversation;
+use crate::either::EitherTalk;
 use crate::handle::Handle;
 use crate::loose::Loose;
+use pm_editor::ClientTalk;
+use pm_talk::Talk;
 use std::alloc::Global;
 
 /// The version of these calls and of their lines: 10,000 times the major number, 100 times the minor one, and the patch.
@@ -21,15 +27,35 @@ pub extern "C" fn pm_c_version() -> u32
     VERSION
 }
 
-/// Opens a talk of which no line came, and has `to` hold it; what `to` held before is not looked at. False where there is no
-/// memory, and then `to` is as it was.
+/// Opens an authority's talk, of which no line came, and has `to` hold it; what `to` held before is not looked at. False where there
+/// is no memory, and then `to` is as it was.
 #[unsafe(no_mangle)]
-pub extern "C" fn pm_c_open(alloc: Global, to: &mut Handle) -> bool
-    ensures opened { result ≡ true → Holds to.new.value IsNew }
+pub extern "C" fn pm_c_open_authority(alloc: Global, to: &mut Handle) -> bool
+    ensures opened { result ≡ true → Holds to.new.value (IsNew (Authority authority.AwaitsSchema)) }
     ensures good { result ≡ true → Holds to.new.value (λ c. IsGood c.talk) }
     ensures none { result ≡ false → to.new.value ≡ to.old.value }
 {
-    match Box::new(alloc, Conversation::new(alloc)) {
+    open(alloc, EitherTalk::Authority(Talk::AwaitsSchema), to)
+}
+
+/// Opens a client's talk, as `pm_c_open_authority` opens an authority's.
+#[unsafe(no_mangle)]
+pub extern "C" fn pm_c_open_client(alloc: Global, to: &mut Handle) -> bool
+    ensures opened { result ≡ true → Holds to.new.value (IsNew (Client client.AwaitsSchema)) }
+    ensures good { result ≡ true → Holds to.new.value (λ c. IsGood c.talk) }
+    ensures none { result ≡ false → to.new.value ≡ to.old.value }
+{
+    open(alloc, EitherTalk::Client(ClientTalk::AwaitsSchema), to)
+}
+
+/// Has `to` hold this talk.
+fn open(alloc: Global, talk: EitherTalk, to: &mut Handle) -> bool
+    requires { IsGood talk }
+    ensures opened { result ≡ true → Holds to.new.value (IsNew talk) }
+    ensures good { result ≡ true → Holds to.new.value (λ c. IsGood c.talk) }
+    ensures none { result ≡ false → to.new.value ≡ to.old.value }
+{
+    match Box::new(alloc, Conversation::new(alloc, talk)) {
         Ok(new) => {
             *to = Handle::of(Loose::of(new));
             true
@@ -82,7 +108,7 @@ fn copy_front(bytes: &[u8], into: &mut [u8]) -> usize
     count
 }
 
-/// Whether the talk has its schema and its document, so that each line asks its authority.
+/// Whether the lines that open the talk came, so that each line asks it something.
 #[unsafe(no_mangle)]
 pub extern "C" fn pm_c_is_open(of: Handle, to: &mut Handle) -> bool
     ghost kept: { Conversation }
@@ -96,7 +122,7 @@ pub extern "C" fn pm_c_is_open(of: Handle, to: &mut Handle) -> bool
     open
 }
 
-/// Lets the talk go, and its memory. The handle's storage must not be passed again.
+/// Drops the talk, and its memory. The handle's storage must not be passed again.
 #[unsafe(no_mangle)]
 pub extern "C" fn pm_c_close(of: Handle)
     ghost kept: { Conversation }

@@ -1,13 +1,8 @@
-//! Tests of nodes, marks, slices and steps as JSON: pm_docjson, pm_slicejson and pm_stepjson.
+//! Tests of nodes, marks, slices and steps as JSON values: pm_docjson, pm_slicejson and pm_stepjson.
 //!
-//! Each is a row of a table: a text that is read, and the text that is written of what was read, or the first fault.
+//! A program reads lines and writes texts, and its sessions show what they are. Here the same is a value of serde_json, by
+//! the calls that no program makes.
 #![tactic(auto)]
 
-#[cfg(test)]
-mod again;
-#[cfg(test)]
-mod rows;
-#[cfg(test)]
-mod trees;
 #[cfg(test)]
 mod written;

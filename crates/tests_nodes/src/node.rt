@@ -1,4 +1,4 @@
-//! Texts that are joined, and documents that no JSON is read as.
+//! Documents that no JSON is read as.
 use pm_attrs::Attrs;
 use pm_auto::TypeId;
 use pm_head::schema_line;
@@ -76,23 +76,5 @@ fn a_half_of_a_pair_is_named_by_its_place(rt: HostRuntime) -> Result<(), Fail> {
             "row {number}"
         );
     }
-    Ok(())
-}
-
-/// How many children a paragraph of these texts has, and how many units the first.
-fn joined(alloc: Global, units: &[u16]) -> Result<(usize, usize), Fail> {
-    let paragraph = block(alloc, PARAGRAPH, texts(alloc, units)?)?;
-    let Body::Children(content) = &paragraph.body else {
-        return Err(Fail::new("no content"));
-    };
-    if content.len() == 0 {
-        return Ok((0, 0));
-    }
-    Ok((content.len(), content.child(0).size()))
-}
-
-#[test]
-fn neighbouring_texts_are_joined(rt: HostRuntime) -> Result<(), Fail> {
-    assert!(rt; joined(rt.alloc(), &[97, 98, 99])? == (1, 3));
     Ok(())
 }

@@ -2,9 +2,10 @@
 use crate::ends::words;
 use pm_call::{Status, run};
 use pm_io::{Gate, MemSink, SureSource};
+use std::sync::Wait;
 use std::sync::atomic::{AtomicBool, AtomicU32, Ordering};
 use std::test::Fail;
-use std::thread;
+use std::thread::{self, Threads};
 
 // Two clients, each with two exchanges.
 const TWO: &str =
@@ -88,20 +89,30 @@ impl Gate for HoldsBack {
     }
 }
 
+// Whether the word does with the file what it should, and the output begins so.
+fn begins<T: AllocGlobal + Threads + Wait + Sync>(
+    rt: &T,
+    word: &str,
+    file: &str,
+    gate: &HoldsBack,
+    front: &str,
+) -> Result<bool, Fail> {
+    let alloc = rt.alloc();
+    let words = words(rt, word)?;
+    let mut source = SureSource::new(Vec::from_slice(alloc, file.as_bytes())?);
+    let mut sink = MemSink::new(alloc, 1000, Vec::new(alloc))?;
+    let status = run(alloc, rt, &words, &mut source, &mut sink, gate);
+    Ok(status == Status::Done && sink.written().starts_with(front.as_bytes()))
+}
+
 // Whichever client is held back, the other has a thread of its own: its line is the first of the order. So it is with two people
 // in rooms: their numbers are those of their first appearance, and their calls are counted over all rooms. The gate was asked for
 // all four calls, and held none of them to its limit.
 #[test]
 fn clients_have_threads_of_their_own(rt: HostRuntime) -> Result<(), Fail> {
-    let alloc = rt.alloc();
     for (word, file, held, other, front) in HELD {
-        let words = words(&rt, word)?;
         let gate = HoldsBack::new(held, other);
-        let mut source = SureSource::new(Vec::from_slice(alloc, file.as_bytes())?);
-        let mut sink = MemSink::new(alloc, 1000, Vec::new(alloc))?;
-        let status = run(alloc, &rt, &words, &mut source, &mut sink, &gate);
-        assert_eq!(rt; status, Status::Done);
-        assert!(rt; sink.written().starts_with(front.as_bytes()));
+        assert!(rt; begins(&rt, word, file, &gate, front)?);
         assert_eq!(rt; gate.asked.load(Ordering::SeqCst), 4);
         assert!(rt; !gate.is_late.load(Ordering::SeqCst));
     }

@@ -1,16 +1,8 @@
-//! Tests of cutting, viewing, replacing, fitting and applying: pm_slice, pm_view, pm_replace, pm_fit, pm_step and pm_apply.
+//! Tests of replacing, fitting and applying: pm_slice, pm_replace, pm_fit, pm_step and pm_apply.
 //!
-//! They call what no session shows, and each other call once, on one small document. What they want was worked out by
-//! hand from the rules.
+//! They make each call that a program of one's own makes without a session, on one small document, and the steps that no
+//! JSON is read as. What they want was worked out by hand from the rules. Sessions show the rest.
 #![tactic(auto)]
 
 #[cfg(test)]
-mod parts;
-#[cfg(test)]
 mod placing;
-#[cfg(test)]
-mod sample;
-#[cfg(test)]
-mod slicing;
-#[cfg(test)]
-mod viewing;

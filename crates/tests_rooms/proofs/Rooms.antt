@@ -1,15 +1,13 @@
 -- The lines of two rooms with an empty paragraph suit them.
 use Rattle.std.proofs.Common.{◌≡◌, ℕ, zero, suc, ◌<◌, List, [], ◌∷◌, length, slice_get, slice_index_or, Some, false, refl, sym, ap, ◌∙◌, subst, arith}
-use Rattle.pm_client.specs.Clients.{new_client}
 use Rattle.pm_flat.specs.declared.flat.Replace.{Replace}
 use Rattle.pm_flat.specs.declared.flat.Reason.{Reason}
-use Rattle.pm_session.specs.declared.member.Member.TheVariants.{Editor}
 use Rattle.pm_session.specs.Events.{State}
 use Rattle.pm_session.specs.Suits.{LinesSuit}
 use Rattle.pm_session.proofs.Openings.{opened-suits}
 use Rattle.pm_rooms.specs.declared.hall.Hall.{Hall}
 use Rattle.pm_rooms.specs.declared.line.RoomLine.{RoomLine}
-use Rattle.pm_rooms.specs.Halls.{hall_of, SuitsHall, LinesSuitHall}
+use Rattle.pm_rooms.specs.Halls.{hall_of, LinesSuitHall}
 use Rattle.pm_rooms.specs.Lines.{lines_in}
 use Rattle.pm_rooms.proofs.HallRooms.{some-same}
 use Rattle.tests_rooms.specs.TwoRooms.{empty_room, AreTwoRooms, the_lines}
@@ -42,11 +40,3 @@ lines-suit hall two = record {
   there = λ i d lt. room-there (length (hall_of hall).rooms) (ap length two.rooms) i d lt;
   suit = λ r s at. own-suit r s (ap (λ l. slice_get l r) (sym two.rooms) ∙ at);
 }
-
--- the second line suits its room
-pub second-suits : (hall : TheHall) → AreTwoRooms hall → (line : RoomLine (List ℕ) Replace) → slice_get the_lines 1 ≡ Some line → SuitsHall (hall_of hall) line
-second-suits hall two line at = subst (SuitsHall (hall_of hall)) (some-same _ line at) (record {
-  room = empty_room;
-  at = ap (λ l. slice_get l 1) two.rooms;
-  suits = record { member = Editor (new_client 0 []); at = refl; suits = (refl, tt) };
-})

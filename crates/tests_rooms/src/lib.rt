@@ -7,8 +7,6 @@
 mod hall;
 #[cfg(test)]
 mod lines;
-#[cfg(test)]
-mod people;
 mod typist;
 
 pub use typist::Typist;

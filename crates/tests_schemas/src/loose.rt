@@ -1,7 +1,6 @@
-//! Schemas as JSON, and whether they are told to be loose.
+//! Schemas, and whether they are told to be loose.
+use pm_head::schema_line;
 use pm_loose::is_loose;
-use pm_schemajson::read_schema;
-use serde_json::Value;
 use std::alloc::{AllocError, Global};
 use std::test::Fail;
 
@@ -33,8 +32,7 @@ fn with(alloc: Global, content: &str) -> Result<String, AllocError> {
 
 /// Whether the schema that the text writes is told to be loose.
 fn told(alloc: Global, text: &str) -> Result<bool, Fail> {
-    let json = Value::from_str(alloc, text)?;
-    let schema = read_schema(alloc, &json)?;
+    let schema = schema_line(alloc, text.as_bytes())?;
     Ok(is_loose(&schema))
 }
 

@@ -1,69 +1,51 @@
-//! Each call once, with ample memory.
+//! Units with halves of pairs, which no line has.
 use pm_text::TextError;
 use pm_units::Units;
 use std::alloc::{AllocError, Global};
 use std::test::Fail;
 
-#[test]
-fn texts_are_cut_and_joined(rt: HostRuntime) -> Result<(), Fail> {
-    let alloc = rt.alloc();
-    let mut units = Units::of_text(alloc, "ab\u{1F600}")?;
-    assert!(rt; units.len() == 4);
-    assert!(rt; !units.is_empty());
-    assert!(rt; Units::new(alloc).is_empty());
-    assert!(rt; units.unit(2) == Some(0xD83D));
-    assert!(rt; units.unit(4) == None);
-    let front = units.cut(alloc, 0, 2)?;
-    assert!(rt; front.text(alloc)?.as_str() == "ab");
-    let back = units.cut(alloc, 2, 4)?;
-    let joined = front.join(alloc, &back)?;
-    assert!(rt; joined.same(&units));
-    assert!(rt; !joined.same(&front));
-    let copied = units.copy(alloc)?;
-    units.append(alloc, &front)?;
-    assert!(rt; units.lossy_text(alloc)?.as_str() == "ab\u{1F600}ab");
-    assert!(rt; copied.len() == 4);
-    Ok(())
+/// Units, a part of them from a place to another, and its text, with U+FFFD for each half of a pair.
+const PARTS: [(&[u16], usize, usize, &str); 5] = [
+    (&[0x0061, 0xD83D, 0xDE00], 1, 9, "\u{1F600}"),
+    (&[0x0061, 0xD83D, 0xDE00], 0, 2, "a\u{FFFD}"),
+    (&[0x0061, 0xD83D, 0xDE00], 2, 1, ""),
+    (&[0x0061, 0xD83D, 0xDE00], 2, 3, "\u{FFFD}"),
+    (&[0xDE00, 0xD83D], 0, 2, "\u{FFFD}\u{FFFD}"),
+];
+
+fn part(alloc: Global, units: &[u16], from: usize, to: usize) -> Result<String, AllocError> {
+    let units = Units::of_units(alloc, units)?;
+    units.part_text(alloc, from, to)
 }
 
 #[test]
 fn a_part_that_parts_a_pair_is_lossy(rt: HostRuntime) -> Result<(), Fail> {
-    let alloc = rt.alloc();
-    let units = Units::of_units(alloc, &[0x0061, 0xD83D, 0xDE00])?;
-    assert!(rt; units.first_lone() == None);
-    assert!(rt; units.part_text(alloc, 1, 9)?.as_str() == "\u{1F600}");
-    assert!(rt; units.part_text(alloc, 0, 2)?.as_str() == "a\u{FFFD}");
-    assert!(rt; units.part_text(alloc, 2, 1)?.as_str() == "");
-    let half = units.cut(alloc, 1, 2)?;
-    assert!(rt; half.first_lone() == Some(0));
-    assert!(rt; half.text(alloc).err() == Some(TextError::Lone { at: 0 }));
+    for (units, from, to, want) in &PARTS {
+        assert!(rt;
+            part(rt.alloc(), units, *from, *to)?.as_str() == *want,
+            "{from} {to}"
+        );
+    }
     Ok(())
 }
 
-/// The units 0, 1, 2 .. 5,999, each as a unit.
-fn numbered(alloc: Global) -> Result<Vec<u16>, AllocError> {
-    (0..6_000_u16).collect(alloc)
+/// Units, the place of the first half of a pair, and why they give no text.
+const LONE: [(&[u16], Option<usize>, Option<TextError>); 3] = [
+    (&[0x0061, 0xD83D, 0xDE00], None, None),
+    (&[0xD83D], Some(0), Some(TextError::Lone { at: 0 })),
+    (&[0x0061, 0xDE00], Some(1), Some(TextError::Lone { at: 1 })),
+];
+
+/// The place of the first half of a pair, and why the units give no text.
+fn lone(alloc: Global, units: &[u16]) -> Result<(Option<usize>, Option<TextError>), AllocError> {
+    let units = Units::of_units(alloc, units)?;
+    Ok((units.first_lone(), units.text(alloc).err()))
 }
 
 #[test]
-fn a_long_text_is_cut_and_joined(rt: HostRuntime) -> Result<(), Fail> {
-    let alloc = rt.alloc();
-    let list = numbered(alloc)?;
-    let units = Units::of_units(alloc, &list)?;
-    assert!(rt; units.len() == 6_000);
-    assert!(rt; units.unit(5_999) == Some(5_999));
-    assert!(rt; units.unit(1_024) == Some(1_024));
-    let front = units.cut(alloc, 0, 3_000)?;
-    let middle = units.cut(alloc, 3_000, 3_001)?;
-    let back = units.cut(alloc, 3_001, 6_000)?;
-    assert!(rt; middle.len() == 1);
-    assert!(rt; back.unit(0) == Some(3_001));
-    let mut joined = front.join(alloc, &middle)?;
-    joined.append(alloc, &back)?;
-    assert!(rt; joined.same(&units));
-    let inner = units.cut(alloc, 500, 5_500)?;
-    assert!(rt; inner.len() == 5_000);
-    assert!(rt; inner.unit(4_999) == Some(5_499));
-    assert!(rt; inner.first_lone() == None);
+fn a_half_of_a_pair_gives_no_text(rt: HostRuntime) -> Result<(), Fail> {
+    for (units, place, fault) in &LONE {
+        assert!(rt; lone(rt.alloc(), units)? == (*place, *fault));
+    }
     Ok(())
 }

@@ -1,0 +1,4 @@
+mod Opens
+mod Runs
+pub mod Stands
+mod Unchanged

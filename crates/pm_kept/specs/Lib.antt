@@ -1,0 +1,6 @@
+pub mod Accepted
+pub mod Behind
+pub mod Kept
+pub mod Opens
+pub mod Runs
+pub mod Sizes

@@ -1,0 +1,17 @@
+pub mod Memory
+pub mod Spliced
+pub mod KnownInverses
+pub mod KnownOps
+pub mod NothingUnknown
+pub mod Languages
+pub mod ListedRooms
+pub mod SameKins
+pub mod OneSelection
+pub mod Sortings
+pub mod OneRun
+pub mod LineNumbers
+pub mod OneRunOfRooms
+pub mod Pinches
+pub mod ReadKnown
+pub mod LinesKnown
+pub mod PlaysKnown

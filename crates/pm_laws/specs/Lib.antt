@@ -1,0 +1,7 @@
+pub mod Memory
+pub mod Splices
+pub mod NoneUnknown
+pub mod Contents
+pub mod Listed
+pub mod Orders
+pub mod Unmet
