@@ -19,6 +19,8 @@ PARTS = ("src", "specs", "proofs")
 EACH = 3_000_000_000
 HELP = """usage: ./pm WORDS < SESSION      builds the program if it is missing or old, and runs it
        ./pm live                 builds the live authority if it is missing or old, and runs it
+       ./pm live new FILE        does so, and keeps what it accepts in FILE, which is missing or empty
+       ./pm live open FILE       does so behind the lines of FILE
        ./pm build [live]         builds the one or the other, and tells how far the build is
        ./pm try WORDS < SESSION  runs the words at once, with nothing proved; so does ./pm try live
        ./pm try build [live]     builds the one or the other with nothing proved, and prints its path
@@ -52,7 +54,9 @@ statuses
   4  a write failed; a front of the output was written
   5  no memory; nothing was written
   Of live: 0 all lines were answered, to the end of input; 1 line 1 or 2 is faulty or missing, which the line written
-  last says; 3 and 4 a read or a write failed, after the answers written; 5 no memory to begin with.
+  last says; 3 and 4 a read or a write failed, after the answers written; 5 no memory to begin with; 6 a call of the
+  disk failed; 7 FILE is missing, there already or may not be taken; 8 another process has it open; 9 it is no file of
+  live, or its lines are not accepted. With 2 to 9 standard error says which.
   70 the program or the library could not be built
   127 the toolchain is missing
 

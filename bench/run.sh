@@ -11,7 +11,7 @@ set -eu
 here=$(cd "$(dirname "$0")" && pwd)
 export NODE_PATH=/usr/share/nodejs
 package=$here/../bindings/js
-parts="check typing clients undos rebases edits long generated threads live embed library talk"
+parts="check typing clients undos rebases edits long generated threads live embed library talk server"
 
 # What each part runs. The sizes are such that all parts take less than twelve minutes.
 part() {
@@ -22,6 +22,7 @@ part() {
   rebases) node "$here/rebases.js" 500 10 1 2000 10 1 2000 10 100 ;;
   generated) node "$here/generated.js" 4 2500 1 ;;
   threads) node "$here/threads.js" 32 500 ;;
+  server) node "$here/server-load.js" 400 40 30 ;;
   *)
     echo "bench: the parts are: $parts" >&2
     exit 2
@@ -52,6 +53,7 @@ need() {
     [ -e "$package/addon/build/gezhufet.node" ] || { "$here/../pm" lib && "$package/addon/build.sh"; }
     ;;
   talk) [ -e "$here/../out/gezhufet.wasm" ] || "$here/../pm" wasm ;;
+  server) [ -e "$package/gezhufet.wasm" ] || "$here/../pm" wasm ;;
   *) [ -n "${PROGRAM-}" ] || "$here/../pm" build ;;
   esac
 }

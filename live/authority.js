@@ -2,6 +2,7 @@
 
 "use strict"
 
+const fs = require("fs")
 const path = require("path")
 const {spawn} = require("child_process")
 
@@ -46,13 +47,17 @@ class Authority {
     for (const {reject} of this.waiting.splice(0)) reject(this.fault)
   }
 
+  /// The next line that it writes.
+  nextLine() {
+    if (this.fault) return Promise.reject(this.fault)
+    return new Promise((resolve, reject) => this.waiting.push({resolve, reject}))
+  }
+
   /// The answer to a line, which is a text without its LF.
   askLine(line) {
-    if (this.fault) return Promise.reject(this.fault)
-    return new Promise((resolve, reject) => {
-      this.waiting.push({resolve, reject})
-      this.process.stdin.write(line + "\n")
-    })
+    const answer = this.nextLine()
+    if (!this.fault) this.process.stdin.write(line + "\n")
+    return answer
   }
 
   /// The answer to a message, both as JSON values.
@@ -109,4 +114,22 @@ async function startAuthority(schema, doc = null, words = command()) {
   return authority
 }
 
-module.exports = {Authority, startAuthority, command}
+// The first line of a file of the authority, without the space before it; none where the file is missing or empty.
+function firstLine(file) {
+  if (!fs.existsSync(file)) return null
+  const text = fs.readFileSync(file, "utf8")
+  return text ? text.slice(1, text.indexOf("\n")) : null
+}
+
+/// Starts a process whose accepted lines are kept in this file: behind the lines of the file, or where it is missing or empty on this
+/// schema and first document. Gives the authority and its version. An error where the file has another schema.
+async function startKept(schema, doc, file, words = command()) {
+  const first = firstLine(file)
+  if (first === null) return {authority: await startAuthority(schema, doc, [words, "new", file].flat()), version: 0}
+  const {schemaLine} = await import("../bindings/js/src/lines.js")
+  if (first != schemaLine(schema)) throw new Error(`${file} has another schema`)
+  const authority = new Authority([words, "open", file].flat())
+  return {authority, version: JSON.parse(await authority.nextLine()).version}
+}
+
+module.exports = {Authority, startAuthority, startKept, command}

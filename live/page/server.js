@@ -1,5 +1,6 @@
 // The page's server: it starts the live authority, serves the page, hands each message on, and tells all pages the log as it grows.
-// usage: node live/page/server.js [PORT]      8080 unless told, 0 for a free one; on this machine's own address alone
+// usage: node live/page/server.js [PORT [FILE]]      8080 unless told, 0 for a free one; on this machine's own address alone
+// With a FILE the document is kept there, and found again at the next start.
 //
 //   GET /                the page
 //   POST /ask            a message as JSON; its answer is the authority's
@@ -10,7 +11,7 @@
 const fs = require("fs")
 const http = require("http")
 const path = require("path")
-const {startAuthority} = require("../authority")
+const {startAuthority, startKept} = require("../authority")
 const {bundle} = require("./bundle")
 const {schema, first} = require("./schema")
 
@@ -67,9 +68,9 @@ class Listener {
 }
 
 class Server {
-  constructor(authority) {
+  constructor(authority, length) {
     this.authority = authority
-    this.length = 0
+    this.length = length
     this.listeners = new Set()
     this.files = {
       "/": ["text/html", fs.readFileSync(path.join(__dirname, "index.html"))],
@@ -128,9 +129,10 @@ class Server {
   }
 }
 
-/// Starts the authority and the server. Gives the server and its address.
-async function startServer(port) {
-  const server = new Server(await startAuthority(schema, first))
+/// Starts the authority and the server, with a file or without. Gives the server and its address.
+async function startServer(port, file) {
+  const {authority, version} = file ? await startKept(schema, first, file) : {authority: await startAuthority(schema, first), version: 0}
+  const server = new Server(authority, version)
   await new Promise((resolve, reject) => server.http.on("error", reject).listen(port, "127.0.0.1", resolve))
   return {server, address: `http://127.0.0.1:${server.http.address().port}/`}
 }
@@ -138,7 +140,9 @@ async function startServer(port) {
 module.exports = {startServer}
 
 if (require.main === module) {
-  startServer(Number(process.argv[2] || 8080)).then(({server, address}) => {
+  const [port, file] = process.argv.slice(2)
+  startServer(Number(port || 8080), file).then(({server, address}) => {
+    if (file) console.log(`The document is kept in ${file}`)
     console.log(`The page is at ${address} (Ctrl-C ends it)`)
     server.authority.ended.then(status => {
       console.error(`live: the authority ended with status ${status}`)

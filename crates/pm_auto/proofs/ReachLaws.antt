@@ -1,26 +1,26 @@
 -- The nodes of a graph from which a goal can be reached.
-use Rattle.std.proofs.Common.{◌≡◌, ◌⊎◌, ◌↔◌, ℕ, zero, suc, ◌<◌, List, [], ◌∷◌, length, Bool, true, false, ◌||◌, ◌&&◌, cond, refl, ap, ◌∙◌, sym, subst, inl, inr, get_or, arith}
+use Rattle.std.proofs.Common.{◌≡◌, ◌⊎◌, ⊎_elim, ◌↔◌, ℕ, zero, suc, ◌<◌, ◌≤◌, List, [], ◌∷◌, length, Bool, true, false, ◌||◌, ◌&&◌, cond, refl, ap, ◌∙◌, sym, subst, inl, inr, get_or, set, arith}
 use Rattle.std.specs.Prelude.{Option, Some, None, IfSome, Result, Ok, Err, IfOk, eqb, ◌+◌}
 use Rattle.std.specs.declared.alloc.AllocError.{AllocError}
-use Rattle.std.proofs.lemmas.List.{length-map}
+use Rattle.std.proofs.lemmas.List.{length-map, get_or-set_other}
 use Rattle.pm_auto.specs.declared.auto.Edge.{Edge}
 use Rattle.pm_auto.specs.declared.auto.Auto.{Auto}
 use Rattle.pm_auto.specs.declared.sets.PlaceSet.{PlaceSet}
 use Rattle.pm_auto.specs.Graph.{Is_graph, leads, Reaches}
 use Rattle.pm_auto.specs.Walks.{target, edges_at, ends_at, accepted, via}
-use Rattle.pm_auto.specs.Near.{near, one_to, first_to, wider}
+use Rattle.pm_auto.specs.Near.{near, one_to, first_to, wider, Keeps, All_reach}
 use Rattle.pm_auto.specs.Fills.{kept, makeable, fits_from, filled}
 use Rattle.pm_auto.specs.Finish.{all_can, Finishes}
-use Rattle.std.proofs.lemmas.Bool.{eqb-true}
+use Rattle.std.proofs.lemmas.Bool.{eqb-true, cases_lt}
 use Rattle.pm_auto.proofs.GraphLaws.{target-state}
-use Rattle.pm_auto.proofs.SearchLaws.{graph-at, target-inside, wider-at, first-parted, first-marked, none-leads}
+use Rattle.pm_auto.proofs.SearchLaws.{graph-at, target-inside, wider-at, first-parted, first-marked, none-leads, falses}
 
 or-cases : (a b : Bool) → a || b ≡ true → (a ≡ true) ⊎ (b ≡ true)
 or-cases true b h = inl refl
 or-cases false b h = inr h
 
 module _ (links : List (List Edge)) (goals : List Bool) (g : Is_graph (length links) links) where
-  near-step : (m : List Bool) (s : ℕ) → s < length links → ((t : ℕ) → t < length links → get_or m t false ≡ true → Reaches links goals t)
+  pub near-step : (m : List Bool) (s : ℕ) → s < length links → ((t : ℕ) → t < length links → get_or m t false ≡ true → Reaches links goals t)
       → (get_or m s false ≡ true) ⊎ (one_to m (edges_at links s) ≡ true) → Reaches links goals s
   near-step m s l go (inl e) = go s l e
   near-step m s l go (inr e) =
@@ -46,6 +46,70 @@ module _ (links : List (List Edge)) (goals : List Bool) (g : Is_graph (length li
       at r false e = absurd (
           let f : leads links goals s r.0 ≡ false = none-leads links goals g n s l (ap (λ (m : List Bool). wider m links m) (sym is) ∙ still ∙ is) (ap (λ (m : List Bool). get_or m s false) (sym is) ∙ e) r.0 in
           let z : true ≡ false = sym r.1 ∙ f in cc)
+
+-- a list that leads to a goal leads to what is marked, where the goals are
+leads-more : (links : List (List Edge)) (goals m : List Bool) → Keeps goals m → (s : ℕ) (w : List ℕ) → leads links goals s w ≡ true → leads links m s w ≡ true
+leads-more links goals m h s [] e = h s e
+leads-more links goals m h s (k ∷ w) e = on (target k (edges_at links s)) (λ t. leads-more links goals m h t w) e
+  where
+    on : (o : Option ℕ) → ((t : ℕ) → leads links goals t w ≡ true → leads links m t w ≡ true) → via (λ t. leads links goals t w) o ≡ true → via (λ t. leads links m t w) o ≡ true
+    on None f e = e
+    on (Some t) f e = f t e
+
+-- where a round finds nothing more, what is marked are the nodes that lead to a goal
+pub closed-reaches : (links : List (List Edge)) (goals : List Bool) → Is_graph (length links) links → (m next : List Bool) → next ≡ wider m links m → next ≡ m → Keeps goals m → All_reach links goals m
+    → (s : ℕ) → s < length links → (get_or next s false ≡ true) ↔ Reaches links goals s
+closed-reaches links goals g m next e q keeps reach s l = (
+  (λ h. reach s l (sym (ap (λ (x : List Bool). get_or x s false) q) ∙ h)),
+  (λ r. ap (λ (x : List Bool). get_or x s false) q ∙ (still-reaches links m g 0 m refl (sym e ∙ q) s l).1 (r.0, leads-more links goals m keeps s r.0 r.1)),
+)
+
+-- one node more is marked
+pub set-keeps : (m : List Bool) (k : ℕ) → Keeps m (set m k true)
+set-keeps [] k s e = e
+set-keeps (b ∷ m) zero zero e = refl
+set-keeps (b ∷ m) zero (suc s) e = e
+set-keeps (b ∷ m) (suc k) zero e = e
+set-keeps (b ∷ m) (suc k) (suc s) e = set-keeps m k s e
+
+pub set-reaches : (links : List (List Edge)) (goals : List Bool) → Is_graph (length links) links → (m : List Bool) (k : ℕ) → one_to m (edges_at links k) ≡ true → All_reach links goals m
+    → All_reach links goals (set m k true)
+set-reaches links goals g m k hit h s l e =
+    ⊎_elim (λ (same : s ≡ k). near-step links goals g m s l h (inr (ap (λ (j : ℕ). one_to m (edges_at links j)) same ∙ hit)))
+    (λ (other : s ≡ k → ⊥). h s l (sym (get_or-set_other m k s true false other) ∙ e))
+    (same-or s k)
+  where
+    same-or : (a b : ℕ) → (a ≡ b) ⊎ (a ≡ b → ⊥)
+    same-or a b = ⊎_elim (λ (x : a < b). inr (λ (q : a ≡ b). omega (arith, x, q)))
+        (λ (x : b ≤ a). ⊎_elim (λ (y : b < a). inr (λ (q : a ≡ b). omega (arith, y, q))) (λ (y : a ≤ b). inl (omega (arith, x, y))) (cases_lt b a)) (cases_lt a b)
+
+-- a round keeps what is marked
+wider-all : (m : List Bool) (ess : List (List Edge)) (bs : List Bool) → length bs ≡ length ess → Keeps bs (wider m ess bs)
+wider-all m [] [] h s e = e
+wider-all m [] (b ∷ bs) h s e = absurd (omega (arith, h))
+wider-all m (es ∷ ess) [] h s e = absurd (omega (arith, h))
+wider-all m (es ∷ ess) (b ∷ bs) h zero e = ap (λ (t : Bool). t || one_to m es) e
+wider-all m (es ∷ ess) (b ∷ bs) h (suc s) e = wider-all m ess bs (omega (arith, h)) s e
+
+pub wider-keeps : (m : List Bool) (links : List (List Edge)) → length m ≡ length links → Keeps m (wider m links m)
+wider-keeps m links h = wider-all m links m h
+
+pub wider-reaches : (links : List (List Edge)) (goals : List Bool) → Is_graph (length links) links → (m : List Bool) → All_reach links goals m → All_reach links goals (wider m links m)
+wider-reaches links goals g m h s l e =
+    near-step links goals g m s l h (or-cases (get_or m s false) (one_to m (edges_at links s)) (sym (wider-at m links m s l) ∙ e))
+
+-- as many as were marked are marked still
+pub keeps-fewer : (old new : List Bool) → length new ≡ length old → Keeps old new → falses new ≤ falses old
+keeps-fewer [] [] n h = omega arith
+keeps-fewer [] (c ∷ new) n h = absurd (omega (arith, n))
+keeps-fewer (b ∷ old) [] n h = absurd (omega (arith, n))
+keeps-fewer (b ∷ old) (c ∷ new) n h = each b c (h zero) (keeps-fewer old new (omega (arith, n)) (λ s e. h (suc s) e))
+  where
+    each : (b c : Bool) → (b ≡ true → c ≡ true) → falses new ≤ falses old → falses (c ∷ new) ≤ falses (b ∷ old)
+    each true true f l = l
+    each true false f l = absurd (let z : false ≡ true = f refl in cc)
+    each false true f l = omega (arith, l)
+    each false false f l = omega (arith, l)
 
 -- the edges of types that can be made
 pub none-either : (b : Bool) (n : Option ℕ) → n ≡ cond b n n

@@ -24,7 +24,7 @@ graph-at n (es ∷ ess) zero g = g.0
 graph-at n (es ∷ ess) (suc s) g = graph-at n ess s g.1
 
 -- one round more
-length-wider : (m : List Bool) (links : List (List Edge)) (bs : List Bool) → length (wider m links bs) ≡ length links
+pub length-wider : (m : List Bool) (links : List (List Edge)) (bs : List Bool) → length (wider m links bs) ≡ length links
 length-wider m [] bs = refl
 length-wider m (es ∷ ess) [] = ap suc (length-wider m ess [])
 length-wider m (es ∷ ess) (b ∷ bs) = ap suc (length-wider m ess bs)

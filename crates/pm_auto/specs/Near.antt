@@ -1,7 +1,16 @@
 -- How near the nodes of a graph are to a goal.
-use Rattle.std.specs.Prelude.{ℕ, zero, suc, List, [], ◌∷◌, Bool, false, ◌||◌, cond, slice_index_or}
+use Rattle.std.specs.Prelude.{◌≡◌, ℕ, zero, suc, ◌<◌, List, [], ◌∷◌, length, Bool, true, false, ◌||◌, cond, slice_index_or}
 use Rattle.pm_auto.specs.declared.auto.Edge.{Edge}
+use Rattle.pm_auto.specs.Graph.{Reaches}
 use Rattle.pm_auto.specs.Walks.{edges_at}
+
+-- what was marked is marked still
+abbrev pub Keeps : List Bool → List Bool → Type 0
+Keeps old new = (s : ℕ) → slice_index_or old s false ≡ true → slice_index_or new s false ≡ true
+
+-- from each marked node some list leads to a goal
+abbrev pub All_reach : List (List Edge) → List Bool → List Bool → Type 0
+All_reach links goals marks = (s : ℕ) → s < length links → slice_index_or marks s false ≡ true → Reaches links goals s
 
 -- one of the links leads to a marked node
 abbrev pub one_to : List Bool → List Edge → Bool

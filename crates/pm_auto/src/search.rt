@@ -1,7 +1,7 @@
 //! The shortest list of types along links.
-ghost use Rattle.std.specs.Prelude.{◌≡◌, ◌<◌, ◌↔◌, ℕ, true, false, length, IfOk, slice_index_or};
+ghost use Rattle.std.specs.Prelude.{◌≡◌, ◌<◌, ◌↔◌, ℕ, Bool, List, true, false, length, IfOk, slice_index_or};
 ghost use Rattle.pm_auto.specs.Graph.{Is_graph, Is_shortest, Reaches};
-ghost use Rattle.pm_auto.specs.Near.{one_to as one_to_is, wider, first_to as first_to_is, trail};
+ghost use Rattle.pm_auto.specs.Near.{one_to as one_to_is, wider, first_to as first_to_is, trail, Keeps, All_reach};
 
 use crate::auto::Edge;
 use crate::edges::links_of;
@@ -75,7 +75,55 @@ fn widen(alloc: Global, links: &[Listed<Edge>], marks: &[bool]) -> Result<Listed
     Ok(list)
 }
 
-/// The nodes from which some list of types leads to a goal.
+/// Marks the node where one of its links leads to a marked one.
+fn mark(links: &[Listed<Edge>], marks: &mut Vec<bool>, node: usize)
+    requires node { node < length links.now }
+    requires marks { length marks.old.items ≡ length links.now }
+    ensures size { length marks.new.items ≡ length marks.old.items }
+    ensures keeps { Keeps marks.old.items marks.new.items }
+    ensures reach { (goals : List Bool) → Is_graph (length links.now) links.now → All_reach links.now goals marks.old.items → All_reach links.now goals marks.new.items }
+{
+    if !one_to(marks.as_slice(), links_of(links, node)) {
+        return;
+    }
+    marks[node] = true;
+}
+
+/// The number that stands at this place, counted from the last one where that is asked.
+fn turned(i: usize, count: usize, back: bool) -> usize
+    requires { i < count }
+    ensures { result < count }
+{
+    if back { count - 1 - i } else { i }
+}
+
+/// Marks each node with a link to a marked one, those marked by this call among them, from the last node to the first or the
+/// other way.
+fn sweep(links: &[Listed<Edge>], marks: &mut Vec<bool>, back: bool)
+    requires marks { length marks.old.items ≡ length links.now }
+    ensures size { length marks.new.items ≡ length marks.old.items }
+    ensures keeps { Keeps marks.old.items marks.new.items }
+    ensures reach { (goals : List Bool) → Is_graph (length links.now) links.now → All_reach links.now goals marks.old.items → All_reach links.now goals marks.new.items }
+{
+    let count = links.len();
+    for i in 0..count {
+        mark(links, marks, turned(i, count, back));
+    }
+}
+
+/// Goes through the nodes once back and once forth.
+fn back_and_forth(links: &[Listed<Edge>], marks: &mut Vec<bool>)
+    requires marks { length marks.old.items ≡ length links.now }
+    ensures size { length marks.new.items ≡ length marks.old.items }
+    ensures keeps { Keeps marks.old.items marks.new.items }
+    ensures reach { (goals : List Bool) → Is_graph (length links.now) links.now → All_reach links.now goals marks.old.items → All_reach links.now goals marks.new.items }
+{
+    sweep(links, marks, true);
+    sweep(links, marks, false);
+}
+
+/// The nodes from which some list of types leads to a goal. Each round goes through them back and forth, so that a row of nodes
+/// is gone through in one, whatever its direction. The last round finds nothing more.
 pub fn reaching(
     alloc: Global,
     links: &[Listed<Edge>],
@@ -86,13 +134,15 @@ pub fn reaching(
     ensures full { IfOk result (λ l. length l ≡ length links.now) }
     ensures reach { IfOk result (λ l. (s : ℕ) → s < length links.now → (slice_index_or l s false ≡ true) ↔ Reaches links.now goals.now s) }
 {
-    let mut last = copy(alloc, goals)?;
+    let copied = copy(alloc, goals)?;
+    let mut last = copied.into_vec();
     'rounds: loop {
+        back_and_forth(links, &mut last);
         let next = widen(alloc, links, last.as_slice())?;
         if same_marks(next.as_slice(), last.as_slice()) {
-            return Ok(last);
+            return Ok(next);
         }
-        last = next;
+        last = next.into_vec();
     }
 }
 

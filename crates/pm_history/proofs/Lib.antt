@@ -29,4 +29,6 @@ pub mod Settled
 pub mod Whole
 pub mod Carried
 pub mod LatestLaws
+pub mod RisingLaws
+pub mod Lives
 mod EventProofs

@@ -24,3 +24,4 @@ pub mod EventLaws
 pub mod Recorded
 pub mod Trims
 pub mod Live
+pub mod Rising

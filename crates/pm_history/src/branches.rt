@@ -34,7 +34,7 @@ pub enum MadeBy {
 ///
 /// `is_trimmed`: it is known that nothing is left to drop. Then a call that makes no step leave an event looks at its own
 /// steps alone, and else at each item and each live name once. So a history is gone through at most once for each undo, each
-/// redo and each dropped step.
+/// redo, each dropped step, and each rebase of about as many steps as the root of its length or more.
 /// ProseMirror: `HistoryState`.
 #[derive(Drop)]
 pub struct Branches<C> {

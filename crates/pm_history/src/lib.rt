@@ -25,6 +25,7 @@ mod latest;
 pub mod laws;
 mod live;
 mod ranges;
+mod rising;
 mod tied;
 mod trimming;
 mod turn;

@@ -1,32 +1,39 @@
 //! Which steps are live: those whose names stand in an event.
-ghost use Rattle.std.specs.Prelude.{◌≡◌, ◌∷◌, ◌++◌, [], length, Some, IfOk, OnOk};
-ghost use Rattle.pm_history.specs.Live.{IsTableOfNames, client_of};
+ghost use Rattle.std.specs.Prelude.{◌≡◌, ◌==◌, ◌<◌, ◌%◌, ◌∷◌, ◌++◌, ℕ, [], length, nat_eq, slice_set, if◌then◌else◌, Some, IfOk, OnOk};
+ghost use Rattle.std.specs.HashMap.{get};
+ghost use Rattle.pm_history.specs.Live.{IsTableOfNames, client_at, client_of, has_room, there};
 ghost use Rattle.pm_history.specs.Starts.{is_named};
 ghost use Rattle.pm_history.specs.Remembers.{names_of};
 
 use crate::branch::Event;
+use crate::undoers::remainder;
 use crate::undoing::is_named;
 use pm_change::Name;
 use pm_list::Listed;
 use std::alloc::{AllocError, Global};
 use std::collections::HashMap;
 
-/// Names, found by their serials. `clients`: for each serial of a name the client of the first such name.
+/// Names, found by their serials. `near`: for each remainder that a serial can leave the name with the serial that was put first for
+/// it. `far`: for each other serial the client of the first name that has it. A client's serials follow one another, so that with
+/// twice as many remainders as names few share one, and what is near is found without hashing.
 #[derive(Drop)]
 pub struct Live {
-    pub clients: HashMap<u64, u32>,
+    pub near: Vec<Option<Name>>,
+    pub far: HashMap<u64, u32>,
 }
 
 impl Live {
-    /// The table of no name.
-    fn new(alloc: Global, names: &[Name]) -> Live
+    /// The table of no name, with room for so many.
+    fn new(alloc: Global, names: &[Name], room: usize) -> Result<Live, AllocError>
         requires { names.now ≡ [] }
-        ensures { IsTableOfNames result names.now }
+        ensures { IfOk result (λ t. IsTableOfNames t names.now) }
     {
         let _ = names;
-        Live {
-            clients: HashMap::new(alloc),
-        }
+        let count = room.saturating_add(room).max(1);
+        Ok(Live {
+            near: vec![in alloc; None; count]?,
+            far: HashMap::new(alloc),
+        })
     }
 
     /// Puts a name before `behind`, whose table this is.
@@ -35,7 +42,30 @@ impl Live {
         ensures { OnOk result (IsTableOfNames self.new (name.now ∷ behind.now)) }
     {
         let _ = behind;
-        self.clients.insert(name.serial, name.client)?;
+        if has_room(self.there(name.serial), name.serial) {
+            self.put_near(*name);
+            return Ok(());
+        }
+        self.put_far(*name)?;
+        Ok(())
+    }
+
+    /// Puts a name where its serial leads.
+    fn put_near(&mut self, name: Name)
+        requires { 0 < length self.old.near.items }
+        ensures near { self.new.near.items ≡ slice_set self.old.near.items (name.serial % length self.old.near.items) (Some name) }
+        ensures far { self.new.far ≡ self.old.far }
+    {
+        let place = remainder(name.serial, self.near.len());
+        self.near[place] = Some(name);
+    }
+
+    /// Puts a name elsewhere.
+    fn put_far(&mut self, name: Name) -> Result<(), AllocError>
+        ensures near { OnOk result (self.new.near ≡ self.old.near) }
+        ensures far { OnOk result ((s : ℕ) → get nat_eq self.new.far s ≡ (if name.serial == s then Some name.client else get nat_eq self.old.far s)) }
+    {
+        self.far.insert(name.serial, name.client)?;
         Ok(())
     }
 
@@ -43,7 +73,7 @@ impl Live {
     pub fn of(alloc: Global, names: &[Name]) -> Result<Live, AllocError>
         ensures { IfOk result (λ t. IsTableOfNames t names.now) }
     {
-        let mut live = Live::new(alloc, &names[names.len()..]);
+        let mut live = Live::new(alloc, &names[names.len()..], names.len())?;
         let mut i = names.len();
         while i > 0 {
             let behind = &names[i..];
@@ -71,7 +101,41 @@ impl Live {
         ensures { result ≡ client_of serial names.now }
     {
         let _ = names;
-        self.clients.get(&serial).copied()
+        self.client_in(self.there(serial), serial)
+    }
+
+    /// The client of this name where it has the serial, or else that which is told elsewhere.
+    fn client_in(&self, there: Option<Name>, serial: u64) -> Option<u32>
+        ensures { result ≡ client_at there serial (get nat_eq self.now.far serial) }
+    {
+        match there {
+            Some(name) => {
+                if name.serial == serial {
+                    Some(name.client)
+                } else {
+                    self.far.get(&serial).copied()
+                }
+            }
+            None => self.far.get(&serial).copied(),
+        }
+    }
+
+    /// The name that stands where this serial leads.
+    fn there(&self, serial: u64) -> Option<Name>
+        requires { 0 < length self.now.near.items }
+        ensures { result ≡ there self.now serial }
+    {
+        self.near[remainder(serial, self.near.len())]
+    }
+}
+
+/// Whether a name with this serial may stand where this one does.
+fn has_room(there: Option<Name>, serial: u64) -> bool
+    ensures { result ≡ has_room there serial }
+{
+    match there {
+        Some(name) => name.serial == serial,
+        None => true,
     }
 }
 

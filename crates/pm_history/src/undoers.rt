@@ -85,7 +85,7 @@ fn put_nearest(nearest: &mut Vec<Option<usize>>, serial: u64, left: usize) -> Op
 }
 
 /// What a serial leaves when it is divided by this count.
-fn remainder(serial: u64, count: usize) -> usize
+pub fn remainder(serial: u64, count: usize) -> usize
     requires { 0 < count }
     ensures { result ≡ serial % count }
 {

@@ -1,39 +1,139 @@
 //! An authority that answers lines: an editor's server writes messages to standard input, and reads the answers from standard
-//! output.
+//! output. With `new FILE` or `open FILE` what it accepts is kept in a file.
 #![tactic(auto)]
 
 mod call;
+mod keeping;
 mod status;
 
 use call::run;
+use keeping::{FileStatus, run_new, run_open};
 use pm_io::{StdSink, StdSource};
+use sqlite_std_file::{OpenError, Start, Unknown};
 use status::Status;
 use std::process::ExitCode;
 use std::rt::Env;
-use std::{env, io};
+use std::{env, fs, io};
 
-/// Answers the lines of standard input on standard output. There are no words. It tells a status from 2 on by one line on
-/// standard error, and ends with the status's number.
+/// Answers the lines of standard input on standard output. With no words it keeps them in memory; `new FILE` and `open FILE` keep
+/// each that is accepted in the file before it is answered. It tells a status from 2 on by one line on standard error, and ends with
+/// the status's number.
 fn main(rt: HostRuntime) -> io::Result<ExitCode> {
-    let alloc = rt.alloc();
-    let mut source = StdSource::new(rt.stdin());
-    let mut sink = StdSink::new(rt.stdout());
     let status = match words_of(&rt) {
-        Ok(words) => run(alloc, &words, &mut source, &mut sink),
+        Ok(words) => match task_of(&words) {
+            Task::New(path) => return over_file(&rt, path, true, Unknown),
+            Task::Open(path) => return over_file(&rt, path, false, Unknown),
+            Task::Other => {
+                let mut source = StdSource::new(rt.stdin());
+                let mut sink = StdSink::new(rt.stdout());
+                run(rt.alloc(), &words, &mut source, &mut sink)
+            }
+        },
         Err(e) if e.kind() == io::ErrorKind::OutOfMemory => Status::NoMemory,
         // A word that is no text is a word.
         Err(_) => Status::Usage,
     };
-    // Where standard error takes nothing, the number still tells.
+    tell(&rt, status);
+    Ok(ExitCode::from(status.number()))
+}
+
+/// What the words ask.
+#[derive(Clone, Copy)]
+enum Task<'a> {
+    /// To begin this file.
+    New(&'a str),
+    /// To go on behind the lines of this file.
+    Open(&'a str),
+    /// To answer without a file, or nothing that there is.
+    Other,
+}
+
+/// What the words ask.
+fn task_of(words: &[String]) -> Task<'_> {
+    if words.len() != 2 {
+        return Task::Other;
+    }
+    match words[0].as_str() {
+        "new" => Task::New(words[1].as_str()),
+        "open" => Task::Open(words[1].as_str()),
+        _ => Task::Other,
+    }
+}
+
+/// Tells how a call ended, where it is a status from 2 on. Where standard error takes nothing, the number still tells.
+fn tell(rt: &HostRuntime, status: Status) {
     let _told = match status {
         Status::Done | Status::Refused => Ok(()),
-        Status::Usage => eprintln!(rt; "usage: pm_live takes no words"),
+        Status::Usage => eprintln!(rt; "usage: pm_live, pm_live new FILE or pm_live open FILE"),
         Status::ReadFault => eprintln!(rt; "read fault"),
         Status::WriteFault => eprintln!(rt; "write fault"),
         Status::NoMemory => eprintln!(rt; "no memory"),
         Status::Spent => eprintln!(rt; "too many lines"),
     };
-    Ok(ExitCode::from(status.number()))
+}
+
+/// The call over a file.
+fn over_file<S: Start>(
+    rt: &HostRuntime,
+    path: &str,
+    is_new: bool,
+    start: S,
+) -> io::Result<ExitCode> {
+    // Opening makes a file that is missing.
+    if !is_new && fs::metadata(rt, path).is_err() {
+        let _told = eprintln!(rt; "no file");
+        return Ok(ExitCode::from(7));
+    }
+    let files = match sqlite_std_file::open(rt, path, start) {
+        Ok(files) => files,
+        Err(error) => return Ok(not_taken(rt, error)),
+    };
+    let mut source = StdSource::new(rt.stdin());
+    let mut sink = StdSink::new(rt.stdout());
+    let ended = if is_new {
+        run_new(rt.alloc(), files.db, &mut source, &mut sink)
+    } else {
+        run_open(rt.alloc(), files.db, &mut source, &mut sink)
+    };
+    tell_file(rt, ended.status);
+    Ok(ExitCode::from(ended.status.number()))
+}
+
+/// Tells why a file was not taken, and the number for that.
+fn not_taken(rt: &HostRuntime, error: OpenError) -> ExitCode {
+    match error {
+        OpenError::Busy => {
+            let _told = eprintln!(rt; "busy");
+            ExitCode::from(8)
+        }
+        OpenError::OutOfMemory => {
+            let _told = eprintln!(rt; "no memory");
+            ExitCode::from(5)
+        }
+        OpenError::Io(_) | OpenError::HotJournal => {
+            let _told = eprintln!(rt; "{error}");
+            ExitCode::from(7)
+        }
+    }
+}
+
+/// Tells how a call over a file ended.
+fn tell_file(rt: &HostRuntime, status: FileStatus) {
+    match status {
+        FileStatus::Served(status) => tell(rt, status),
+        FileStatus::DiskFault => {
+            let _told = eprintln!(rt; "disk fault");
+        }
+        FileStatus::FileIsThere => {
+            let _told = eprintln!(rt; "the file is there");
+        }
+        FileStatus::NotOurs => {
+            let _told = eprintln!(rt; "no file of pm_live");
+        }
+        FileStatus::NotAccepted(line) => {
+            let _told = eprintln!(rt; "line {line}");
+        }
+    }
 }
 
 /// The words after the program's name.

@@ -33,7 +33,7 @@ impl<C> Branches<C> {
         let at = self.items().len().saturating_sub(gone);
         if any_dropped(&self.items()[at..], kept.as_slice()) {
             self.rebased_dropping(alloc, at, foreign, kept)
-        } else if at > 0 && self.is_settled() {
+        } else if at > 0 && self.is_settled() && are_few(kept.len(), at) {
             self.rebased_settled(alloc, at, foreign, kept)
         } else {
             self.rebased_whole(alloc, at, foreign, kept)
@@ -137,4 +137,10 @@ impl<C> Branches<C> {
         self.is_trimmed = false;
         self.items.replace_last(count, Listed::from_vec(behind))
     }
+}
+
+/// Whether so many steps kept are looked for one by one sooner than all items are gone through: each is looked for among the names
+/// of the last steps, so many as are kept.
+fn are_few(kept: usize, items: usize) -> bool {
+    kept.saturating_mul(kept) < items.saturating_mul(4)
 }

@@ -4,8 +4,8 @@ use Rattle.pm_history.specs.Trims.{trimmed}
 use Rattle.pm_history.proofs.Events.{replaced-rebased}
 use Rattle.pm_history.proofs.branches.Branches.rebased.Goals as goal
 
-pub returns-then-is_settled-clause-ok : goal.returns-then-is_settled-clause-ok
-returns-then-is_settled-clause-ok g c =
+pub returns-then-are_few-clause-ok : goal.returns-then-are_few-clause-ok
+returns-then-are_few-clause-ok g c =
     let h = c.args.self.now in
     let its = c.items-2.result.now in
     let at = c.saturating_sub-at.result in

@@ -1,0 +1,36 @@
+#!/bin/sh
+# Starts the server, and says its address. Debian's packages are installed where they are missing, and the engine is proved and built
+# where it is not built: as a program for the store, and as a module for comments and pages. Ctrl-C stops it.
+# usage: server/run.sh [PORT]
+#   8080 unless told. The settings are variables (docs/use/SERVER.md). Without a secret (GEZHUFET_SECRET) the server makes one, listens
+#   on this machine alone, and gives anybody here a token.
+
+set -eu
+
+top=$(cd "$(dirname "$0")/.." && pwd)
+. "$top/server/packages.sh"
+
+case ${1-} in
+  *[!0-9]*) echo "usage: server/run.sh [PORT]" >&2 && exit 2 ;;
+  ?*) export GEZHUFET_PORT="$1" ;;
+esac
+
+export GEZHUFET_FOLDER="${GEZHUFET_FOLDER:-$top/out/server}"
+
+command -v node >/dev/null 2>&1 || { echo "server: node is missing (Debian: nodejs)" >&2 && exit 127; }
+get_server_packages || { echo "server: a package is missing, and could not be installed: $server_packages" >&2 && exit 127; }
+if [ "${GEZHUFET_STORE-}" = postgres ]; then
+  get_database || { echo "server: a package is missing, and could not be installed: $database_packages" >&2 && exit 127; }
+elif [ "${GEZHUFET_STORE:-folder}" = folder ] && [ -z "${GEZHUFET_PROGRAM-}" ]; then
+  "$top/pm" build live
+fi
+[ -f "$top/bindings/js/gezhufet.wasm" ] || "$top/pm" wasm || echo "server: without the module comments stay where they were made" >&2
+
+if [ -z "${GEZHUFET_SECRET-}" ]; then
+  (umask 077 && mkdir -p "$GEZHUFET_FOLDER")
+  [ -s "$GEZHUFET_FOLDER/secret" ] || (umask 077 && od -An -N32 -tx1 /dev/urandom | tr -d ' \n' >"$GEZHUFET_FOLDER/secret")
+  GEZHUFET_SECRET=$(cat "$GEZHUFET_FOLDER/secret")
+  export GEZHUFET_SECRET GEZHUFET_OPEN="${GEZHUFET_OPEN:-1}"
+  echo "server: open to all on this machine: http://127.0.0.1:${GEZHUFET_PORT:-8080}/ (Ctrl-C stops it)" >&2
+fi
+exec node "$top/server/main.js"
