@@ -1,18 +1,20 @@
 #!/usr/bin/env python3
-"""Times the live authority over a file: how many accepted letters a second, each answered before the next is sent, beside sqlite3
-with a commit for each, and beside a plain write and sync of each line on the same disk; how long a file of many lines takes to be
-opened; and how many bytes a letter takes in it. Each figure is the median of RUNS, with the least and the greatest.
+"""Times the live authority over a file: how many accepted letters a second, each answered before the next is sent, and GROUP of
+them sent at once, beside sqlite3 with a commit for each, and beside a plain write and sync of each line on the same disk; how long
+a file of many lines takes to be opened; and how many bytes a letter takes in it. Each figure is the median of RUNS, with the least
+and the greatest.
 
     bench/kept.py [FOLDER]      the disk to time, that of a new folder in /var/tmp unless told
 
-PM_LIVE names the program, crates/pm_live/out/pm_live unless told. RUNS is 7 and LETTERS 1000 unless told, and LINES, the files to be
-opened, are "10000 100000 1000000".
+PM_LIVE names the program, crates/pm_live/out/pm_live unless told. RUNS is 7, LETTERS 1000 and GROUP 32 unless told, and LINES, the
+files to be opened, are "10000 100000 1000000".
 """
 import json, os, shutil, sqlite3, statistics, subprocess, sys, tempfile, time
 
 TOP = os.path.dirname(os.path.dirname(os.path.abspath(__file__)))
 LIVE = os.environ.get("PM_LIVE") or f"{TOP}/crates/pm_live/out/pm_live"
 RUNS, LETTERS = int(os.environ.get("RUNS", 7)), int(os.environ.get("LETTERS", 1000))
+GROUP = int(os.environ.get("GROUP", 32))
 LINES = [int(it) for it in os.environ.get("LINES", "10000 100000 1000000").split()]
 SCHEMA = '{"nodes":[{"name":"doc","content":"paragraph+"},{"name":"paragraph","content":"text*"},{"name":"text"}]}'
 DOC = '{"type":"doc","content":[{"type":"paragraph","content":[{"type":"text","text":"ab"}]}]}'
@@ -49,6 +51,22 @@ def by_live(words):
     taken = time.perf_counter() - start
     live.close()
     return LETTERS / taken
+
+
+def in_groups(words):
+    """Sends a group in one write, and takes all its answers before the next."""
+    live = Live(words, 0)
+    live.tell(f"{SCHEMA}\n{DOC}\n")
+    start = time.perf_counter()
+    total = LETTERS // GROUP * GROUP
+    for version in range(0, total, GROUP):
+        live.process.stdin.write("".join(letter(version + i) + "\n" for i in range(GROUP)).encode())
+        live.process.stdin.flush()
+        if any(b"accepted" not in live.process.stdout.readline() for _ in range(GROUP)):
+            sys.exit("kept: a letter was not accepted")
+    taken = time.perf_counter() - start
+    live.close()
+    return total / taken
 
 
 def by_sqlite(folder):
@@ -103,6 +121,8 @@ def main():
         sys.exit(f"kept: there is no {LIVE}")
     shown("letters without a file", "a second", lambda folder: by_live([]))
     shown("letters in a file, one by one", "a second", lambda folder: by_live(["new", f"{folder}/kept"]))
+    shown(f"letters without a file, {GROUP} at once", "a second", lambda folder: in_groups([]))
+    shown(f"letters in a file, {GROUP} at once", "a second", lambda folder: in_groups(["new", f"{folder}/kept"]))
     shown("letters in sqlite3, a commit each", "a second", by_sqlite)
     shown("letters by a write and a sync each", "a second", by_writes)
     for count in LINES:

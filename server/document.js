@@ -71,12 +71,14 @@ export class Document {
 
   /** Takes what the log has more, and tells it. One reading is under way at a time, and goes on until nothing is left. */
   catchUp() {
-    this.#isReading ??= this.#read().finally(() => { this.#isReading = null })
+    this.#isReading ??= this.#read().finally(() => { this.#isReading = null }).then(() => (this.#isBehind ? this.catchUp() : undefined))
     return this.#isReading
   }
 
+  get #isBehind() { return this.tail.version < this.held.version }
+
   async #read() {
-    while (this.tail.version < this.held.version) {
+    while (this.#isBehind) {
       const entries = await this.held.since(this.tail.version, this.#settings.messageBytes)
       if (entries.steps.length == 0) throw new Error("the store has no entries where it says it has")
       this.tail.add(entries)

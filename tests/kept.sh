@@ -14,7 +14,7 @@ folder=$(mktemp -d) || exit 70
 trap 'rm -rf "$folder"' EXIT
 
 python3 - "$folder" "${1:-100}" <<'PY'
-import json, os, random, resource, shutil, subprocess, sys, time
+import json, os, random, resource, shutil, subprocess, sys, threading, time
 
 live, folder, kills = os.environ["PM_LIVE"], sys.argv[1], int(sys.argv[2])
 SCHEMA = '{"nodes":[{"name":"doc","content":"paragraph+"},{"name":"paragraph","content":"text*"},{"name":"text"}]}'
@@ -34,11 +34,45 @@ def letter(version):
     return json.dumps({"op": "submit", "version": version, "clientID": "ann", "steps": [step]})
 
 
-def run(words, text="", limit=None, before=()):
+def start(words, limit=None, before=()):
     def at_start():
         if limit:
             resource.setrlimit(resource.RLIMIT_FSIZE, (limit, limit))
-    return subprocess.run([*before, live, *words], input=text.encode(), capture_output=True, preexec_fn=at_start, restore_signals=False)
+    pipe = subprocess.PIPE
+    return subprocess.Popen([*before, live, *words], stdin=pipe, stdout=pipe, stderr=pipe, preexec_fn=at_start, restore_signals=False)
+
+
+class Done:
+    def __init__(self, process, text):
+        self.stdout, self.stderr = process.communicate(text)
+        self.returncode = process.returncode
+
+
+def run(words, text="", **how):
+    """Gives it all of the text at once."""
+    return Done(start(words, **how), text.encode())
+
+
+def step_by_step(process, lines):
+    """Sends each line once the one before is answered, and gives the answers that came whole, the first of them without a line."""
+    answers = [process.stdout.readline()]
+    for line in lines:
+        try:
+            process.stdin.write(line.encode() + b"\n")
+            process.stdin.flush()
+        except BrokenPipeError:
+            break
+        answers.append(process.stdout.readline())
+    return [answer for answer in answers if answer.endswith(b"\n")]
+
+
+def ended(process):
+    try:
+        process.stdin.close()
+    except BrokenPipeError:
+        pass
+    process.wait()
+    return process.returncode
 
 
 def lines_of(path):
@@ -72,55 +106,75 @@ for i in range(kills):
     right = right and found in ([], [SCHEMA, DOC]) and (found or not answer)
 told(f"{kills} kills in the midst of new leave both lines or none", right)
 
-# what was told as accepted before a kill is in the file, in order, and at most one line more
+# What was told as accepted before a kill is in the file, in order. Of lines that are sent one by one at most one more is; of lines
+# that are sent at once, which come into the file together, maybe all.
 kept = [SCHEMA, DOC]
-right = True
-for _ in range(kills):
-    process = subprocess.Popen([live, "open", path], stdin=subprocess.PIPE, stdout=subprocess.PIPE, stderr=subprocess.PIPE)
-    first = json.loads(process.stdout.readline())
-    right = right and first["version"] == len(kept) - 2
-    batch = [letter(first["version"] + i) for i in range(60)]
-    try:
-        process.stdin.write(("\n".join(batch) + "\n").encode())
-        process.stdin.flush()
-    except BrokenPipeError:
-        pass
-    time.sleep(random.random() * 0.2)
-    process.kill()
-    count = process.stdout.read().count(b"\n")
-    process.wait()
-    found, closed = lines_of(path)
-    right = right and closed and found in (kept + batch[:count], kept + batch[:count + 1])
-    kept = found
-told(f"{kills} kills lose nothing that was told", right)
+for at_once in (False, True):
+    right = True
+    for _ in range(kills):
+        process = start(["open", path])
+        version = len(kept) - 2
+        batch = [letter(version + i) for i in range(60)]
+        timer = threading.Timer(random.random() * 0.2, process.kill)
+        timer.start()
+        if at_once:
+            try:
+                process.stdin.write(("\n".join(batch) + "\n").encode())
+                process.stdin.flush()
+            except BrokenPipeError:
+                pass
+            timer.join()
+            answers = process.stdout.read().splitlines(keepends=True)
+        else:
+            answers = step_by_step(process, batch)
+            timer.join()
+        process.wait()
+        count = sum(b"accepted" in answer and answer.endswith(b"\n") for answer in answers)
+        found, closed = lines_of(path)
+        more = len(found) - len(kept)
+        right = right and closed and found == kept + batch[:more] and count <= more <= (60 if at_once else count + 1)
+        kept = found
+    told(f"{kills} kills lose nothing that was told, {'at once' if at_once else 'one by one'}", right)
 
 # a disk that is full, as a limit of the file's length
-size = os.path.getsize(path)
-version = len(kept) - 2
-done = run(["open", path], "\n".join(letter(version + i) for i in range(60)) + "\n", size + 1000)
-answers = done.stdout.decode().splitlines()
-count = sum("accepted" in answer for answer in answers)
-told("a full disk is told", answers[-1:] == ['{"fault":"disk"}'] and done.returncode == 6)
-found, closed = lines_of(path)
-told("a full disk loses nothing that was told", closed and len(found) in (len(kept) + count, len(kept) + count + 1))
+for at_once in (False, True):
+    size, version = os.path.getsize(path), len(kept) - 2
+    batch = [letter(version + i) for i in range(60)]
+    process = start(["open", path], limit=size + 1000)
+    if at_once:
+        answers = process.communicate(("\n".join(batch) + "\n").encode())[0].splitlines()
+    else:
+        answers = [answer.strip() for answer in step_by_step(process, batch)]
+    told("a full disk is told", answers[-1:] == [b'{"fault":"disk"}'] and ended(process) == 6)
+    count = sum(b"accepted" in answer for answer in answers)
+    found, closed = lines_of(path)
+    more = len(found) - len(kept)
+    most = 60 if at_once else count + 1
+    told("a full disk loses nothing that was told", closed and found == kept + batch[:more] and count <= more <= most)
+    kept = found
 
-# a sync that fails: each of those at opening, and each of those of three lines
-kept, right = found, True
-calls = [("fsync", i) for i in range(1, 5)] + [("fdatasync", i) for i in range(1, 7)]
-for call, when in calls if shutil.which("strace") else []:
+# a sync that fails: each of those at opening; each of those of three lines one by one; and the two of three lines at once, of which
+# the file has all or none then
+right = True
+calls = [("fsync", i, 0) for i in range(1, 5)] + [("fdatasync", i, 1) for i in range(1, 7)] + [("fdatasync", i, 3) for i in range(1, 3)]
+for call, when, size in calls if shutil.which("strace") else []:
     version = len(kept) - 2
     batch = [letter(version + i) for i in range(3)]
-    failing = ["strace", "-f", "-qq", "-o", "/dev/null", "-e", f"inject={call}:error=EIO:when={when}"]
-    done = run(["open", path], "\n".join(batch) + "\n", before=failing)
-    count = done.stdout.count(b"accepted")
+    process = start(["open", path], before=["strace", "-f", "-qq", "-o", "/dev/null", "-e", f"inject={call}:error=EIO:when={when}"])
+    if size == 3:
+        answers = process.communicate(("\n".join(batch) + "\n").encode())[0].splitlines()
+    else:
+        answers = step_by_step(process, batch)
+    count = sum(b"accepted" in answer for answer in answers)
     found, closed = lines_of(path)
-    right = right and closed and found in (kept + batch[:count], kept + batch[:count + 1])
-    right = right and count < 3 and done.returncode == (7 if call == "fsync" else 6)
+    more = len(found) - len(kept)
+    right = right and closed and found == kept + batch[:more] and more in ((0, 3) if size == 3 else (count, count + 1))
+    right = right and count < 3 and ended(process) == (7 if call == "fsync" else 6)
     kept = found
 told("a failed sync loses nothing that was told", right)
 
 # a second process
-process = subprocess.Popen([live, "open", path], stdin=subprocess.PIPE, stdout=subprocess.PIPE)
+process = start(["open", path])
 process.stdout.readline()
 done = run(["open", path])
 told("a second process is told busy", done.returncode == 8 and done.stderr == b"busy\n")

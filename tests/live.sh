@@ -46,6 +46,7 @@ fi
 # shellcheck disable=SC2086
 if command -v ${PM_LIVE%% *} >/dev/null 2>&1; then
   part "$top/tests/live-lines.sh" "$PM_LIVE"
+  part "$top/tests/house-lines.sh" "$PM_LIVE"
 else
   leave_out "what the program writes is" "it is not built: $PM_LIVE"
 fi

@@ -4,6 +4,9 @@
 import {anchorsPlugin} from "./anchors.js"
 import {LostError} from "./errors.js"
 
+/// Errors of the server after which a comment is sent again.
+const AGAIN = new Set(["behind", "rate"])
+
 export class Comments {
   #session
   #options
@@ -45,7 +48,7 @@ export class Comments {
     const before = this.#known
     this.#known = new Map(comments.map(it => [it.id, it]))
     for (const [id, draft] of this.#drafts) {
-      draft.isSent = false
+      Object.assign(draft, {isWaiting: false, isSent: false})
       const came = comments.find(it => !before.has(it.id) && it.text == draft.text && it.quote == draft.quote)
       if (draft.isLost && came) this.#arrived(id, came)
     }
@@ -160,8 +163,19 @@ export class Comments {
       this.#arrived(id, comment)
     } catch (error) {
       if (error instanceof LostError) draft.isLost = true
+      else if (AGAIN.has(error.code)) this.#sendLater(draft, error.retry)
       else this.#drop(id, () => draft.reject(error))
     }
+  }
+
+  // It was not taken, and may be by then: of a newer version.
+  #sendLater(draft, milliseconds) {
+    draft.isWaiting = true
+    setTimeout(() => {
+      if (!draft.isWaiting) return
+      Object.assign(draft, {isWaiting: false, isSent: false})
+      this.touch()
+    }, milliseconds)
   }
 
   #arrived(id, comment) {

@@ -1,4 +1,12 @@
-// Entries of a log, in parts.
+// Answers of the engine that have what was asked, and entries of a log, in parts.
+
+import {storeFails} from "../errors.js"
+
+/** An answer to `since` or `doc`. It has a fault where there was no memory for it. */
+export function whole(answer) {
+  if (answer.fault === undefined) return answer
+  throw storeFails(new Error(`the engine answers with the fault ${answer.fault}`))
+}
 
 /** Those of entries from a version on; null where that is before them, or past their end. */
 export function back({clientIDs, steps, version}, from) {

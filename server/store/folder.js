@@ -5,7 +5,7 @@ import path from "node:path"
 import {setTimeout as wait} from "node:timers/promises"
 import {firstDocument, Live} from "../engine.js"
 import {Refusal, storeFails} from "../errors.js"
-import {back, front} from "./entries.js"
+import {back, front, whole} from "./entries.js"
 import {Notes, syncFolder} from "./notes.js"
 
 /** Where the schema and the first document are noted. */
@@ -55,7 +55,7 @@ class FolderDocument {
 
   async submit({version, clientID, steps}) {
     const [answer, entries] = await this.#ask({op: "submit", version, clientID, steps}, {op: "since", version: this.version})
-    if (answer.fault === "disk") throw storeFails(new Error("the disk took no line"))
+    // (where the disk took no line, that was the last answer, and there is none to the second)
     if (answer.accepted && entries.steps) this.#newest = entries
     if (answer.accepted) this.#grow(answer.accepted.from + answer.accepted.count)
     return answer
@@ -69,13 +69,13 @@ class FolderDocument {
 
   async since(version, bytes) {
     const entries = this.#newest?.version == this.version ? back(this.#newest, version) : null
-    return front(entries ?? (await this.#ask({op: "since", version}))[0], bytes)
+    return front(entries ?? whole((await this.#ask({op: "since", version}))[0]), bytes)
   }
 
   async doc(isFirst = false) {
     if (isFirst) return {doc: this.#notes.notes.get(MADE).doc, version: 0}
     const [answer] = await this.#ask({op: "doc"})
-    return answer
+    return whole(answer)
   }
 
   async note(id, value, isFleeting = false) {

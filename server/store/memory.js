@@ -1,7 +1,7 @@
 // Documents that nothing keeps: for tests, and to look at the server.
 
 import {firstDocument} from "../engine.js"
-import {front} from "./entries.js"
+import {front, whole} from "./entries.js"
 import {valueOf} from "./notes.js"
 
 class MemoryDocument {
@@ -29,9 +29,9 @@ class MemoryDocument {
     return answer
   }
 
-  async since(version, bytes) { return front(this.authority.since(version), bytes) }
+  async since(version, bytes) { return front(whole(this.authority.since(version)), bytes) }
 
-  async doc(isFirst = false) { return isFirst ? {doc: this.#first, version: 0} : this.authority.doc() }
+  async doc(isFirst = false) { return isFirst ? {doc: this.#first, version: 0} : whole(this.authority.doc()) }
 
   async note(id, value, isFleeting = false) {
     if (isFleeting) return undefined

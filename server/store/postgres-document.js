@@ -3,7 +3,7 @@
 import {said} from "../log.js"
 import {Refusal, storeFails} from "../errors.js"
 import {Order} from "../order.js"
-import {front} from "./entries.js"
+import {front, whole} from "./entries.js"
 import {ADD, CHANGE_NOTE, DROP_NOTE, ENTRIES, FORGET, KEEP, NOTE, NOTES, SET_NOTE, SNAPSHOT} from "./tables.js"
 
 /** So many entries are read at once. */
@@ -135,7 +135,7 @@ export class PostgresDocument {
     const authority = this.#authority
     if (authority.version - authority.base < this.#store.settings.snapshotEvery) return
     try {
-      const {doc, version} = authority.doc()
+      const {doc, version} = whole(authority.doc())
       await this.#store.query(KEEP, [this.#name, version, JSON.stringify(doc)])
       await this.#store.query(FORGET, [this.#name])
       this.#authority = await this.#store.engines.authority(this.schema, doc, version)
@@ -149,7 +149,7 @@ export class PostgresDocument {
     // Who knows of more than this server does has it of another one.
     if (version > this.#length) await this.#order.do(async () => (this.#authority ? this.#read() : this.#ready()))
     const authority = this.#authority
-    if (authority && version >= authority.base && authority.version == this.#length) return front(authority.since(version), bytes)
+    if (authority && version >= authority.base && authority.version == this.#length) return front(whole(authority.since(version)), bytes)
     const rows = (await this.#rows(version)).filter(it => Number(it.version) < this.#length)
     const clientIDs = rows.map(it => it.client), steps = rows.map(it => JSON.parse(it.step))
     return front({clientIDs, steps, version: Math.min(version, this.#length) + rows.length}, bytes)
@@ -157,7 +157,7 @@ export class PostgresDocument {
 
   async doc(isFirst = false) {
     if (isFirst) return {doc: JSON.parse(this.#first), version: 0}
-    return this.#order.do(async () => (await this.#ready()).doc())
+    return this.#order.do(async () => whole((await this.#ready()).doc()))
   }
 
   async note(id, value, isFleeting = false) {

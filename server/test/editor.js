@@ -104,12 +104,15 @@ export class Editor {
     this.#isSending = true
     try {
       while (talker === this.#talker && (this.#isBehind || this.pending)) {
-        const answer = await talker.ask(this.#isBehind ? this.client.ask() : this.client.compose())
-        if (answer.refused || answer.fault) throw Object.assign(new Error(JSON.stringify(answer)), {reason: 0})
+        const message = this.#isBehind ? this.client.ask() : this.client.compose()
+        // (what comes right behind the answer is heard before it)
         this.#isBehind = false
+        const answer = await talker.ask(message)
+        if (answer.refused || answer.fault) throw Object.assign(new Error(JSON.stringify(answer)), {reason: 0})
         this.#take(answer)
       }
     } catch (error) {
+      this.#isBehind = true
       if (error.reason !== undefined) this.fault = error
       else if (error.retry) setTimeout(() => this.#exchange(), error.retry).unref()
     } finally {
@@ -121,7 +124,6 @@ export class Editor {
   #take(answer) {
     const took = this.client.take(answer)
     this.confirmed += took.confirmed ?? 0
-    // What comes right behind an answer is heard before it.
     this.#isBehind ||= took.gap !== undefined || (took.kept !== undefined && this.version < answer.version)
   }
 

@@ -4,10 +4,14 @@ import {spawn} from "node:child_process"
 import fs from "node:fs"
 import os from "node:os"
 import path from "node:path"
+import {after} from "node:test"
 import {fileURLToPath} from "node:url"
 import {makeLog} from "../log.js"
 import {startServer} from "../server.js"
 import {SECRET} from "./talker.js"
+
+// What a test that has failed leaves open holds nobody up.
+after(() => { setTimeout(() => process.exit(), 10_000).unref() })
 
 const MAIN = fileURLToPath(new URL("../main.js", import.meta.url))
 

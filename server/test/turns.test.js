@@ -4,6 +4,7 @@ import assert from "node:assert/strict"
 import {test} from "node:test"
 import {setImmediate as later} from "node:timers/promises"
 import {Turns} from "../turns.js"
+import {Clock} from "./clock.js"
 import {relayTo} from "./network.js"
 import {serve} from "./servers.js"
 import {join} from "./talker.js"
@@ -12,29 +13,9 @@ import {within} from "./waiting.js"
 
 const STALE = {version: 1}, ACCEPTED = {accepted: {count: 1, from: 1}}
 
-// A clock that goes on where the test says so.
-function clock() {
-  const {setTimeout, clearTimeout} = globalThis, due = new Map()
-  globalThis.setTimeout = work => {
-    const timer = {}
-    due.set(timer, work)
-    return timer
-  }
-  globalThis.clearTimeout = timer => due.delete(timer)
-  return {
-    pass() {
-      for (const [timer, work] of [...due]) {
-        due.delete(timer)
-        work()
-      }
-    },
-    end: () => Object.assign(globalThis, {setTimeout, clearTimeout}),
-  }
-}
-
 // Some who come to a document, and the order in which they have their turns.
 async function comers(work) {
-  const time = clock(), turns = new Turns(), had = [], all = Object.fromEntries([..."abc"].map(name => [name, {name}]))
+  const clock = new Clock(), turns = new Turns(), had = [], all = Object.fromEntries([..."abc"].map(name => [name, {name}]))
   const come = async name => {
     turns.take(all[name]).then(() => had.push(name))
     await later()
@@ -44,9 +25,9 @@ async function comers(work) {
     await later()
   }
   try {
-    await work({come, end, leave: name => turns.leave(all[name]), pass: () => time.pass(), had: () => had.join("")})
+    await work({come, end, leave: name => turns.leave(all[name]), pass: () => clock.pass(1_000), had: () => had.join("")})
   } finally {
-    time.end()
+    clock.end()
   }
 }
 

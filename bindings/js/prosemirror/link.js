@@ -8,11 +8,15 @@ import {lead} from "./leading.js"
 
 const mapOf = step => step.getMap()
 
+// How long the log is at least, by an answer.
+const lengthTold = ({accepted, version}) => (accepted ? accepted.from + accepted.count : version ?? 0)
+
 export class Link {
   #options
   #tools
   #told = new Entry()
   #version = 0
+  #length = 0
   #clientID = null
   #pending = []
   #isBehind = false
@@ -232,10 +236,12 @@ export class Link {
   }
 
   #takePart(answer) {
-    const took = this.client.take(answer)
-    this.#isBehind = this.#lacks(answer, took)
+    const took = this.client.take(answer), isBehind = this.#lacks(answer, took)
+    this.#length = Math.max(this.#length, lengthTold(answer))
+    this.#version = took.version ?? this.#version
+    // What was told before this answer, and had to be left, is still lacking.
+    this.#isBehind = isBehind || this.#length > this.#version
     if (took.version === undefined) return
-    this.#version = took.version
     this.#carried.grow(this.#pending.splice(0, took.confirmed).map(it => it.map))
     if (!took.foreign) return this.#dispatch(this.view.state.tr)
     if (took.steps) this.#rebase(took)

@@ -181,6 +181,21 @@ for (const kind of engines) describe(`the plugin over ${kind}`, {skip}, () => {
     assert.ok(!ann.run(pm.undo))
   })
 
+  it("does not forget what it heard before the answer that goes before it", async () => {
+    const [authority, ann] = await opened(paragraphs(""), ["ann"]), slice = {content: [{type: "text", text: "b"}]}
+    ann.type("a", 1)
+    ann.post(authority)
+    authority.ask({op: "submit", version: 1, clientID: "bob", steps: [{stepType: "replace", from: 1, to: 1, slice}]})
+    // Both come in one moment, as a socket's messages may.
+    const taken = ann.take()
+    pm.receive(ann.view, authority.ask({op: "since", version: 1}))
+    await taken
+    ann.post(authority)
+    await ann.take()
+    assert.equal(ann.text, "ba")
+    assert.deepEqual([ann.out.length, pm.getVersion(ann.state)], [0, 2])
+  })
+
   it("maps the selection, and tells of mirrors", async () => {
     const {TextSelection} = found
     const [authority, ann, bob] = await opened(paragraphs("0123456789"), ["ann", "bob"])

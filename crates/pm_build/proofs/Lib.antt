@@ -7,3 +7,4 @@ pub mod SpanLaws
 pub mod FoundLaws
 pub mod CrossSpan
 pub mod FeedSpan
+pub mod PlacingLaws

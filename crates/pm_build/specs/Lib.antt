@@ -1,3 +1,4 @@
 pub mod Frames
 pub mod Fed
 pub mod Positions
+pub mod Placing

@@ -1,5 +1,5 @@
 -- What holds of a journal, and why a call on one fails.
-use Rattle.std.specs.Prelude.{◌≡◌, ◌≢◌, ℕ, ◌+◌, ◌^◌, ◌≤◌, Bool, IsTrue, List, [], map, length}
+use Rattle.std.specs.Prelude.{◌≡◌, ◌≢◌, ◌⊎◌, ℕ, ◌+◌, ◌^◌, ◌≤◌, Bool, IsTrue, List, [], map, length}
 use Rattle.sqlite_disk.specs.Disk.{Only, MoreFaults}
 use Rattle.pm_journal.specs.Lines.{recorded, records, IsAtRest}
 use Rattle.pm_journal.specs.declared.errors.AppendError.{AppendError}
@@ -33,6 +33,10 @@ module _ {D : Type 0} (seen : D → List ℕ) (may_leave : D → List ℕ → Ty
     pub end : journal.end ≡ 0
     pub empty : IsTrue (is_clean journal.disk) → seen journal.disk ≡ []
     pub durable : IsTrue (is_clean journal.disk) → Only [] (may_leave journal.disk)
+
+  -- the file is empty, or it has a line and a closed gate behind its lines
+  abbrev pub TakesLines : Journal D → Type 0
+  TakesLines journal = IsBlank journal ⊎ IsOpen journal
 
 -- the lines' bytes
 abbrev pub texts : Recovered → List (List ℕ)

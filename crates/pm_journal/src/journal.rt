@@ -2,7 +2,7 @@
 ghost use Rattle.std.specs.Prelude.{◌≡◌, ◌++◌, ◌+◌, ◌^◌, ◌≤◌, [], ◌∷◌, List, ℕ, length, IsTrue, IfOk, IfErr, OnOk, MatchResult};
 ghost use Rattle.sqlite_disk.specs.Disk.{Only};
 ghost use Rattle.pm_journal.specs.Lines.{recorded, IsLine, IsBeforeOrAfter, lines_of, HoldsLines};
-ghost use Rattle.pm_journal.specs.Journal.{IsReady, IsOpen, IsBlank, IsRecovered, AppendFails};
+ghost use Rattle.pm_journal.specs.Journal.{IsReady, IsOpen, IsBlank, TakesLines, IsRecovered, AppendFails};
 
 use crate::errors::AppendError;
 use crate::group::{Group, LF, OPEN};
@@ -90,6 +90,24 @@ impl<D: Disk> Journal<D> {
             (λ e. AppendFails e (D.Disk.faults self.old.disk) (D.Disk.faults self.new.disk) (self.old.end + 1 + length group.now.text.items)) }
     {
         self.add(&group.text)
+    }
+
+    /// Adds lines at once, with two syncs for all of them: to an empty file as `begin` does, or behind those that are there.
+    pub fn keep(&mut self, group: &Group) -> Result<(), AppendError>
+        requires takes { TakesLines D.Disk.seen D.Disk.may_leave D.Disk.is_clean D.Disk.is_usable self.old }
+        requires lines { HoldsLines group.now.text.items }
+        ensures open { OnOk result (IsOpen D.Disk.seen D.Disk.may_leave D.Disk.is_clean D.Disk.is_usable self.new) }
+        ensures added { OnOk result (IsTrue (D.Disk.is_clean self.new.disk) → recorded (D.Disk.seen self.new.disk) ≡ recorded (D.Disk.seen self.old.disk) ++ lines_of group.now.text.items) }
+        ensures crash { IsTrue (D.Disk.is_clean self.new.disk) → (c : List ℕ) → D.Disk.may_leave self.new.disk c → IsBeforeOrAfter (recorded (D.Disk.seen self.old.disk)) (lines_of group.now.text.items) c }
+        ensures clean { IsTrue (D.Disk.is_clean self.new.disk) → IsTrue (D.Disk.is_clean self.old.disk) }
+        ensures faults { MatchResult result (λ _. D.Disk.faults self.new.disk ≡ D.Disk.faults self.old.disk)
+            (λ e. AppendFails e (D.Disk.faults self.old.disk) (D.Disk.faults self.new.disk) (self.old.end + 1 + length group.now.text.items)) }
+    {
+        if self.end == 0 {
+            self.begin(group)
+        } else {
+            self.append_group(group)
+        }
     }
 
     /// Adds the lines of a text: they stand on the disk behind the closed gate, with the next one behind them, before it is opened.

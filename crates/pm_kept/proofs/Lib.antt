@@ -1,4 +1,7 @@
+pub mod Files
+mod Heard
 mod Opens
 mod Runs
-pub mod Stands
+mod Said
+mod Stands
 mod Unchanged

@@ -1,9 +1,8 @@
 -- Lines that are replayed.
-use Rattle.std.proofs.Common.{◌≡◌, ◌∙◌, ℕ, ◌+◌, ◌<◌, Bool, true, false, List, [], ◌∷◌, ◌++◌, length, take, drop, get_or, refl, sym, ap, subst, arith, zero, suc}
+use Rattle.std.proofs.Common.{◌≡◌, ◌∙◌, ℕ, ◌+◌, ◌<◌, Bool, true, false, List, [], ◌∷◌, ◌++◌, length, take, drop, get_or, sym, ap, subst, arith}
 use Rattle.std.specs.Prelude.{◌&&◌, if◌then◌else◌}
 use Rattle.std.proofs.lemmas.Bool.{and_parts}
 use Rattle.std.proofs.lemmas.List.{take-append-drop, take_more, length-take-le, append_assoc}
-use Rattle.pm_journal.specs.Lines.{recorded}
 use Rattle.pm_journal.specs.Journal.{IsRecovered, texts}
 use Rattle.pm_journal.specs.declared.recovery.Recovered.{Recovered}
 use Rattle.pm_journal.proofs.Lines.{at_rest_recorded}

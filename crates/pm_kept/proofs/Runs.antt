@@ -1,27 +1,30 @@
 -- What a run over a file leaves.
-use Rattle.std.proofs.Common.{◌≡◌, ◌≢◌, ◌⊎◌, inl, inr, ⊎_elim, ℕ, Bool, true, false, List, [], ◌∷◌, ◌++◌, ◌+◌, ◌^◌, ◌≤◌, length, take, drop, IsTrue, refl, sym, ◌∙◌, ap, subst}
-use Rattle.std.specs.declared.alloc.Global.{Global}
-use Rattle.std.specs.Prelude.{Option, Some, None, IsSome, String, if◌then◌else◌, ◌||◌, ◌==◌}
-use Rattle.std.specs.List.{list_any}
-use Rattle.std.proofs.lemmas.List.{append-nil, append_assoc, take-append-drop}
+use Rattle.std.proofs.Common.{◌≡◌, ◌≢◌, ◌⊎◌, inl, inr, ⊎_elim, ℕ, Bool, true, false, List, [], ◌∷◌, ◌++◌, ◌+◌, ◌^◌, ◌≤◌, length, map, take, drop, IsTrue, refl, sym, ◌∙◌, ap, subst, arith, append_assoc}
+use Rattle.std.specs.Prelude.{Option, ◌||◌, ◌==◌}
+use Rattle.std.proofs.lemmas.List.{append-nil, map-append, length-append, take-append-drop}
+use Rattle.std.specs.Io.KnownBytes.{Consumes}
+use Rattle.std.proofs.KnownBytes.{Consumes-trans}
 use Rattle.pm_io.specs.Moves.{Adds}
+use Rattle.pm_io.proofs.Chains.{Adds-chain}
 use Rattle.pm_serve.specs.declared.unread.TheConstants.{KEPT}
 use Rattle.pm_serve.specs.declared.serving.Served.{Served}
 use Rattle.pm_serve.specs.declared.serving.Served.TheVariants.{End, Closed, ReadFault, WriteFault, Spent}
+use Rattle.pm_serve.specs.declared.serving.Next.{Next}
+use Rattle.pm_serve.specs.declared.serving.Next.TheVariants.{More, Over}
 use Rattle.pm_serve.specs.Bytes.{has_lf}
-use Rattle.pm_serve.specs.Lines.{AreLines}
-use Rattle.pm_serve.specs.Reads.{LineCame, EndCame}
-use Rattle.pm_serve.specs.Serves.{Serves, kept, Tells, Answers, IsEnd, OverBy}
+use Rattle.pm_serve.specs.Lines.{with_lf, AreLines}
+use Rattle.pm_serve.specs.Reads.{LineCame, EndCame, PartCame, LongCame, IsLong, most}
+use Rattle.pm_serve.specs.Serves.{FrontWritten, SaysLast, kept}
+use Rattle.pm_serve.proofs.Joins.{lines-append, split-append}
+use Rattle.pm_serve.proofs.Steps.{none-taken, none-added, front-behind}
 use Rattle.sqlite_disk.specs.Disk.{MoreFaults}
 use Rattle.pm_journal.specs.Lines.{IsLine, records}
-use Rattle.pm_talk.specs.declared.talk.Talk.{Talk}
-use Rattle.pm_talk.specs.Talk.{Replies, last_text}
-use Rattle.pm_talk.specs.Texts.{no_memory}
+use Rattle.pm_talk.specs.Talk.{last_text}
 use Rattle.pm_kept.specs.declared.kept.Kept.{Kept}
-use Rattle.pm_kept.specs.Behind.{changes, taken, Keeps}
-use Rattle.pm_kept.specs.Kept.{disk_fault, kept_last, accepted, Leaves, CouldNotKeep, Heard, Lost, Answered, KeptReplies, IsInStep, IsUp}
-use Rattle.pm_kept.specs.Runs.{Told, Hears, FrontAdded, NoMore, OneMore, OneLost, KeptRun}
-use Rattle.pm_kept.proofs.Stands.{step_leaves, in_step}
+use Rattle.pm_kept.specs.Behind.{Keeps}
+use Rattle.pm_kept.specs.Kept.{disk_fault, accepted, Leaves, Went, Lost}
+use Rattle.pm_kept.specs.Runs.{Hears, HearsSome, CameWhole, last_line, CameSome, FrontAdded, IsKept, IsLost, Quiet, OverBy, SoFar, GroupServed, KeptRun, GroupLost, AnswersAll, SaysFault}
+use Rattle.pm_kept.proofs.Heard.{hears_append, all_heard}
 
 -- ---- what came is lines
 
@@ -47,211 +50,384 @@ front_line : (front rest : List ℕ) → IsLine (front ++ rest) → IsLine front
 front_line [] rest is = tt
 front_line (b ∷ front) rest is = (is.0, front_line front rest is.1)
 
-kept_line : (n : ℕ) (bytes : List ℕ) → has_lf bytes ≡ false → IsLine (take n bytes)
-kept_line n bytes h = front_line (take n bytes) (drop n bytes) (subst IsLine (sym (take-append-drop n bytes)) (all_lines bytes h))
+pub kept_line : (line bytes : List ℕ) → line ≡ take KEPT bytes → has_lf bytes ≡ false → IsLine line
+kept_line line bytes is h =
+    subst IsLine (sym is) (front_line (take KEPT bytes) (drop KEPT bytes) (subst IsLine (sym (take-append-drop KEPT bytes)) (all_lines bytes h)))
 
-came_line : (left rest : Option (List ℕ)) (before after line : List ℕ) → LineCame left rest before after line ⊎ EndCame left rest before after line → IsLine line
-came_line left rest before after line (inl came) = subst IsLine (sym came.kept) (kept_line KEPT came.whole came.one)
-came_line left rest before after line (inr came) = subst IsLine (sym came.kept) (kept_line KEPT came.whole came.one)
+-- ---- how lines come
 
--- ---- a line that is taken or not
+pub came_group : (left rest : Option (List ℕ)) (before there after line : List ℕ) (lines : List (List ℕ)) (came : LineCame left rest before there line) → there ≡ with_lf lines ++ after → AreLines lines
+    → CameWhole left rest before after (came.whole ∷ lines)
+came_group left rest before there after line lines came split each =
+    record {
+      taken = came.taken;
+      took = came.took;
+      split = came.split ∙ ap (λ (r : List ℕ). came.whole ++ 10 ∷ r) split ∙ sym (append_assoc came.whole (10 ∷ with_lf lines) after);
+      each = (came.one, each);
+    }
 
-by_bool : (b : Bool) (line : List ℕ) → (b ≡ true) ⊎ ((if b then line ∷ [] else []) ≡ [])
-by_bool true line = inl refl
-by_bool false line = inr refl
+-- no line waits at the end of input
+none_waiting : (lines : List (List ℕ)) (after : List ℕ) → [] ≡ with_lf lines ++ after → (lines ≡ []) × (after ≡ [])
+none_waiting [] after e = (refl, sym e)
+none_waiting (line ∷ lines) after e =
+    absurd (omega (arith, ap length e, length-append (line ++ 10 ∷ with_lf lines) after, length-append line (10 ∷ with_lf lines)))
 
-is_taken : (was : Talk) (line : List ℕ) (more : Bool) (next : Talk) → ((more ≡ true) × (changes was next ≡ true)) ⊎ (taken was line more next ≡ [])
-is_taken was line true next = ⊎_elim (λ c. inl (refl, c)) (λ n. inr n) (by_bool (changes was next) line)
-is_taken was line false next = inr refl
+last_is : (line : List ℕ) → line ≢ [] → last_line line ≡ line ∷ []
+last_is [] some = absurd (some refl)
+last_is (b ∷ line) some = refl
 
--- all of a text is a front of it and another
-front_of : (text more : List ℕ) (n : ℕ) → text ++ more ≡ take n text ++ (drop n text ++ more)
-front_of text more n = ap (λ (t : List ℕ). t ++ more) (sym (take-append-drop n text)) ∙ append_assoc (take n text) (drop n text) more
+at_end : (left rest : Option (List ℕ)) (before there after line : List ℕ) → EndCame left rest before there line → after ≡ [] → EndCame left rest before after line
+at_end left rest before there after line came none =
+    record { taken = came.taken; whole = came.whole; took = came.took; split = came.split; one = came.one; kept = came.kept; over = came.over; none_left = none }
 
-module _ {D : Type 0} (seen : D → List ℕ) (may_leave : D → List ℕ → Type 0) (is_clean is_usable : D → Bool) (faults : D → ℕ) where
-  -- these lines more were accepted, and no call of the disk failed
-  record Went (k t : Kept D) (new : List (List ℕ)) : Type 0 where
-    words : t.words ≡ k.words
-    no_fault : faults t.journal.disk ≡ faults k.journal.disk
-    clean : IsTrue (is_clean t.journal.disk) → IsTrue (is_clean k.journal.disk)
-    lines : IsTrue (is_clean t.journal.disk) → accepted seen t ≡ accepted seen k ++ new
-    leaves : Leaves may_leave is_clean t.journal.disk t.talk (accepted seen t)
+came_last : (left rest : Option (List ℕ)) (before there after line : List ℕ) (lines : List (List ℕ)) → EndCame left rest before there line → line ≢ [] → there ≡ with_lf lines ++ after
+    → EndCame left rest before after line × (line ∷ map kept lines ≡ last_line line)
+came_last left rest before there after line lines came some split =
+    let none = none_waiting lines after (sym came.none_left ∙ split) in
+    (at_end left rest before there after line came none.1, ap (λ (ls : List (List ℕ)). line ∷ map kept ls) none.0 ∙ sym (last_is line some))
 
-  abbrev LeavesOwn : Kept D → Type 0
-  LeavesOwn k = Leaves may_leave is_clean k.journal.disk k.talk (accepted seen k)
+-- ---- what is written
 
-  stayed : (k t : Kept D) → t ≡ k → LeavesOwn k → Went k t []
-  stayed k t same leaves =
-      subst (λ (u : Kept D). Went k u []) (sym same)
-      record { words = refl; no_fault = refl; clean = λ c. c; lines = λ c. sym (append-nil (accepted seen k)); leaves = leaves }
+all_added : (text : List ℕ) (old new : Option (List ℕ)) → Adds old new text → FrontAdded text old new
+all_added text old new added = record { front = text; rest = []; split = sym (append-nil text); added = added }
 
-  went_on : (k t u : Kept D) (a b : List (List ℕ)) → Went k t a → Went t u b → Went k u (a ++ b)
+front_added : (text : List ℕ) (old new : Option (List ℕ)) → FrontWritten text old new → FrontAdded text old new
+front_added text old new f = record { front = take f.count text; rest = drop f.count text; split = sym (take-append-drop f.count text); added = f.front }
+
+front_before : (text more : List ℕ) (old new : Option (List ℕ)) → FrontAdded text old new → FrontAdded (text ++ more) old new
+front_before text more old new f =
+    record { front = f.front; rest = f.rest ++ more; split = ap (λ (t : List ℕ). t ++ more) f.split ∙ append_assoc f.front f.rest more; added = f.added }
+
+module _ {D : Type 0} (seen : D → List ℕ) (may_leave : D → List ℕ → Type 0) (is_clean : D → Bool) (faults : D → ℕ) where
+  -- ---- what is in the file
+
+  pub stayed : (k : Kept D) → Leaves may_leave is_clean k.journal.disk k.talk (accepted seen k) → Went seen may_leave is_clean faults k k []
+  stayed k leaves = record { up = refl; no_fault = refl; clean = λ c. c; lines = λ c. sym (append-nil (accepted seen k)); leaves = leaves }
+
+  went_on : (k t u : Kept D) (a b : List (List ℕ)) → Went seen may_leave is_clean faults k t a → Went seen may_leave is_clean faults t u b → Went seen may_leave is_clean faults k u (a ++ b)
   went_on k t u a b first next =
       record {
-        words = next.words ∙ first.words;
+        up = next.up ∙ first.up;
         no_fault = next.no_fault ∙ first.no_fault;
         clean = λ c. first.clean (next.clean c);
         lines = λ c. next.lines c ∙ ap (λ (ls : List (List ℕ)). ls ++ b) (first.lines (next.clean c)) ∙ append_assoc (accepted seen k) a b;
         leaves = next.leaves;
       }
 
-  -- what came of a line, where no call of the disk had failed
-  abbrev HeardSo : Kept D → List ℕ → List ℕ → Bool → Kept D → Type 0
-  HeardSo k line text more t = (new : List (List ℕ)) × Told k.talk line text more t.talk new × Went k t new
-
-  went_heard : (k : Kept D) (line text : List ℕ) (more : Bool) (t : Kept D) → Heard seen may_leave is_clean faults k line text more t → HeardSo k line text more t
-  went_heard k line text more t heard = (
-    taken k.talk line more t.talk,
-    inl (heard.replies, refl),
-    record { words = heard.words; no_fault = heard.no_fault; clean = heard.clean; lines = heard.lines; leaves = heard.leaves },
-  )
-
-  by_answer : (words : Option (String Global)) (k : Kept D) (line text : List ℕ) (more : Bool) (t : Kept D) → IsSome words → IsLine line
-      → Answered seen may_leave is_clean faults words k line text more t → HeardSo k line text more t ⊎ Lost seen may_leave is_clean faults k line text more t
-  by_answer None k line text more t up is answered = absurd (cc)
-  by_answer (Some words) k line text more t up is (inl none) = absurd (none.0 is)
-  by_answer (Some words) k line text more t up is (inr (inl heard)) = inl (went_heard k line text more t heard)
-  by_answer (Some words) k line text more t up is (inr (inr lost)) = inr lost
-
-  by_line : (k : Kept D) (line text : List ℕ) (more : Bool) (t : Kept D) → LeavesOwn k → IsSome k.words → IsLine line
-      → Tells (KeptReplies seen may_leave is_clean faults) kept_last no_memory k line text more t → HeardSo k line text more t ⊎ Lost seen may_leave is_clean faults k line text more t
-  by_line k line text more t leaves up is (inl replies) = by_answer k.words k line text more t up is replies
-  by_line k line text more t leaves up is (inr none) =
-      inl ([], inr (none.0, none.1, ap (λ (u : Kept D). u.talk) none.2, refl), stayed k t none.2 leaves)
-
-  -- one that is not the last
-  by_more : (k : Kept D) (line text : List ℕ) (t : Kept D) → LeavesOwn k → IsSome k.words → IsLine line
-      → Tells (KeptReplies seen may_leave is_clean faults) kept_last no_memory k line text true t → HeardSo k line text true t
-  by_more k line text t leaves up is tells = ⊎_elim (λ heard. heard) (λ lost. absurd (not_over lost.last)) (by_line k line text true t leaves up is tells)
-
-  -- ---- lines one after another
-
-  went_lines : (lines : List (List ℕ)) (k : Kept D) (out : List ℕ) (t : Kept D) → LeavesOwn k → IsSome k.words → AreLines lines
-      → Answers (KeptReplies seen may_leave is_clean faults) kept_last no_memory k lines out t → (some : List (List ℕ)) × Hears k.talk lines out some t.talk × Went k t some
-  went_lines [] k out t leaves up are answers = ([], (answers.0, refl, ap (λ (u : Kept D). u.talk) answers.1), stayed k t answers.1 leaves)
-  went_lines (line ∷ lines) k out t leaves up are answers =
-      let mid = answers.1 in
-      let one = by_more k (kept line) answers.0 mid leaves up (kept_line KEPT line are.0) answers.3 in
-      let last = went_lines lines mid answers.2 t one.2.leaves (subst IsSome (sym one.2.words) up) are.1 answers.5 in
-      (one.0 ++ last.0, (answers.0, mid.talk, one.0, answers.2, last.0, one.1, answers.4, refl, last.1), went_on k mid t one.0 last.0 one.2 last.2)
-
-  -- ---- how it was over
-
-  abbrev IsOver : Talk → List (List ℕ) → Kept D → Kept D → Option (List ℕ) → Option (List ℕ) → Type 0
-  IsOver was lines begin end old new =
-      NoMore seen may_leave is_clean faults lines begin end
-      ⊎ (OneMore seen may_leave is_clean faults was lines begin end old new ⊎ OneLost seen may_leave is_clean faults was lines begin end old new)
-
-  none_more : (begin end : Kept D) (some new : List (List ℕ)) → Went begin end (some ++ new) → new ≡ [] → NoMore seen may_leave is_clean faults (accepted seen begin ++ some) begin end
-  none_more begin end some new went none =
-      let same : some ++ new ≡ some = ap (λ (ls : List (List ℕ)). some ++ ls) none ∙ append-nil some in
+  went_kept : (k t : Kept D) (some : List (List ℕ)) → Went seen may_leave is_clean faults k t some → IsKept may_leave is_clean faults (accepted seen k ++ some) k t
+  went_kept k t some went =
       record {
-        leaves = λ clean c left. subst (λ (ls : List (List ℕ)). Keeps c end.talk ls) (went.lines clean ∙ ap (λ (ls : List (List ℕ)). accepted seen begin ++ ls) same) (went.leaves clean c left);
-        up = went.words;
+        leaves = λ clean c left. subst (Keeps c t.talk) (went.lines clean) (went.leaves clean c left);
+        clean = went.clean;
+        up = went.up;
         no_fault = went.no_fault;
       }
 
-  over_silent : (begin mid end : Kept D) (some : List (List ℕ)) → Went begin mid some → end ≡ mid → NoMore seen may_leave is_clean faults (accepted seen begin ++ some) begin end
-  over_silent begin mid end some went same =
-      none_more begin end some [] (went_on begin mid end some [] went (stayed mid end same went.leaves)) refl
+  lost_kept : (k t : Kept D) (some : List (List ℕ)) → Lost seen may_leave is_clean faults k t some → IsLost may_leave is_clean faults k.talk (accepted seen k) some k t
+  lost_kept k t some lost = record { leaves = lost.leaves; clean = lost.clean; down = lost.down; cause = lost.cause }
 
-  one_more : (begin mid end : Kept D) (some new : List (List ℕ)) (line text : List ℕ) (more : Bool) (old written : Option (List ℕ)) → Went begin end (some ++ new)
-      → Replies mid.talk line text more end.talk → new ≡ taken mid.talk line more end.talk → FrontAdded (text ++ last_text end.talk) old written
-      → IsOver mid.talk (accepted seen begin ++ some) begin end old written
-  one_more begin mid end some new line text more old written went replies is front =
-      ⊎_elim
-      (λ (both : (more ≡ true) × (changes mid.talk end.talk ≡ true)).
-      (let one : new ≡ line ∷ [] = is ∙ ap (λ (b : Bool). taken mid.talk line b end.talk) both.0 ∙ ap (λ (b : Bool). if b then line ∷ [] else []) both.1 in
-      let lines : accepted seen begin ++ (some ++ new) ≡ (accepted seen begin ++ some) ++ line ∷ [] =
-      sym (append_assoc (accepted seen begin) some new) ∙ ap (λ (ls : List (List ℕ)). (accepted seen begin ++ some) ++ ls) one in
+  -- ---- what one group does
+
+  abbrev IsOver : Served → Kept D → Kept D → Option (List ℕ) → Option (List ℕ) → List ℕ → List ℕ → Option (List ℕ) → Option (List ℕ) → Type 0
+  IsOver served k t left rest before after old new = OverBy may_leave is_clean faults 0 served k.talk (accepted seen k) k t left rest before after old new
+
+  shut : (k t : Kept D) (left rest : Option (List ℕ)) (before after out : List ℕ) (heard some : List (List ℕ)) (old new : Option (List ℕ)) → CameSome left rest before after heard
+      → HearsSome k.talk heard out some false t.talk → Went seen may_leave is_clean faults k t some → Adds old new out → IsOver Closed k t left rest before after old new
+  shut k t left rest before after out heard some old new came hears went added =
+      inr (inr (inl record { is = refl; heard = heard; came = came; out = out; some = some; hears = hears; added = added; is_kept = went_kept k t some went }))
+
+  broken : (k t : Kept D) (left rest : Option (List ℕ)) (before after out : List ℕ) (heard some : List (List ℕ)) (more : Bool) (old new : Option (List ℕ)) → CameSome left rest before after heard
+      → HearsSome k.talk heard out some more t.talk ⊎ Hears k.talk heard out some t.talk → Went seen may_leave is_clean faults k t some → FrontAdded (out ++ last_text t.talk) old new
+      → IsOver WriteFault k t left rest before after old new
+  broken k t left rest before after out heard some more old new came hears went front =
+      inr (inr (inr (inl record { is = refl; heard = heard; came = came; out = out; some = some; more = more; hears = hears; front = front; is_kept = went_kept k t some went })))
+
+  failed : (served : Served) (k t : Kept D) (left rest : Option (List ℕ)) (before after out : List ℕ) (heard some : List (List ℕ)) (more : Bool) (old new : Option (List ℕ))
+      → (served ≡ Closed) ⊎ (served ≡ WriteFault) → CameSome left rest before after heard → HearsSome k.talk heard out some more t.talk → Lost seen may_leave is_clean faults k t some
+      → FrontAdded disk_fault old new → IsOver served k t left rest before after old new
+  failed served k t left rest before after out heard some more old new is came hears lost front =
+      inr (inr (inr (inr record { is = is; heard = heard; came = came; out = out; some = some; more = more; hears = hears; front = front; is_lost = lost_kept k t some lost })))
+
+  -- a group of lines, and then it is over
+  pub group_over : (served : Served) (k t : Kept D) (left rest : Option (List ℕ)) (before first there after : List ℕ) (old new : Option (List ℕ))
+      → AnswersAll seen may_leave is_clean faults (Over served) k t first there after old new
+      → ((lines : List (List ℕ)) → there ≡ with_lf lines ++ after → AreLines lines → CameSome left rest before after (first ∷ map kept lines))
+      → IsOver served k t left rest before after old new
+  group_over End k t left rest before first there after old new all came = absurd all
+  group_over Closed k t left rest before first there after old new (inl h) came =
+      shut k t left rest before after h.0 (first ∷ map kept h.1.lines) h.1.some old new (came h.1.lines h.1.split h.1.each) h.1.hears h.1.went h.2
+  group_over Closed k t left rest before first there after old new (inr h) came =
+      failed Closed k t left rest before after h.0.out (first ∷ map kept h.0.lines) h.0.some h.0.more old new (inl refl) (came h.0.lines h.0.split h.0.each) h.0.hears h.0.lost
+      (all_added disk_fault old new h.1)
+  group_over ReadFault k t left rest before first there after old new all came = absurd all
+  group_over WriteFault k t left rest before first there after old new (inl h) came =
+      broken k t left rest before after h.0 (first ∷ map kept h.2.lines) h.2.some h.1 old new (came h.2.lines h.2.split h.2.each) (inl h.2.hears) h.2.went
+      (front_before h.0 (last_text t.talk) old new (front_added h.0 old new h.3))
+  group_over WriteFault k t left rest before first there after old new (inr h) came =
+      failed WriteFault k t left rest before after h.0.out (first ∷ map kept h.0.lines) h.0.some h.0.more old new (inr refl) (came h.0.lines h.0.split h.0.each) h.0.hears h.0.lost
+      (front_added disk_fault old new h.1)
+  group_over Spent k t left rest before first there after old new all came = absurd all
+
+  abbrev HeardSo : Kept D → Kept D → List ℕ → List ℕ → List ℕ → Option (List ℕ) → Option (List ℕ) → Type 0
+  HeardSo k t first there after old new = AnswersAll seen may_leave is_clean faults More k t first there after old new
+
+  pub line_over : (served : Served) (k t : Kept D) (left rest : Option (List ℕ)) (before line there after : List ℕ) (old new : Option (List ℕ)) → LineCame left rest before there line
+      → AnswersAll seen may_leave is_clean faults (Over served) k t line there after old new → IsOver served k t left rest before after old new
+  line_over served k t left rest before line there after old new came all =
+      group_over served k t left rest before line there after old new all
+      (λ lines split each. inl (came.whole ∷ lines, came_group left rest before there after line lines came split each, ap (λ (l : List ℕ). l ∷ map kept lines) came.kept))
+
+  pub last_over : (served : Served) (k t : Kept D) (left rest : Option (List ℕ)) (before line there after : List ℕ) (old new : Option (List ℕ)) → EndCame left rest before there line → line ≢ []
+      → AnswersAll seen may_leave is_clean faults (Over served) k t line there after old new → IsOver served k t left rest before after old new
+  last_over served k t left rest before line there after old new came some all =
+      group_over served k t left rest before line there after old new all
+      (λ lines split each. let last = came_last left rest before there after line lines came some split in inr (line, last.0, last.1))
+
+  pub line_more : (k t : Kept D) (left rest : Option (List ℕ)) (before line there after : List ℕ) (old new : Option (List ℕ)) → LineCame left rest before there line → HeardSo k t line there after old new
+      → GroupServed seen may_leave is_clean faults More k t left rest before after old new
+  line_more k t left rest before line there after old new came all =
+      let h = all.1 in
+      let lines = came.whole ∷ h.lines in (
+        record {
+          lines = lines;
+          came = came_group left rest before there after line h.lines came h.split h.each;
+          out = all.0;
+          some = h.some;
+          hears = all_heard k.talk (map kept lines) all.0 h.some t.talk (subst (λ (l : List ℕ). HearsSome k.talk (l ∷ map kept h.lines) all.0 h.some true t.talk) came.kept h.hears);
+          added = all.2;
+          went = h.went;
+        },
+        λ (none : lines ≡ []). absurd (omega (arith, ap length none)),
+      )
+
+  -- the bytes after the last LF, and what is said at the end
+  pub last_said : (served : Served) (k t : Kept D) (left rest : Option (List ℕ)) (before line there after : List ℕ) (old mean new : Option (List ℕ)) → EndCame left rest before there line → line ≢ []
+      → HeardSo k t line there after old mean → SaysLast (last_text t.talk) served mean new → IsOver served k t left rest before after old new
+  last_said End k t left rest before line there after old mean new came some all says =
+      let h = all.1 in
+      let last = came_last left rest before there after line h.lines came some h.split in
       inr (inl record {
+        is = refl;
         line = line;
-        text = text;
-        replies = subst (λ (b : Bool). Replies mid.talk line text b end.talk) both.0 replies;
-        changed = both.1;
-        front = front;
-        leaves = λ clean c left. subst (λ (ls : List (List ℕ)). Keeps c end.talk ls) (went.lines clean ∙ lines) (went.leaves clean c left);
-        up = went.words;
-        no_fault = went.no_fault;
-      })))
-      (λ (none : taken mid.talk line more end.talk ≡ []). inl (none_more begin end some new went (is ∙ none)))
-      (is_taken mid.talk line more end.talk)
+        came = last.0;
+        out = all.0;
+        some = h.some;
+        hears = subst (λ (ls : List (List ℕ)). Hears k.talk ls all.0 h.some t.talk) last.1 (all_heard k.talk (line ∷ map kept h.lines) all.0 h.some t.talk h.hears);
+        added = Adds-chain old mean new all.0 (last_text t.talk) all.2 says;
+        is_kept = went_kept k t h.some h.went;
+      })
+  last_said Closed k t left rest before line there after old mean new came some all says = absurd says
+  last_said ReadFault k t left rest before line there after old mean new came some all says = absurd says
+  last_said WriteFault k t left rest before line there after old mean new came some all says =
+      let h = all.1 in
+      let last = came_last left rest before there after line h.lines came some h.split in
+      broken k t left rest before after all.0 (line ∷ map kept h.lines) h.some true old new (inr (line, last.0, last.1)) (inl h.hears) h.went
+      (front_added (all.0 ++ last_text t.talk) old new (front-behind old mean new all.0 (last_text t.talk) all.2 says))
+  last_said Spent k t left rest before line there after old mean new came some all says = absurd says
 
-  one_lost : (begin mid end : Kept D) (some : List (List ℕ)) (line text : List ℕ) (more : Bool) (old written : Option (List ℕ)) → Went begin mid some
-      → Lost seen may_leave is_clean faults mid line text more end → FrontAdded disk_fault old written → OneLost seen may_leave is_clean faults mid.talk (accepted seen begin ++ some) begin end old written
-  one_lost begin mid end some line text more old written went lost front =
-      record {
+  -- the end of input, where there are no such bytes
+  pub end_said : (served : Served) (k : Kept D) (left rest : Option (List ℕ)) (before line after : List ℕ) (old new : Option (List ℕ)) → EndCame left rest before after line → line ≡ []
+      → Leaves may_leave is_clean k.journal.disk k.talk (accepted seen k) → SaysLast (last_text k.talk) served old new → IsOver served k k left rest before after old new
+  end_said End k left rest before line after old new came none leaves says =
+      inr (inl record {
+        is = refl;
         line = line;
-        text = lost.told;
-        replies = lost.replies;
-        changed = lost.changed;
-        front = front;
-        leaves = λ clean c left. subst (λ (ls : List (List ℕ)). Keeps c mid.talk ls ⊎ Keeps c end.talk (ls ++ line ∷ [])) (went.lines (lost.clean clean)) (lost.leaves clean c left);
-        down = lost.words;
-        cause = ⊎_elim (λ (m : MoreFaults (faults mid.journal.disk) (faults end.journal.disk)). inl (subst (λ (n : ℕ). MoreFaults n (faults end.journal.disk)) went.no_fault m))
-            (λ (full : IsTrue (is_clean mid.journal.disk) → 2 ^ 64 ≤ length (records (accepted seen mid ++ line ∷ [])) + 1).
-            inr (λ clean. subst (λ (ls : List (List ℕ)). 2 ^ 64 ≤ length (records (ls ++ line ∷ [])) + 1) (went.lines (lost.clean clean)) (full (lost.clean clean)))) lost.cause;
+        came = came;
+        out = [];
+        some = [];
+        hears = subst (λ (l : List ℕ). Hears k.talk (last_line l) [] [] k.talk) (sym none) (refl, refl, refl);
+        added = says;
+        is_kept = went_kept k k [] (stayed k leaves);
+      })
+  end_said Closed k left rest before line after old new came none leaves says = absurd says
+  end_said ReadFault k left rest before line after old new came none leaves says = absurd says
+  end_said WriteFault k left rest before line after old new came none leaves says =
+      broken k k left rest before after [] [] [] true old new (inr (line, came, sym (ap last_line none))) (inr (refl, refl, refl)) (stayed k leaves)
+      (front_added (last_text k.talk) old new says)
+  end_said Spent k left rest before line after old new came none leaves says = absurd says
+
+  quiet : (served : Served) (count : ℕ) (k : Kept D) (left rest : Option (List ℕ)) (before after taken : List ℕ) (old : Option (List ℕ))
+      → (served ≡ ReadFault) ⊎ ((served ≡ Spent) × ((most ≤ count) ⊎ IsLong before taken after)) → Leaves may_leave is_clean k.journal.disk k.talk (accepted seen k)
+      → Consumes left rest taken → Quiet may_leave is_clean faults count served k.talk (accepted seen k) k k left rest before after old old
+  quiet served count k left rest before after taken old cause leaves took =
+      record {
+        taken = taken;
+        took = took;
+        same = refl;
+        none = none-added old;
+        cause = cause;
+        is_kept = record { leaves = leaves; clean = λ c. c; up = refl; no_fault = refl };
       }
 
-  told_line : (begin mid end : Kept D) (some new : List (List ℕ)) (line text : List ℕ) (more : Bool) (old written : Option (List ℕ)) → Went begin end (some ++ new)
-      → Told mid.talk line text more end.talk new → FrontAdded (text ++ last_text end.talk) old written → IsOver mid.talk (accepted seen begin ++ some) begin end old written
-  told_line begin mid end some new line text more old written went (inl told) front = one_more begin mid end some new line text more old written went told.0 told.1 front
-  told_line begin mid end some new line text more old written went (inr none) front = inl (none_more begin end some new went none.3)
+  pub read_failed : (k : Kept D) (left rest : Option (List ℕ)) (before after : List ℕ) (old : Option (List ℕ)) → PartCame left rest before
+      → Leaves may_leave is_clean k.journal.disk k.talk (accepted seen k) → IsOver ReadFault k k left rest before after old old
+  read_failed k left rest before after old part leaves = inl (quiet ReadFault 0 k left rest before after part.taken old (inl refl) leaves part.took)
 
-  -- a line more
-  last_line : (begin mid end : Kept D) (some : List (List ℕ)) (line text : List ℕ) (more : Bool) (old written : Option (List ℕ)) → Went begin mid some → IsSome begin.words → IsLine line
-      → Tells (KeptReplies seen may_leave is_clean faults) kept_last no_memory mid line text more end → FrontAdded (text ++ last_text end.talk) old written
-      → (more ≡ false → text ≡ disk_fault → FrontAdded disk_fault old written) → IsOver mid.talk (accepted seen begin ++ some) begin end old written
-  last_line begin mid end some line text more old written went up is tells front lost_front =
-      ⊎_elim
-      (λ (heard : HeardSo mid line text more end). told_line begin mid end some heard.0 line text more old written (went_on begin mid end some heard.0 went heard.2) heard.1 front)
-      (λ (lost : Lost seen may_leave is_clean faults mid line text more end). inr (inr (one_lost begin mid end some line text more old written went lost (lost_front lost.last lost.says))))
-      (by_line mid line text more end went.leaves (subst IsSome (sym went.words) up) is tells)
+  pub read_long : (k : Kept D) (left rest : Option (List ℕ)) (before after : List ℕ) (old : Option (List ℕ)) → LongCame left rest before after
+      → Leaves may_leave is_clean k.journal.disk k.talk (accepted seen k) → IsOver Spent k k left rest before after old old
+  read_long k left rest before after old long leaves = inl (quiet Spent 0 k left rest before after long.taken old (inr (refl, inr long.is_long)) leaves long.took)
 
-  -- the end of input, whose words were written up to here
-  at_end : (begin mid end : Kept D) (some : List (List ℕ)) (line out : List ℕ) (old written : Option (List ℕ)) → Went begin mid some → IsSome begin.words → IsLine line
-      → FrontAdded out old written → IsEnd (KeptReplies seen may_leave is_clean faults) kept_last no_memory mid end line out → IsOver mid.talk (accepted seen begin ++ some) begin end old written
-  at_end begin mid end some line out old written went up is front (inl none) = inl (over_silent begin mid end some went none.1)
-  at_end begin mid end some line out old written went up is front (inr one) =
-      last_line begin mid end some line one.1.0 true old written went up is one.1.1 (subst (λ (t : List ℕ). FrontAdded t old written) one.1.2 front)
-      (λ over. absurd (not_over over))
+  -- ---- one group after another
 
-  over_by : (count : ℕ) (served : Served) (begin mid end : Kept D) (some : List (List ℕ)) (left rest : Option (List ℕ)) (before after : List ℕ) (old written : Option (List ℕ))
-      → Went begin mid some → IsSome begin.words → OverBy (KeptReplies seen may_leave is_clean faults) kept_last no_memory count served mid end left rest before after old written
-      → IsOver mid.talk (accepted seen begin ++ some) begin end old written
-  over_by count End begin mid end some left rest before after old written went up over =
-      at_end begin mid end some over.line over.out old written went up (came_line left rest before after over.line (inr over.came))
-      record { front = over.out; rest = []; split = sym (append-nil over.out); added = over.added } over.is
-  over_by count Closed begin mid end some left rest before after old written went up over =
-      last_line begin mid end some over.line over.text false old written went up (came_line left rest before after over.line over.came) over.tells
-      record { front = over.text; rest = last_text end.talk; split = refl; added = over.added }
-      (λ closed says. record { front = over.text; rest = []; split = sym says ∙ sym (append-nil over.text); added = over.added })
-  over_by count ReadFault begin mid end some left rest before after old written went up over = inl (over_silent begin mid end some went over.same)
-  over_by count WriteFault begin mid end some left rest before after old written went up over =
-      let is = came_line left rest before after over.line over.came in
-      let text = over.out in
-      let n = over.front.count in
-      ⊎_elim
-      (λ tells. last_line begin mid end some over.line text tells.0 old written went up is tells.1
-      record { front = take n text; rest = drop n text ++ last_text end.talk; split = front_of text (last_text end.talk) n; added = over.front.front }
-      (λ closed says. record { front = take n text; rest = drop n text; split = sym says ∙ sym (take-append-drop n text); added = over.front.front }))
-      (λ ends. at_end begin mid end some over.line text old written went up is
-      record { front = take n text; rest = drop n text; split = sym (take-append-drop n text); added = over.front.front } ends) over.is
-  over_by count Spent begin mid end some left rest before after old written went up over = inl (over_silent begin mid end some went over.same)
-
-  -- the whole run
-  pub kept_run : (served : Served) (begin end : Kept D) (left rest : Option (List ℕ)) (before after : List ℕ) (old new : Option (List ℕ))
-      → IsUp seen may_leave is_clean is_usable begin.words begin.talk begin.opening begin.journal → IsSome begin.words
-      → Serves (KeptReplies seen may_leave is_clean faults) kept_last no_memory served begin end left rest before after old new
-      → KeptRun seen may_leave is_clean faults served begin end left rest before after old new
-  kept_run served begin end left rest before after old new up some serves =
-      let step = in_step seen may_leave is_clean is_usable begin.words begin.talk begin.opening begin.journal some up in
-      let leaves = step_leaves seen may_leave is_clean is_usable begin.talk begin.opening begin.journal step in
-      let came = serves.lines_came in
-      let went = went_lines came.lines begin came.out serves.mid leaves some came.each came.answers in
+  pub at_first : (k : Kept D) (left : Option (List ℕ)) (before : List ℕ) (old : Option (List ℕ)) → Leaves may_leave is_clean k.journal.disk k.talk (accepted seen k)
+      → SoFar seen may_leave is_clean faults k k left left before before old old
+  at_first k left before old leaves =
       record {
-        serves = serves;
-        some = went.0;
-        hears = went.1;
-        over = over_by _ served begin serves.mid end went.0 serves.left_then rest serves.there_then after serves.written_then new went.2 some serves.over;
+        lines = [];
+        came = record { taken = []; took = none-taken left; split = append-nil before; each = tt };
+        out = [];
+        some = [];
+        hears = (refl, refl, refl);
+        added = none-added old;
+        went = stayed k leaves;
       }
+
+  pub joined : (k t u : Kept D) (left then rest : Option (List ℕ)) (before now after : List ℕ) (old mean new : Option (List ℕ))
+      → SoFar seen may_leave is_clean faults k t left then before now old mean → SoFar seen may_leave is_clean faults t u then rest now after mean new
+      → SoFar seen may_leave is_clean faults k u left rest before after old new
+  joined k t u left then rest before now after old mean new f g =
+      record {
+        lines = f.lines ++ g.lines;
+        came = record {
+          taken = f.came.taken ++ g.came.taken;
+          took = Consumes-trans left then rest f.came.taken g.came.taken f.came.took g.came.took;
+          split = split-append before f.came.taken g.came.taken now after f.lines g.lines f.came.split g.came.split;
+          each = lines-append f.lines g.lines f.came.each g.came.each;
+        };
+        out = f.out ++ g.out;
+        some = f.some ++ g.some;
+        hears = subst (λ (ls : List (List ℕ)). Hears k.talk ls (f.out ++ g.out) (f.some ++ g.some) u.talk) (sym (map-append kept f.lines g.lines))
+            (hears_append (map kept f.lines) (map kept g.lines) k.talk f.out f.some t.talk g.out g.some u.talk f.hears g.hears);
+        added = Adds-chain old mean new f.out g.out f.added g.added;
+        went = went_on k t u f.some g.some f.went g.went;
+      }
+
+  some_length : (lines : List (List ℕ)) → lines ≢ [] → 1 ≤ length lines
+  some_length [] some = absurd (some refl)
+  some_length (line ∷ lines) some = omega arith
+
+  pub joined_count : (k t u : Kept D) (left then rest : Option (List ℕ)) (before now after : List ℕ) (old mean new : Option (List ℕ))
+      (f : SoFar seen may_leave is_clean faults k t left then before now old mean) (g : SoFar seen may_leave is_clean faults t u then rest now after mean new) → g.lines ≢ []
+      → length f.lines + 1 ≤ length (joined k t u left then rest before now after old mean new f g).lines
+  unfolding joined
+  joined_count k t u left then rest before now after old mean new f g some = omega (arith, length-append f.lines g.lines, some_length g.lines some)
+
+  -- ---- how it was over, after other groups
+
+  kept_since : (k t end : Kept D) (some new : List (List ℕ)) → Went seen may_leave is_clean faults k t some → IsKept may_leave is_clean faults (accepted seen t ++ new) t end
+      → IsKept may_leave is_clean faults ((accepted seen k ++ some) ++ new) k end
+  kept_since k t end some new went is =
+      record {
+        leaves = λ clean c left. subst (λ (ls : List (List ℕ)). Keeps c end.talk (ls ++ new)) (went.lines (is.clean clean)) (is.leaves clean c left);
+        clean = λ clean. went.clean (is.clean clean);
+        up = is.up ∙ went.up;
+        no_fault = is.no_fault ∙ went.no_fault;
+      }
+
+  quiet_since : (k t end : Kept D) (some : List (List ℕ)) → Went seen may_leave is_clean faults k t some → IsKept may_leave is_clean faults (accepted seen t) t end
+      → IsKept may_leave is_clean faults (accepted seen k ++ some) k end
+  quiet_since k t end some went is =
+      record {
+        leaves = λ clean c left. subst (λ (ls : List (List ℕ)). Keeps c end.talk ls) (went.lines (is.clean clean)) (is.leaves clean c left);
+        clean = λ clean. went.clean (is.clean clean);
+        up = is.up ∙ went.up;
+        no_fault = is.no_fault ∙ went.no_fault;
+      }
+
+  lost_since : (k t end : Kept D) (some new : List (List ℕ)) → Went seen may_leave is_clean faults k t some → IsLost may_leave is_clean faults t.talk (accepted seen t) new t end
+      → IsLost may_leave is_clean faults t.talk (accepted seen k ++ some) new k end
+  lost_since k t end some new went is =
+      record {
+        leaves = λ clean c left. subst (λ (ls : List (List ℕ)). Keeps c t.talk ls ⊎ Keeps c end.talk (ls ++ new)) (went.lines (is.clean clean)) (is.leaves clean c left);
+        clean = λ clean. went.clean (is.clean clean);
+        down = is.down;
+        cause = ⊎_elim (λ (rose : MoreFaults (faults t.journal.disk) (faults end.journal.disk)). inl (subst (λ (n : ℕ). MoreFaults n (faults end.journal.disk)) went.no_fault rose))
+            (λ (long : IsTrue (is_clean end.journal.disk) → 2 ^ 64 ≤ length (records (accepted seen t ++ new)) + 1).
+            inr (λ clean. subst (λ (ls : List (List ℕ)). 2 ^ 64 ≤ length (records (ls ++ new)) + 1) (went.lines (is.clean clean)) (long clean))) is.cause;
+      }
+
+  over_since : (served : Served) (k t end : Kept D) (count : ℕ) (some : List (List ℕ)) (left rest : Option (List ℕ)) (before after : List ℕ) (old new : Option (List ℕ))
+      → Went seen may_leave is_clean faults k t some → IsOver served t end left rest before after old new
+      → OverBy may_leave is_clean faults count served t.talk (accepted seen k ++ some) k end left rest before after old new
+  over_since served k t end count some left rest before after old new went (inl o) =
+      inl record {
+        taken = o.taken;
+        took = o.took;
+        same = o.same;
+        none = o.none;
+        cause = ⊎_elim (λ (failed : served ≡ ReadFault). inl failed)
+            (λ (spent : (served ≡ Spent) × ((most ≤ 0) ⊎ IsLong before o.taken after)).
+            inr (spent.0, ⊎_elim (λ (many : most ≤ 0). inl (omega (arith, many))) (λ (long : IsLong before o.taken after). inr long) spent.1)) o.cause;
+        is_kept = quiet_since k t end some went o.is_kept;
+      }
+  over_since served k t end count some left rest before after old new went (inr (inl o)) =
+      inr (inl record { is = o.is; line = o.line; came = o.came; out = o.out; some = o.some; hears = o.hears; added = o.added; is_kept = kept_since k t end some o.some went o.is_kept })
+  over_since served k t end count some left rest before after old new went (inr (inr (inl o))) =
+      inr (inr (inl record { is = o.is; heard = o.heard; came = o.came; out = o.out; some = o.some; hears = o.hears; added = o.added; is_kept = kept_since k t end some o.some went o.is_kept }))
+  over_since served k t end count some left rest before after old new went (inr (inr (inr (inl o)))) =
+      inr (inr (inr (inl record { is = o.is; heard = o.heard; came = o.came; out = o.out; some = o.some; more = o.more; hears = o.hears; front = o.front; is_kept = kept_since k t end some o.some went o.is_kept })))
+  over_since served k t end count some left rest before after old new went (inr (inr (inr (inr o)))) =
+      inr (inr (inr (inr record { is = o.is; heard = o.heard; came = o.came; out = o.out; some = o.some; more = o.more; hears = o.hears; front = o.front; is_lost = lost_since k t end some o.some went o.is_lost })))
+
+  pub over_behind : (served : Served) (k t end : Kept D) (left then rest : Option (List ℕ)) (before now after : List ℕ) (old mean new : Option (List ℕ))
+      → SoFar seen may_leave is_clean faults k t left then before now old mean → GroupServed seen may_leave is_clean faults (Over served) t end then rest now after mean new
+      → KeptRun seen may_leave is_clean faults served k end left rest before after old new
+  over_behind served k t end left then rest before now after old mean new f o =
+      record {
+        mid = t.talk;
+        left_then = then;
+        there_then = now;
+        written_then = mean;
+        lines = f.lines;
+        came = f.came;
+        out = f.out;
+        some = f.some;
+        hears = f.hears;
+        added = f.added;
+        over = over_since served k t end (length f.lines) f.some then rest now after mean new f.went o;
+      }
+
+  -- so many lines were answered
+  pub stopped : (k t : Kept D) (left rest : Option (List ℕ)) (before after : List ℕ) (old new : Option (List ℕ)) (f : SoFar seen may_leave is_clean faults k t left rest before after old new)
+      → most ≤ length f.lines → KeptRun seen may_leave is_clean faults Spent k t left rest before after old new
+  stopped k t left rest before after old new f many =
+      record {
+        mid = t.talk;
+        left_then = rest;
+        there_then = after;
+        written_then = new;
+        lines = f.lines;
+        came = f.came;
+        out = f.out;
+        some = f.some;
+        hears = f.hears;
+        added = f.added;
+        over = inl record {
+          taken = [];
+          took = none-taken rest;
+          same = refl;
+          none = none-added new;
+          cause = inr (refl, inl many);
+          is_kept = record {
+            leaves = λ clean c left. subst (Keeps c t.talk) (f.went.lines clean) (f.went.leaves clean c left);
+            clean = f.went.clean;
+            up = f.went.up;
+            no_fault = f.went.no_fault;
+          };
+        };
+      }
+
+  -- ---- what is written for a group
+
+  pub fault_said : (served : Served) (k t : Kept D) (line before after : List ℕ) (old new : Option (List ℕ)) → GroupLost seen may_leave is_clean faults k t line before after
+      → SaysFault served old new → AnswersAll seen may_leave is_clean faults (Over served) k t line before after old new
+  fault_said End k t line before after old new lost says = absurd says
+  fault_said Closed k t line before after old new lost says = inr (lost, says)
+  fault_said ReadFault k t line before after old new lost says = absurd says
+  fault_said WriteFault k t line before after old new lost says = inr (lost, says)
+  fault_said Spent k t line before after old new lost says = absurd says
+
+  pub line_served : (next : Next) (k t : Kept D) (left rest : Option (List ℕ)) (before line there after : List ℕ) (old new : Option (List ℕ)) → LineCame left rest before there line
+      → AnswersAll seen may_leave is_clean faults next k t line there after old new → GroupServed seen may_leave is_clean faults next k t left rest before after old new
+  line_served More k t left rest before line there after old new came all = line_more k t left rest before line there after old new came all
+  line_served (Over served) k t left rest before line there after old new came all = line_over served k t left rest before line there after old new came all

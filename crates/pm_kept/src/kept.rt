@@ -1,19 +1,18 @@
 //! A talk whose accepted lines are in a file.
-ghost use Rattle.std.specs.Prelude.{◌≡◌, [], true, false, None, IsTrue, IsSome, IfOk, IfSome, OnErr, string_bytes};
+ghost use Rattle.std.specs.Prelude.{◌≡◌, ◌++◌, ◌∷◌, [], false, true, None, IsTrue, IfOk, OnErr, string_bytes};
 ghost use Rattle.sqlite_disk.specs.Disk.{Only};
-ghost use Rattle.pm_journal.specs.Lines.{IsLine};
-ghost use Rattle.pm_talk.specs.Talk.{is_open, awaits_document, IsGood};
+ghost use Rattle.pm_journal.specs.Lines.{IsLine, HoldsLines, lines_of};
+ghost use Rattle.pm_journal.specs.Journal.{IsRecovered, TakesLines, texts};
+ghost use Rattle.pm_talk.specs.Talk.{Replies, is_open, IsGood};
 ghost use Rattle.pm_talk.specs.declared.talk.Talk.TheVariants.{AwaitsSchema};
-ghost use Rattle.pm_journal.specs.Journal.{IsRecovered, texts};
-ghost use Rattle.pm_kept.specs.Behind.{Behind};
-ghost use Rattle.pm_kept.specs.Kept.{disk_fault, IsSpare, IsGoodKept, KeptReplies};
+ghost use Rattle.pm_kept.specs.Behind.{Behind, taken};
+ghost use Rattle.pm_kept.specs.Kept.{disk_fault, held_lines, AreHeld, IsGoodKept, PutsHeld};
 
 use crate::opening::Opened;
 use crate::sizes::{changed, sizes_of};
-use pm_head::Code;
-use pm_journal::{Group, Journal, is_line};
-use pm_serve::{Reply, Service};
-use pm_talk::{Talk, fault_text, no_memory};
+use pm_journal::{Group, Journal};
+use pm_serve::Reply;
+use pm_talk::Talk;
 use sqlite_disk::Disk;
 use std::alloc::{AllocError, Global};
 
@@ -24,63 +23,40 @@ pub fn disk_fault() -> &'static str
     "{\"fault\":\"disk\"}\n"
 }
 
-/// What a `Kept` needs memory for, so that it is there before the file is touched.
-#[derive(Drop)]
-pub struct Spare {
-    /// A line 1, which is another once it came.
-    pub opening: Group,
-    /// What is said when a call of the disk fails.
-    pub words: String,
-}
-
-impl Spare {
-    /// The memory that a `Kept` needs.
-    pub fn new(alloc: Global) -> Result<Spare, AllocError>
-        ensures { IfOk result (λ s. IsSpare s) }
-    {
-        Ok(Spare {
-            opening: Group::of(alloc, b"")?,
-            words: String::from_str(alloc, disk_fault())?,
-        })
-    }
-}
-
 /// A talk, and the file of the lines that it accepted.
 #[derive(Drop)]
 pub struct Kept<D: Disk> {
     pub talk: Talk,
-    /// Line 1, once it came.
-    pub opening: Group,
+    /// Accepted lines that are not yet in the file.
+    pub held: Option<Group>,
     pub journal: Journal<D>,
-    /// What is said when a call of the disk fails. Then no further line is answered.
-    pub words: Option<String>,
+    /// Whether a call of the disk failed. Then no further line is answered.
+    pub failed: bool,
 }
 
 impl<D: Disk> Kept<D> {
     /// A talk from line 1 on, over an empty file. Nothing is written.
-    pub fn new(spare: Spare, disk: D) -> Kept<D>
-        requires spare { IsSpare spare }
+    pub fn new(disk: D) -> Kept<D>
         requires usable { IsTrue (D.Disk.is_usable disk) }
         requires empty { IsTrue (D.Disk.is_clean disk) → D.Disk.seen disk ≡ [] }
         // After a restart, what is read is what is on the disk.
         requires durable { IsTrue (D.Disk.is_clean disk) → Only (D.Disk.seen disk) (D.Disk.may_leave disk) }
         ensures good { IsGoodKept D.Disk.seen D.Disk.may_leave D.Disk.is_clean D.Disk.is_usable result }
         ensures talk { result.talk ≡ AwaitsSchema }
-        ensures up { IsSome result.words }
+        ensures held { result.held ≡ None }
+        ensures up { result.failed ≡ false }
         ensures disk { result.journal.disk ≡ disk }
     {
-        let Spare { opening, words } = spare;
         Kept {
             talk: Talk::AwaitsSchema,
-            opening,
+            held: None,
             journal: Journal::blank(disk),
-            words: Some(words),
+            failed: false,
         }
     }
 
     /// The talk behind the lines of a file, over that file. Nothing is written.
-    pub fn resume(spare: Spare, disk: D, opened: Opened) -> Kept<D>
-        requires spare { IsSpare spare }
+    pub fn resume(disk: D, opened: Opened) -> Kept<D>
         requires usable { IsTrue (D.Disk.is_usable disk) }
         requires found { IsTrue (D.Disk.is_clean disk) → IsRecovered opened.found (D.Disk.seen disk) }
         requires stands { Behind (texts opened.found) AwaitsSchema opened.talk }
@@ -90,155 +66,79 @@ impl<D: Disk> Kept<D> {
         requires durable { IsTrue (D.Disk.is_clean disk) → Only (D.Disk.seen disk) (D.Disk.may_leave disk) }
         ensures good { IsGoodKept D.Disk.seen D.Disk.may_leave D.Disk.is_clean D.Disk.is_usable result }
         ensures talk { result.talk ≡ opened.talk }
-        ensures up { IsSome result.words }
+        ensures held { result.held ≡ None }
+        ensures up { result.failed ≡ false }
         ensures disk { result.journal.disk ≡ disk }
     {
-        let Spare { opening, words } = spare;
         let Opened { found, talk } = opened;
         let journal = Journal::resume(disk, &found);
         Kept {
             talk,
-            opening,
+            held: None,
             journal,
-            words: Some(words),
+            failed: false,
+        }
+    }
+
+    /// Puts the lines that are held into the file, all at once, and says whether that is done. They are held on before lines 1 and 2
+    /// have both come.
+    pub(crate) fn put_held(&mut self) -> bool
+        requires file { TakesLines D.Disk.seen D.Disk.may_leave D.Disk.is_clean D.Disk.is_usable self.old.journal }
+        requires held { AreHeld self.old.held }
+        requires up { self.old.failed ≡ false }
+        ensures puts { PutsHeld D.Disk.seen D.Disk.may_leave D.Disk.is_clean D.Disk.is_usable D.Disk.faults result self.old self.new }
+        ensures talk { self.new.talk ≡ self.old.talk }
+    {
+        if !self.talk.is_open() {
+            return true;
+        }
+        let Some(group) = self.held.take() else {
+            return true;
+        };
+        match self.journal.keep(&group) {
+            Ok(()) => true,
+            Err(_) => {
+                self.failed = true;
+                false
+            }
         }
     }
 }
 
-impl<D: Disk> Kept<D> {
-    /// The answer to a line. Out of memory changes nothing.
-    pub fn tell(&mut self, alloc: Global, line: &[u8]) -> Result<Reply, AllocError>
-        requires { IsGoodKept D.Disk.seen D.Disk.may_leave D.Disk.is_clean D.Disk.is_usable self.old }
-        ensures told { IfOk result (λ r. KeptReplies D.Disk.seen D.Disk.may_leave D.Disk.is_clean D.Disk.faults self.old line.now (string_bytes r.text) r.more self.new) }
-        ensures err { OnErr result (self.new ≡ self.old) }
-        ensures good { IsGoodKept D.Disk.seen D.Disk.may_leave D.Disk.is_clean D.Disk.is_usable self.new }
-    {
-        if self.words.is_some() {
-            self.hear(alloc, line)
-        } else {
-            Ok(Reply {
-                text: String::new(alloc),
-                more: false,
-            })
-        }
-    }
-
-    /// The answer to a line where no call of the disk failed.
-    fn hear(&mut self, alloc: Global, line: &[u8]) -> Result<Reply, AllocError>
-        requires good { IsGoodKept D.Disk.seen D.Disk.may_leave D.Disk.is_clean D.Disk.is_usable self.old }
-        requires up { IsSome self.old.words }
-        ensures told { IfOk result (λ r. KeptReplies D.Disk.seen D.Disk.may_leave D.Disk.is_clean D.Disk.faults self.old line.now (string_bytes r.text) r.more self.new) }
-        ensures err { OnErr result (self.new ≡ self.old) }
-        ensures good { IsGoodKept D.Disk.seen D.Disk.may_leave D.Disk.is_clean D.Disk.is_usable self.new }
-    {
-        if !is_line(line) {
-            return Ok(Reply {
-                text: fault_text(alloc, Code::NotJson)?,
-                more: true,
-            });
-        }
-        match &self.talk {
-            Talk::AwaitsSchema => self.take_schema(alloc, line),
-            Talk::AwaitsDocument(_) => self.take_document(alloc, line),
-            Talk::Open(_) => self.take_line(alloc, line),
-        }
-    }
-
-    /// Takes line 1, and keeps it at hand.
-    fn take_schema(&mut self, alloc: Global, line: &[u8]) -> Result<Reply, AllocError>
-        requires good { IsGoodKept D.Disk.seen D.Disk.may_leave D.Disk.is_clean D.Disk.is_usable self.old }
-        requires up { IsSome self.old.words }
-        requires talk { self.old.talk ≡ AwaitsSchema }
-        requires line { IsLine line.now }
-        ensures told { IfOk result (λ r. KeptReplies D.Disk.seen D.Disk.may_leave D.Disk.is_clean D.Disk.faults self.old line.now (string_bytes r.text) r.more self.new) }
-        ensures err { OnErr result (self.new ≡ self.old) }
-        ensures good { IsGoodKept D.Disk.seen D.Disk.may_leave D.Disk.is_clean D.Disk.is_usable self.new }
-    {
-        let opening = Group::of(alloc, line)?;
-        let reply = self.talk.tell(alloc, line)?;
-        self.opening = opening;
-        Ok(reply)
-    }
-
-    /// Takes line 2. Where it is a document, it comes into the file together with line 1.
-    fn take_document(&mut self, alloc: Global, line: &[u8]) -> Result<Reply, AllocError>
-        requires good { IsGoodKept D.Disk.seen D.Disk.may_leave D.Disk.is_clean D.Disk.is_usable self.old }
-        requires up { IsSome self.old.words }
-        requires talk { awaits_document self.old.talk ≡ true }
-        requires line { IsLine line.now }
-        ensures told { IfOk result (λ r. KeptReplies D.Disk.seen D.Disk.may_leave D.Disk.is_clean D.Disk.faults self.old line.now (string_bytes r.text) r.more self.new) }
-        ensures err { OnErr result (self.new ≡ self.old) }
-        ensures good { IsGoodKept D.Disk.seen D.Disk.may_leave D.Disk.is_clean D.Disk.is_usable self.new }
-    {
-        let both = self.opening.with(alloc, line)?;
-        let reply = self.talk.tell(alloc, line)?;
-        if !reply.more {
-            return Ok(reply);
-        }
-        match self.journal.begin(&both) {
-            Ok(()) => Ok(reply),
-            Err(_) => Ok(last_reply(alloc, &mut self.words)),
-        }
-    }
-
-    /// Takes a later line. One that changes the talk comes into the file.
-    fn take_line(&mut self, alloc: Global, line: &[u8]) -> Result<Reply, AllocError>
-        requires good { IsGoodKept D.Disk.seen D.Disk.may_leave D.Disk.is_clean D.Disk.is_usable self.old }
-        requires up { IsSome self.old.words }
-        requires talk { is_open self.old.talk ≡ true }
-        requires line { IsLine line.now }
-        ensures told { IfOk result (λ r. KeptReplies D.Disk.seen D.Disk.may_leave D.Disk.is_clean D.Disk.faults self.old line.now (string_bytes r.text) r.more self.new) }
-        ensures err { OnErr result (self.new ≡ self.old) }
-        ensures good { IsGoodKept D.Disk.seen D.Disk.may_leave D.Disk.is_clean D.Disk.is_usable self.new }
-    {
-        let before = sizes_of(&self.talk);
-        let reply = self.talk.tell(alloc, line)?;
-        if !changed(before, &self.talk) {
-            return Ok(reply);
-        }
-        match self.journal.append(line) {
-            Ok(()) => Ok(reply),
-            Err(_) => Ok(last_reply(alloc, &mut self.words)),
-        }
-    }
-}
-
-/// What is said where a call of the disk failed: the words that were at hand for that, and no further line is answered.
-fn last_reply(alloc: Global, words: &mut Option<String>) -> Reply
-    ensures none { words.new ≡ None }
-    ensures more { result.more ≡ false }
-    ensures text { IfSome words.old (λ w. string_bytes result.text ≡ string_bytes w) }
+/// Tells the talk a line, and holds it if it is accepted. Out of memory changes nothing.
+pub(crate) fn take(
+    alloc: Global,
+    talk: &mut Talk,
+    held: &mut Option<Group>,
+    line: &[u8],
+) -> Result<Reply, AllocError>
+    requires good { IsGood talk.old }
+    requires held { AreHeld held.old }
+    requires line { IsLine line.now }
+    ensures told { IfOk result (λ r. Replies talk.old line.now (string_bytes r.text) r.more talk.new) }
+    ensures taken { IfOk result (λ r. held_lines held.new ≡ held_lines held.old ++ taken talk.old line.now r.more talk.new) }
+    ensures err { OnErr result ((talk.new ≡ talk.old) × (held.new ≡ held.old)) }
+    ensures good { IsGood talk.new }
+    ensures held { AreHeld held.new }
 {
-    match words.take() {
-        Some(text) => Reply { text, more: false },
-        None => Reply {
-            text: String::new(alloc),
-            more: false,
-        },
+    let more = held_with(alloc, held, line)?;
+    let before = sizes_of(talk);
+    let reply = talk.tell(alloc, line)?;
+    if reply.more && changed(before, talk) {
+        *held = Some(more);
     }
+    Ok(reply)
 }
 
-impl<D: Disk> Service for Kept<D> {
-    ghost use Rattle.pm_kept.specs.Kept.{IsGoodKept, KeptReplies, kept_last};
-    ghost use Rattle.pm_talk.specs.Texts.{no_memory};
-
-    ghost good = { IsGoodKept D.Disk.seen D.Disk.may_leave D.Disk.is_clean D.Disk.is_usable };
-
-    ghost replies = { KeptReplies D.Disk.seen D.Disk.may_leave D.Disk.is_clean D.Disk.faults };
-
-    ghost last = { kept_last };
-
-    ghost no_memory = { no_memory };
-
-    fn reply(&mut self, alloc: Global, line: &[u8]) -> Result<Reply, AllocError> {
-        self.tell(alloc, line)
-    }
-
-    fn last(&self) -> &[u8] {
-        self.talk.last_text()
-    }
-
-    fn no_memory(&self) -> &[u8] {
-        no_memory()
+/// The lines that are held, and one more.
+fn held_with(alloc: Global, held: &Option<Group>, line: &[u8]) -> Result<Group, AllocError>
+    requires held { AreHeld held.now }
+    requires line { IsLine line.now }
+    ensures holds { IfOk result (λ g. HoldsLines g.text.items) }
+    ensures lines { IfOk result (λ g. lines_of g.text.items ≡ held_lines held.now ++ line.now ∷ []) }
+{
+    match held {
+        Some(group) => group.with(alloc, line),
+        None => Group::of(alloc, line),
     }
 }

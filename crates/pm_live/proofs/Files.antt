@@ -1,22 +1,23 @@
 -- What is known of a file that was read, and not written.
-use Rattle.std.proofs.Common.{◌≡◌, inl, inr, ◌∙◌, ℕ, Bool, true, false, List, [], IsTrue, refl, sym, ap, subst}
-use Rattle.std.specs.Prelude.{Option, Some, None, is_some, is_none, not, Result, Ok, Err}
+use Rattle.std.proofs.Common.{◌≡◌, ◌++◌, inl, inr, ◌∙◌, ℕ, Bool, true, false, List, [], IsTrue, refl, sym, ap, subst}
+use Rattle.std.specs.Prelude.{Option, None, Result, Ok, Err}
 use Rattle.std.specs.Result.{is_err, OnErr, OnOk}
+use Rattle.std.proofs.lemmas.List.{append-nil}
 use Rattle.sqlite_disk.specs.Disk.{Only}
 use Rattle.pm_journal.specs.Lines.{recorded}
 use Rattle.pm_journal.specs.Journal.{IsRecovered, texts}
+use Rattle.pm_journal.specs.declared.group.Group.{Group}
 use Rattle.pm_journal.specs.declared.recovery.Recovered.{Recovered}
 use Rattle.pm_journal.specs.declared.errors.RecoverError.{RecoverError}
 use Rattle.pm_journal.specs.declared.errors.RecoverError.TheVariants as recover
 use Rattle.pm_journal.proofs.Lines.{at_rest_recorded}
 use Rattle.pm_talk.specs.declared.talk.Talk.{Talk}
-use Rattle.pm_talk.specs.declared.talk.Talk.TheVariants.{AwaitsSchema, AwaitsDocument, Open}
-use Rattle.pm_talk.specs.Talk.{is_open}
+use Rattle.pm_talk.specs.declared.talk.Talk.TheVariants.{AwaitsSchema}
 use Rattle.pm_kept.specs.declared.opening.OpenError.{OpenError}
 use Rattle.pm_kept.specs.declared.opening.OpenError.TheVariants as error
 use Rattle.pm_kept.specs.declared.kept.Kept.{Kept}
 use Rattle.pm_kept.specs.Behind.{Behind}
-use Rattle.pm_kept.specs.Kept.{accepted, lines_so_far}
+use Rattle.pm_kept.specs.Kept.{accepted, held_lines}
 use Rattle.pm_kept.specs.Opens.{OpenFails}
 use Rattle.pm_live.specs.declared.keeping.FileStatus.{FileStatus}
 use Rattle.pm_live.specs.Keeping.{KeptTalked, error_status_of, NotOpenedFor}
@@ -30,13 +31,6 @@ on_err (Err e) P failed h = h
 pub on_ok : {T E : Type 0} (r : Result T E) (P : Type 0) → is_err r ≡ false → OnOk r P → P
 on_ok (Ok x) P no_error h = h
 on_ok (Err e) P no_error h = absurd (cc)
-
--- there are no words
-pub none_is : {X : Type 0} (o : Option X) (b : Bool) → is_some o ≡ not b → b ≡ is_none o
-none_is None true h = refl
-none_is None false h = absurd (cc)
-none_is (Some x) true h = absurd (cc)
-none_is (Some x) false h = refl
 
 -- a talk stands behind its lines
 pub behind_file : (found : Recovered) (talk : Talk) (old new : List ℕ) → new ≡ old → IsRecovered found new → Behind (texts found) AwaitsSchema talk → Behind (recorded old) AwaitsSchema talk
@@ -56,18 +50,12 @@ by_error (error.NotAccepted number) old new clean file fails = fails
 by_error error.NoDocument old new clean file fails = (fails.0, λ c. inr (fails.1 c))
 
 module _ {D : Type 0} (seen : D → List ℕ) where
-  -- the lines of a talk that begins, and of one that goes on
-  pub none_before : (k : Kept D) → k.talk ≡ AwaitsSchema → accepted seen k ≡ []
-  none_before k is = ap (λ (t : Talk). lines_so_far seen t k.opening k.journal) is
+  -- where none is held, the lines of a talk are those of its file
+  lines_in_file : (k : Kept D) → k.held ≡ None → accepted seen k ≡ recorded (seen k.journal.disk)
+  lines_in_file k none = ap (λ (h : Option Group). recorded (seen k.journal.disk) ++ held_lines h) none ∙ append-nil (recorded (seen k.journal.disk))
 
-  by_talk : (talk : Talk) (k : Kept D) → is_open talk ≡ true → lines_so_far seen talk k.opening k.journal ≡ recorded (seen k.journal.disk)
-  by_talk AwaitsSchema k opens = absurd (cc)
-  by_talk (AwaitsDocument s) k opens = absurd (cc)
-  by_talk (Open live) k opens = refl
-
-  pub lines_before : (k : Kept D) (talk : Talk) (opened : D) (file : List ℕ) → k.talk ≡ talk → is_open talk ≡ true → k.journal.disk ≡ opened → seen opened ≡ file → accepted seen k ≡ recorded file
-  lines_before k talk opened file is opens over same =
-      by_talk k.talk k (ap is_open is ∙ opens) ∙ ap (λ (d : D). recorded (seen d)) over ∙ ap recorded same
+  pub lines_before : (k : Kept D) (opened : D) (file : List ℕ) → k.held ≡ None → k.journal.disk ≡ opened → seen opened ≡ file → accepted seen k ≡ recorded file
+  lines_before k opened file none over same = lines_in_file k none ∙ ap (λ (d : D). recorded (seen d)) over ∙ ap recorded same
 
 module _ {D : Type 0} (seen : D → List ℕ) (may_leave : D → List ℕ → Type 0) (is_clean is_usable : D → Bool) (faults : D → ℕ) where
   -- a crash still leaves what is read
@@ -77,11 +65,27 @@ module _ {D : Type 0} (seen : D → List ℕ) (may_leave : D → List ℕ → Ty
 
   -- the talk, its lines and the disk that it began with, by other terms
   pub begun_at : (status : FileStatus) (first other : Talk) (lines others : List (List ℕ)) (opened file disk : D) (left rest old new : Option (List ℕ)) (r r_new w w_was w_new : ℕ)
-      → first ≡ other → lines ≡ others → opened ≡ file → w ≡ w_was
+      → first ≡ other → (IsTrue (is_clean file) → lines ≡ others) → opened ≡ file → w ≡ w_was
       → KeptTalked seen may_leave is_clean is_usable faults status first lines opened disk left rest old new r r_new w w_new
       → KeptTalked seen may_leave is_clean is_usable faults status other others file disk left rest old new r r_new w_was w_new
   begun_at status first other lines others opened file disk left rest old new r r_new w w_was w_new same_talk same_lines same_disk same_faults talked =
-      subst (λ (n : ℕ). KeptTalked seen may_leave is_clean is_usable faults status other others file disk left rest old new r r_new n w_new) same_faults
-      (subst (λ (d : D). KeptTalked seen may_leave is_clean is_usable faults status other others d disk left rest old new r r_new w w_new) same_disk
-      (subst (λ (ls : List (List ℕ)). KeptTalked seen may_leave is_clean is_usable faults status other ls opened disk left rest old new r r_new w w_new) same_lines
-      (subst (λ (t : Talk). KeptTalked seen may_leave is_clean is_usable faults status t lines opened disk left rest old new r r_new w w_new) same_talk talked)))
+      let t : KeptTalked seen may_leave is_clean is_usable faults status other lines file disk left rest old new r r_new w_was w_new =
+      subst (λ (n : ℕ). KeptTalked seen may_leave is_clean is_usable faults status other lines file disk left rest old new r r_new n w_new) same_faults
+      (subst (λ (d : D). KeptTalked seen may_leave is_clean is_usable faults status other lines d disk left rest old new r r_new w w_new) same_disk
+      (subst (λ (t : Talk). KeptTalked seen may_leave is_clean is_usable faults status t lines opened disk left rest old new r r_new w w_new) same_talk talked)) in
+      record {
+        served = t.served;
+        begin = t.begin;
+        end = t.end;
+        unread = t.unread;
+        begins = t.begins;
+        over = t.over;
+        before = λ clean. t.before clean ∙ same_lines clean;
+        up = t.up;
+        was_good = t.was_good;
+        run = t.run;
+        ends = t.ends;
+        good = t.good;
+        gives = t.gives;
+        says = t.says;
+      }

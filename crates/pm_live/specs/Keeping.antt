@@ -1,5 +1,5 @@
 -- How a call over a file ends, and what the file is then.
-use Rattle.std.specs.Prelude.{◌≡◌, ◌≢◌, ◌⊎◌, ℕ, Bool, true, is_none, IsTrue, IsSome, List, [], ◌++◌, codes, decimal, length, Option, if◌then◌else◌}
+use Rattle.std.specs.Prelude.{◌≡◌, ◌≢◌, ◌⊎◌, ℕ, Bool, true, false, IsTrue, List, [], ◌++◌, codes, decimal, length, Option, if◌then◌else◌}
 use Rattle.sqlite_disk.specs.Disk.{MoreFaults}
 use Rattle.pm_io.specs.Faults.{Rose}
 use Rattle.pm_io.specs.Moves.{Adds}
@@ -95,14 +95,14 @@ module _ {D : Type 0} (seen : D → List ℕ) (may_leave : D → List ℕ → Ty
     pub unread : List ℕ
     pub begins : begin.talk ≡ first
     pub over : begin.journal.disk ≡ opened
-    pub before : accepted seen begin ≡ lines
-    pub up : IsSome begin.words
+    pub before : IsTrue (is_clean opened) → accepted seen begin ≡ lines
+    pub up : begin.failed ≡ false
     pub was_good : IsGoodKept seen may_leave is_clean is_usable begin
     pub run : KeptRun seen may_leave is_clean faults served begin end left rest [] unread old new
     pub ends : ServeFaults served r r_new w w_new
     pub good : IsGoodKept seen may_leave is_clean is_usable end
     pub gives : disk ≡ end.journal.disk
-    pub says : status ≡ file_status_of served (is_open end.talk) (is_none end.words)
+    pub says : status ≡ file_status_of served (is_open end.talk) end.failed
 
   -- the file was not begun, and is as it was
   pub record NotBegun (status : FileStatus) (was disk : D) (left rest old new : Option (List ℕ)) (r r_new w w_new : ℕ) : Type 0 where

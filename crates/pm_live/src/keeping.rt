@@ -1,5 +1,5 @@
 //! The calls over a file: what a talk accepts is on the disk before it is answered.
-ghost use Rattle.std.specs.Prelude.{◌≡◌, ◌⊎◌, [], IsTrue, IsSome, IfOk, string_bytes};
+ghost use Rattle.std.specs.Prelude.{◌≡◌, ◌⊎◌, [], false, IsTrue, IfOk, string_bytes};
 ghost use Rattle.sqlite_disk.specs.Disk.{Only};
 ghost use Rattle.pm_kept.specs.Kept.{IsGoodKept, accepted};
 ghost use Rattle.pm_live.specs.Keeping.{file_status_of, error_status_of, file_number_of, resumed_text, LeavesSome, IsUntouched, KeptTalked, NotBegun, Begun, NotOpened, NotSaid, Resumed};
@@ -7,7 +7,7 @@ ghost use Rattle.pm_live.specs.Keeping.{file_status_of, error_status_of, file_nu
 use crate::status::{Status, status_of};
 use pm_io::{Sink, write_all};
 use pm_journal::{RecoverError, is_blank};
-use pm_kept::{Kept, OpenError, Spare, open, serve_kept};
+use pm_kept::{Kept, OpenError, open, serve_kept};
 use pm_serve::{LineReader, Piecewise, Served};
 use pm_talk::Talk;
 use sqlite_disk::Disk;
@@ -50,7 +50,7 @@ pub struct Ended<D: Disk> {
 }
 
 /// Answers the lines of the source from line 1 on. The file, which is to be empty, gets lines 1 and 2 before they are answered, and
-/// each later line that is accepted.
+/// each later line that is accepted. Lines that wait together come into the file together.
 pub fn run_new<R: Piecewise, W: Sink, D: Disk>(
     alloc: Global,
     disk: D,
@@ -61,7 +61,7 @@ pub fn run_new<R: Piecewise, W: Sink, D: Disk>(
     // After a restart, what is read is what is on the disk.
     requires durable { IsTrue (D.Disk.is_clean disk) → Only (D.Disk.seen disk) (D.Disk.may_leave disk) }
     // The file is as it was, with the cause; or it was empty, what was written is the answers, and of the lines those that were
-    // accepted are on the disk: each whose answer was begun, and at most one more.
+    // accepted are on the disk: each whose answer was begun, and at most those of one more group.
     ensures output { NotBegun D.Disk.seen D.Disk.may_leave D.Disk.is_clean D.Disk.is_usable D.Disk.faults result.status disk result.disk (R.left source.old) (R.left source.new) (W.written sink.old) (W.written sink.new) (R.faults source.old) (R.faults source.new) (W.faults sink.old) (W.faults sink.new)
         ⊎ Begun D.Disk.seen D.Disk.may_leave D.Disk.is_clean D.Disk.is_usable D.Disk.faults result.status disk result.disk (R.left source.old) (R.left source.new) (W.written sink.old) (W.written sink.new) (R.faults source.old) (R.faults source.new) (W.faults sink.old) (W.faults sink.new) }
     // Whatever stops, a crash leaves a file with a talk behind its lines, or as it was.
@@ -83,13 +83,13 @@ pub fn run_new<R: Piecewise, W: Sink, D: Disk>(
             };
         }
     }
-    let (Ok(spare), Ok(lines)) = (Spare::new(alloc), LineReader::new(alloc)) else {
+    let Ok(lines) = LineReader::new(alloc) else {
         return Ended {
             status: FileStatus::Served(Status::NoMemory),
             disk,
         };
     };
-    let kept = Kept::new(spare, disk);
+    let kept = Kept::new(disk);
     keep(alloc, kept, lines, source, sink)
 }
 
@@ -104,7 +104,8 @@ pub fn run_open<R: Piecewise, W: Sink, D: Disk>(
     // After a restart, what is read is what is on the disk.
     requires durable { IsTrue (D.Disk.is_clean disk) → Only (D.Disk.seen disk) (D.Disk.may_leave disk) }
     // The file is as it was, with the cause; or a talk stands behind its lines, what was written is that it does, and the answers,
-    // and the file has the lines from before and those that were accepted: each whose answer was begun, and at most one more.
+    // and the file has the lines from before and those that were accepted: each whose answer was begun, and at most those of one
+    // more group.
     ensures output { NotOpened D.Disk.seen D.Disk.may_leave D.Disk.is_clean D.Disk.is_usable D.Disk.faults result.status disk result.disk (R.left source.old) (R.left source.new) (W.written sink.old) (W.written sink.new) (R.faults source.old) (R.faults source.new) (W.faults sink.old) (W.faults sink.new)
         ⊎ (NotSaid D.Disk.seen D.Disk.may_leave D.Disk.is_clean D.Disk.is_usable D.Disk.faults result.status disk result.disk (R.left source.old) (R.left source.new) (W.written sink.old) (W.written sink.new) (R.faults source.old) (R.faults source.new) (W.faults sink.old) (W.faults sink.new)
         ⊎ Resumed D.Disk.seen D.Disk.may_leave D.Disk.is_clean D.Disk.is_usable D.Disk.faults result.status disk result.disk (R.left source.old) (R.left source.new) (W.written sink.old) (W.written sink.new) (R.faults source.old) (R.faults source.new) (W.faults sink.old) (W.faults sink.new)) }
@@ -121,11 +122,7 @@ pub fn run_open<R: Piecewise, W: Sink, D: Disk>(
             };
         }
     };
-    let (Ok(spare), Ok(lines), Ok(text)) = (
-        Spare::new(alloc),
-        LineReader::new(alloc),
-        resumed_text(alloc, &opened.talk),
-    ) else {
+    let (Ok(lines), Ok(text)) = (LineReader::new(alloc), resumed_text(alloc, &opened.talk)) else {
         return Ended {
             status: FileStatus::Served(Status::NoMemory),
             disk,
@@ -137,7 +134,7 @@ pub fn run_open<R: Piecewise, W: Sink, D: Disk>(
             disk,
         };
     }
-    let kept = Kept::resume(spare, disk, opened);
+    let kept = Kept::resume(disk, opened);
     keep(alloc, kept, lines, source, sink)
 }
 
@@ -178,7 +175,7 @@ fn keep<R: Piecewise, W: Sink, D: Disk>(
     sink: &mut W,
 ) -> Ended<D>
     requires good { IsGoodKept D.Disk.seen D.Disk.may_leave D.Disk.is_clean D.Disk.is_usable kept }
-    requires up { IsSome kept.words }
+    requires up { kept.failed ≡ false }
     requires unread { lines.unread ≡ [] }
     ensures talked { KeptTalked D.Disk.seen D.Disk.may_leave D.Disk.is_clean D.Disk.is_usable D.Disk.faults result.status kept.talk (accepted D.Disk.seen kept) kept.journal.disk result.disk (R.left source.old) (R.left source.new) (W.written sink.old) (W.written sink.new) (R.faults source.old) (R.faults source.new) (W.faults sink.old) (W.faults sink.new) }
     ensures again { LeavesSome D.Disk.may_leave D.Disk.is_clean result.disk }
@@ -186,7 +183,7 @@ fn keep<R: Piecewise, W: Sink, D: Disk>(
     let mut kept = kept;
     let mut lines = lines;
     let served = serve_kept(alloc, &mut kept, &mut lines, source, sink);
-    let status = status_of_kept(served, kept.talk.is_open(), kept.words.is_none());
+    let status = status_of_kept(served, kept.talk.is_open(), kept.failed);
     let Kept { journal, .. } = kept;
     Ended {
         status,

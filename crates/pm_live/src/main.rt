@@ -1,9 +1,10 @@
 //! An authority that answers lines: an editor's server writes messages to standard input, and reads the answers from standard
-//! output. With `new FILE` or `open FILE` what it accepts is kept in a file.
+//! output. With `new FILE` or `open FILE` what it accepts is kept in a file, and with `many` it is a house of many documents.
 #![tactic(auto)]
 
 mod call;
 mod keeping;
+mod many;
 mod status;
 
 use call::run;
@@ -16,13 +17,18 @@ use std::rt::Env;
 use std::{env, fs, io};
 
 /// Answers the lines of standard input on standard output. With no words it keeps them in memory; `new FILE` and `open FILE` keep
-/// each that is accepted in the file before it is answered. It tells a status from 2 on by one line on standard error, and ends with
-/// the status's number.
+/// each that is accepted in the file before it is answered; with `many` each line says to which document it speaks. It tells a status
+/// from 2 on by one line on standard error, and ends with the status's number.
 fn main(rt: HostRuntime) -> io::Result<ExitCode> {
     let status = match words_of(&rt) {
         Ok(words) => match task_of(&words) {
             Task::New(path) => return over_file(&rt, path, true, Unknown),
             Task::Open(path) => return over_file(&rt, path, false, Unknown),
+            Task::Many => {
+                let mut source = StdSource::new(rt.stdin());
+                let mut sink = StdSink::new(rt.stdout());
+                many::run(rt.alloc(), &mut source, &mut sink)
+            }
             Task::Other => {
                 let mut source = StdSource::new(rt.stdin());
                 let mut sink = StdSink::new(rt.stdout());
@@ -44,12 +50,17 @@ enum Task<'a> {
     New(&'a str),
     /// To go on behind the lines of this file.
     Open(&'a str),
-    /// To answer without a file, or nothing that there is.
+    /// To answer for many documents, without a file.
+    Many,
+    /// To answer for one document without a file, or nothing that there is.
     Other,
 }
 
 /// What the words ask.
 fn task_of(words: &[String]) -> Task<'_> {
+    if words.len() == 1 && words[0].as_str() == "many" {
+        return Task::Many;
+    }
     if words.len() != 2 {
         return Task::Other;
     }
@@ -64,7 +75,9 @@ fn task_of(words: &[String]) -> Task<'_> {
 fn tell(rt: &HostRuntime, status: Status) {
     let _told = match status {
         Status::Done | Status::Refused => Ok(()),
-        Status::Usage => eprintln!(rt; "usage: pm_live, pm_live new FILE or pm_live open FILE"),
+        Status::Usage => eprintln!(rt;
+            "usage: pm_live, pm_live many, pm_live new FILE or pm_live open FILE"
+        ),
         Status::ReadFault => eprintln!(rt; "read fault"),
         Status::WriteFault => eprintln!(rt; "write fault"),
         Status::NoMemory => eprintln!(rt; "no memory"),

@@ -1,7 +1,7 @@
 -- What splicing gives.
 use Rattle.std.specs.Prelude.{◌≡◌, ◌≤◌, ℕ, Bool, true, false, List, [], length, Result, MatchResult}
 use Rattle.pm_tokens.specs.Tokens.{Token, Doc, with_tokens}
-use Rattle.pm_tokens.specs.Scan.{Owned, plain, joins}
+use Rattle.pm_tokens.specs.Scan.{Owned, plain, joins, owned, Balanced}
 use Rattle.pm_tokens.specs.Schemas.{Schema, compatible, max_size}
 use Rattle.pm_build.specs.Fed.{ForJoin}
 use Rattle.pm_build.specs.declared.refused.Refused.{Refused}
@@ -15,6 +15,11 @@ use Rattle.pm_meaning.specs.Outcomes.{unless, checked}
 -- the list joins and these are its tokens, or it does not join; running out of memory may come with any
 abbrev pub Splices : (ℕ → ℕ → Bool) → List Owned → Result (List Token) Refused → Type 0
 Splices c piece r = MatchResult r (λ ts. (joins c [] piece ≡ true) × (ts ≡ plain piece)) (ForJoin (joins c [] piece ≡ false))
+
+-- the list is these tokens, a whole number of nodes, with their own owners
+pub record IsWhole (piece : List Owned) (ts : List Token) : Type 0 where
+  pub owners : piece ≡ owned [] ts
+  pub whole : Balanced ts
 
 -- the list joins, or it does not
 abbrev pub Joins : (ℕ → ℕ → Bool) → List Owned → Result (Unit {0}) Refused → Type 0

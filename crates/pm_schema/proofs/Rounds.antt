@@ -23,7 +23,7 @@ made-is n a table b r c f = (
   (λ m. f.1 record { list = m.list; makeable = m.of_table; ends = r.accepts m.list ∙ m.fit }),
 )
 
-falses-set : (bs : List Bool) (i : ℕ) → i < length bs → get_or bs i false ≡ false → falses (set bs i true) < falses bs
+pub falses-set : (bs : List Bool) (i : ℕ) → i < length bs → get_or bs i false ≡ false → falses (set bs i true) < falses bs
 falses-set [] i l e = absurd (omega arith)
 falses-set (true ∷ bs) zero l e = absurd (cc)
 falses-set (false ∷ bs) zero l e = omega arith
@@ -60,7 +60,7 @@ all-filled nodes table f (k ∷ w) h =
     and_type k w (f k b.0) (all-filled nodes table f w b.1)
 
 -- a type that is made of types that can be filled can be filled
-filled-more : (nodes : List NodeSpec) (table : List Bool) (i : ℕ) → i < length nodes → IsMade (nth nodes i) table → HasFilled nodes table → HasFilled nodes (set table i true)
+pub filled-more : (nodes : List NodeSpec) (table : List Bool) (i : ℕ) → i < length nodes → IsMade (nth nodes i) table → HasFilled nodes table → HasFilled nodes (set table i true)
 filled-more nodes table i l m f j h = at (has-set table i j h)
   where
     at : (i ≡ j) ⊎ Has table j → CanBeFilled nodes j

@@ -1,5 +1,5 @@
 //! The types that can be made with all that stands in them.
-ghost use Rattle.std.specs.Prelude.{◌≡◌, ◌<◌, ◌↔◌, true, false, length, IfOk};
+ghost use Rattle.std.specs.Prelude.{◌≡◌, ◌<◌, ◌≤◌, ◌↔◌, true, false, length, IfOk};
 ghost use Rattle.pm_schema.specs.Contents.{Runs, All_run};
 ghost use Rattle.pm_schema.specs.Generated.{IsMade, IsClosed, HasFilled, IsGeneratable, falses};
 
@@ -44,8 +44,73 @@ fn widen(
     Ok(more)
 }
 
-/// For each type whether it is generatable: the least table that has each type which is made from its types. Each round
-/// adds at least one type, and asks each automaton at most once.
+/// Adds the type where it is made from types of the table.
+fn add(
+    alloc: Global,
+    nodes: &[NodeSpec],
+    autos: &[Auto],
+    table: &mut [bool],
+    k: usize,
+) -> Result<(), AllocError>
+    requires runs { All_run nodes.now autos.now }
+    requires autos { length autos.now ≡ length nodes.now }
+    requires table { length table.old ≡ length nodes.now }
+    requires within { k < length nodes.now }
+    ensures filled { HasFilled nodes.now table.old → HasFilled nodes.now table.new }
+    ensures fewer { falses table.new ≤ falses table.old }
+{
+    if table[k] {
+        return Ok(());
+    }
+    let made = is_made(alloc, &nodes[k], &autos[k], table)?;
+    if !made {
+        return Ok(());
+    }
+    table[k] = true;
+    Ok(())
+}
+
+/// Adds types that are made from types of the table, from the last to the first, so that types that each need the next one
+/// take one round.
+fn widen_back(
+    alloc: Global,
+    nodes: &[NodeSpec],
+    autos: &[Auto],
+    table: &mut [bool],
+) -> Result<(), AllocError>
+    requires runs { All_run nodes.now autos.now }
+    requires autos { length autos.now ≡ length nodes.now }
+    requires table { length table.old ≡ length nodes.now }
+    ensures filled { HasFilled nodes.now table.old → HasFilled nodes.now table.new }
+    ensures fewer { falses table.new ≤ falses table.old }
+{
+    let count = nodes.len();
+    for k in 0..count {
+        add(alloc, nodes, autos, table, count - 1 - k)?;
+    }
+    Ok(())
+}
+
+/// Goes through the types back and forth. Whether the way forth added one.
+fn back_and_forth(
+    alloc: Global,
+    nodes: &[NodeSpec],
+    autos: &[Auto],
+    table: &mut [bool],
+) -> Result<bool, AllocError>
+    requires runs { All_run nodes.now autos.now }
+    requires autos { length autos.now ≡ length nodes.now }
+    requires table { length table.old ≡ length nodes.now }
+    ensures filled { HasFilled nodes.now table.old → HasFilled nodes.now table.new }
+    ensures more { IfOk result (λ more. more ≡ true → falses table.new < falses table.old) }
+    ensures closed { IfOk result (λ more. more ≡ false → IsClosed nodes.now table.new) }
+{
+    widen_back(alloc, nodes, autos, table)?;
+    widen(alloc, nodes, autos, table)
+}
+
+/// For each type whether it is generatable: the least table that has each type which is made from its types. Each round goes
+/// through the types back and forth, adds at least one, and asks each automaton at most twice.
 pub fn generatable(
     alloc: Global,
     nodes: &[NodeSpec],
@@ -57,7 +122,7 @@ pub fn generatable(
 {
     let mut table = vec![in alloc; false; nodes.len()]?;
     'rounds: loop {
-        let more = widen(alloc, nodes, autos, table.as_mut_slice())?;
+        let more = back_and_forth(alloc, nodes, autos, table.as_mut_slice())?;
         if !more {
             return Ok(Listed::from_vec(table));
         }

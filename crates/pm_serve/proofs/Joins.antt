@@ -11,15 +11,15 @@ use Rattle.pm_serve.specs.Reads.{most}
 use Rattle.pm_serve.specs.Serves.{Answers, SoFar, OverBy, Serves}
 use Rattle.pm_serve.proofs.Steps.{none-taken, none-added}
 
-with_lf-append : (lines more : List (List ℕ)) → with_lf (lines ++ more) ≡ with_lf lines ++ with_lf more
+pub with_lf-append : (lines more : List (List ℕ)) → with_lf (lines ++ more) ≡ with_lf lines ++ with_lf more
 with_lf-append [] more = refl
 with_lf-append (l ∷ lines) more = ap (λ r. l ++ 10 ∷ r) (with_lf-append lines more) ∙ sym (append_assoc l (10 ∷ with_lf lines) (with_lf more))
 
-lines-append : (lines more : List (List ℕ)) → AreLines lines → AreLines more → AreLines (lines ++ more)
+pub lines-append : (lines more : List (List ℕ)) → AreLines lines → AreLines more → AreLines (lines ++ more)
 lines-append [] more h m = m
 lines-append (l ∷ lines) more h m = (h.0, lines-append lines more h.1 m)
 
-split-append : (before taken later now after : List ℕ) (lines more : List (List ℕ)) → before ++ taken ≡ with_lf lines ++ now → now ++ later ≡ with_lf more ++ after
+pub split-append : (before taken later now after : List ℕ) (lines more : List (List ℕ)) → before ++ taken ≡ with_lf lines ++ now → now ++ later ≡ with_lf more ++ after
     → before ++ (taken ++ later) ≡ with_lf (lines ++ more) ++ after
 split-append before taken later now after lines more e f =
     sym (append_assoc before taken later) ∙ ap (λ r. r ++ later) e ∙ append_assoc (with_lf lines) now later ∙ ap (λ r. with_lf lines ++ r) f

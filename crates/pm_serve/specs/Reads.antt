@@ -1,5 +1,5 @@
 -- How a line is read.
-use Rattle.std.specs.Prelude.{◌≡◌, ◌≢◌, ◌≤◌, ◌-◌, ◌^◌, ℕ, false, List, [], ◌∷◌, ◌++◌, length, take, Option}
+use Rattle.std.specs.Prelude.{◌≡◌, ◌≢◌, ◌≤◌, ◌-◌, ◌^◌, ℕ, Bool, true, false, List, [], ◌∷◌, ◌++◌, length, take, Option}
 use Rattle.std.specs.Io.KnownBytes.{Consumes, IsAtEnd}
 use Rattle.pm_io.specs.Faults.{Rose}
 use Rattle.pm_serve.specs.declared.unread.TheConstants.{KEPT}
@@ -63,6 +63,18 @@ ReadFaults Last old new = new ≡ old
 ReadFaults End old new = new ≡ old
 ReadFaults Failed old new = Rose old new
 ReadFaults Spent old new = new ≡ old
+
+-- A whole line was there, and was taken.
+pub record WasWaiting (before after line : List ℕ) : Type 0 where
+  pub whole : List ℕ
+  pub split : before ≡ whole ++ 10 ∷ after
+  pub one : has_lf whole ≡ false
+  pub kept : line ≡ take KEPT whole
+
+-- the next line was taken where it was there whole; where it was not, nothing was
+abbrev pub TakesWaiting : Bool → List ℕ → List ℕ → List ℕ → Type 0
+TakesWaiting true before after line = WasWaiting before after line
+TakesWaiting false before after line = (after ≡ before) × (has_lf before ≡ false)
 
 -- at the end of input: whether there is a last line
 abbrev pub IsLast : Came → List ℕ → Type 0

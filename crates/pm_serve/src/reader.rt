@@ -1,5 +1,5 @@
 //! A reader of lines.
-ghost use Rattle.pm_serve.specs.Reads.{Reads, ReadFaults, IsLast};
+ghost use Rattle.pm_serve.specs.Reads.{Reads, ReadFaults, IsLast, TakesWaiting};
 ghost use Rattle.pm_serve.specs.Pieces.{AskedInTime};
 
 use crate::piecewise::Piecewise;
@@ -51,6 +51,17 @@ impl LineReader {
         ensures in_time { AskedInTime self.old.unread (R.pieces source.old) (R.pieces source.new) }
     {
         next_line(source, &mut self.unread, &mut self.line)
+    }
+
+    /// Takes the next line as `next` does where it is there whole, and says whether it is. Nothing is read.
+    pub fn take_waiting(&mut self) -> bool
+        ensures { TakesWaiting result self.old.unread self.new.unread self.new.line }
+    {
+        self.unread.has_line()
+            && {
+                self.line.clear();
+                matches!(self.unread.pass_on(&mut self.line), Passing::Line)
+            }
     }
 }
 

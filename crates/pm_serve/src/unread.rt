@@ -48,7 +48,7 @@ pub enum Filled {
 
 impl Unread {
     ghost use Rattle.std.specs.Prelude.{◌≡◌, ◌≢◌, ◌∷◌, ◌++◌, [], IfOk};
-    ghost use Rattle.pm_serve.specs.Bytes.{CameOf, FaultsOf, Passes};
+    ghost use Rattle.pm_serve.specs.Bytes.{CameOf, FaultsOf, Passes, has_lf};
     ghost use Rattle.pm_serve.specs.Pieces.{Gave};
 
     /// No bytes, with room for a piece.
@@ -81,6 +81,13 @@ impl Unread {
         }
     }
 
+    /// Whether a whole line is there.
+    pub fn has_line(&self) -> bool
+        ensures { result ≡ has_lf self.now }
+    {
+        has_end(&self.piece[self.at..self.end])
+    }
+
     /// Passes the bytes up to the first LF on to the line, and drops the LF. Where there is none, all bytes are passed on.
     pub fn pass_on(&mut self, line: &mut Kept) -> Passing
         ensures { Passes result self.old self.new line.old line.new }
@@ -108,7 +115,7 @@ pub enum Passing {
 }
 
 ghost use Rattle.std.specs.Prelude.{◌≡◌, ◌==◌, MatchOption, position};
-ghost use Rattle.pm_serve.specs.Bytes.{PassedOf, PassedWhole};
+ghost use Rattle.pm_serve.specs.Bytes.{PassedOf, PassedWhole, has_lf};
 
 /// Passes bytes up to the first LF on to the line, and says how many they are with the LF. Where there is none, all bytes are
 /// passed on.
@@ -125,6 +132,13 @@ fn pass(bytes: &[u8], line: &mut Kept) -> Option<usize>
             None
         }
     }
+}
+
+/// Whether there is an LF.
+fn has_end(bytes: &[u8]) -> bool
+    ensures { result ≡ has_lf bytes.now }
+{
+    bytes.iter().any(|b| *b == LF)
 }
 
 /// The place of the first LF.

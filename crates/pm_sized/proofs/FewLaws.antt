@@ -4,7 +4,7 @@ use Rattle.std.specs.declared.sync.Arc.{Arc}
 use Rattle.std.specs.declared.alloc.Global.{Global}
 use Rattle.std.specs.Arc.{arc_value}
 use Rattle.std.proofs.Common.{zero, suc, ap, sym, ◌∙◌, subst, arith, length-append}
-use Rattle.std.proofs.lemmas.List.{take_more}
+use Rattle.std.proofs.lemmas.List.{take_more, get_or_default}
 use Rattle.pm_sized.specs.declared.few.Few.{Few}
 use Rattle.pm_sized.specs.declared.chunks.Chunks.{Chunks}
 use Rattle.pm_sized.specs.declared.chunks.Chunks.TheVariants.{Few as AsFew, Many as AsMany, Groups as AsGroups}
@@ -102,6 +102,13 @@ values-push ps qs x m e = ap values_in e ∙ values-append ps ((x, m) ∷ [])
 -- one value
 pub one-value : {T : Type 0} (ps : List (Arc T Global × ℕ)) (i : ℕ) (p : Arc T Global × ℕ) → i < length ps → p ≡ get_or ps i p → part i (i + 1) (values_in ps) ≡ (arc_value p.0, p.1) ∷ []
 one-value ps i p l e = sym (values-part i (i + 1) ps) ∙ ap values_in (part-one i ps p l e)
+
+-- an item and its measure
+pub entry-is : {T : Type 0} (ps : List (Arc T Global × ℕ)) (i : ℕ) (x : Arc T Global) (m : ℕ) → i < length ps → x ≡ (get_or {A = Arc T Global × ℕ} ps i (x, 0)).0 → m ≡ (get_or {A = Arc T Global × ℕ} ps i (x, 0)).1 → part i (i + 1) (values_in ps) ≡ (arc_value x, m) ∷ []
+entry-is {T} ps i x m l e f =
+    let d : Arc T Global × ℕ = get_or ps i (x, 0) in
+    let p : (x, m) ≡ d = ap (λ z. (z, m)) e ∙ ap (λ z. (d.0, z)) f in
+    one-value ps i (x, m) l (p ∙ get_or_default ps i (x, 0) (x, m) l)
 
 -- a search of items that are few
 pub few-steps : {T : Type 0} (c : Chunks T) (f : Few T) (before after : ℕ) → c ≡ AsFew f → IsLaid c → after ≤ before + length f.items.items → after ≤ before + find_bound (length (pairs_of c))

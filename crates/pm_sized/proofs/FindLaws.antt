@@ -185,3 +185,14 @@ item-at {T} s at c i j x a e l =
     ap (λ (z : List (T × ℕ)). (get_or {A = T × ℕ} z i d).0) a.split ∙ (ap (λ (z : ℕ). (get_or {A = T × ℕ} (A ++ (B ++ C)) z d).0) e
     ∙ (ap (λ (z : T × ℕ). z.0) (get_or-append-add A (B ++ C) j d ∙ get_or_append_left B C d j (omega (arith, l, a.count)))
     ∙ paired-item v.items.items (measures v.starts.items v.size) j x (length-measures v.starts.items v.size ∙ a.chunk.counted.same)))
+
+-- and its measure
+pub measure-among : {T : Type 0} (s : Many T) (at : ℕ) (c : Arc (Chunk T) Global) (i j : ℕ) (x : T) → Around s at c → i ≡ length (all_pairs (take at s.chunks.items)) + j → j < length (arc_value c).items.items → (get_or {A = T × ℕ} (many_pairs s) i (x, 0)).1 ≡ (get_or {A = T × ℕ} (chunk_pairs (arc_value c)) j (x, 0)).1
+measure-among {T} s at c i j x a e l =
+    let v = arc_value c in
+    let A = all_pairs (take at s.chunks.items) in
+    let B = chunk_pairs v in
+    let C = all_pairs (drop (at + 1) s.chunks.items) in
+    let d : T × ℕ = (x, 0) in
+    ap (λ (z : List (T × ℕ)). (get_or {A = T × ℕ} z i d).1) a.split ∙ (ap (λ (z : ℕ). (get_or {A = T × ℕ} (A ++ (B ++ C)) z d).1) e
+    ∙ ap (λ (z : T × ℕ). z.1) (get_or-append-add A (B ++ C) j d ∙ get_or_append_left B C d j (omega (arith, l, a.count))))

@@ -7,7 +7,7 @@ use crate::chunks::Chunks;
 use crate::few::Few;
 use crate::groups::Groups;
 use crate::halves::place;
-use crate::many::Many;
+use crate::many::{CHUNK, Many};
 use std::alloc::{AllocError, Global};
 use std::sync::Arc;
 
@@ -120,11 +120,52 @@ impl<T: Drop> Chunks<Arc<T, Global>> {
         ensures ok { IfOk result (λ n. Appended (values_of self.old) (many_values source.now) i to n (values_of self.new)) }
         ensures err { OnErr result (HasFirst (values_of self.old) (many_values source.now) i to (values_of self.new)) }
     {
+        if self.takes(source.left(i, to)) {
+            self.append_item(alloc, source, i)?;
+            return Ok(1);
+        }
         let chunk = source.run_at(alloc, i, to)?;
         let count = chunk.items.len();
         self.put(alloc, chunk)?;
         Ok(count)
     }
+
+    /// Whether so many items have room in the last chunk, which then grows by one after another, so that none is copied
+    /// twice. It takes no memory.
+    fn takes(&self, count: usize) -> bool {
+        match self {
+            Chunks::Few(_) | Chunks::Groups(_) => false,
+            Chunks::Many(many) => {
+                let chunks = many.chunks.len();
+                if chunks == 0 {
+                    return false;
+                }
+                let len = many.chunks[chunks - 1].items.len();
+                len < CHUNK && count <= CHUNK - len
+            }
+        }
+    }
+
+    /// Puts item `i` after the last one, shared with them.
+    fn append_item(
+        &mut self,
+        alloc: Global,
+        source: &Many<Arc<T, Global>>,
+        i: usize,
+    ) -> Result<(), AllocError>
+        requires laid { IsLaid self.old }
+        requires source { IsMany source.now }
+        requires within { i < length (many_values source.now) }
+        requires room { total_of (values_of self.old) + total_of (part i (i + 1) (many_values source.now)) < 2 ^ 32 }
+        ensures laid { IsLaid self.new }
+        ensures ok { OnOk result (values_of self.new ≡ values_of self.old ++ part i (i + 1) (many_values source.now)) }
+        ensures err { OnErr result (values_of self.new ≡ values_of self.old) }
+    {
+        let item = Arc::try_clone(source.item(i))?;
+        self.push(alloc, item, source.measure(i))?;
+        Ok(())
+    }
+
     /// Puts after the last item those from item `i` on that lie in its part and before `to`, all at once where they are a
     /// whole part that can be shared, else those of a chunk. It answers how many.
     fn append_part(

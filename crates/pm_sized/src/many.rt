@@ -86,6 +86,31 @@ impl<T> Many<T> {
         &self.chunks[at].items[i - self.firsts[at]]
     }
 
+    /// The measure of item `i`, counted from 0. It takes no memory.
+    pub(crate) fn measure(&self, i: usize) -> usize
+        requires laid { IsMany self.now }
+        requires within { i < length (many_pairs self.now) }
+        ensures is { (x : T) → result ≡ (get_or (many_pairs self.now) i (x, 0)).1 }
+        ensures some { 1 ≤ result }
+    {
+        let at = place(&self.firsts, i);
+        self.chunks[at].measure(i - self.firsts[at])
+    }
+
+    /// How many items from item `i` on lie in its chunk and before `to`. It takes no memory.
+    pub(crate) fn left(&self, i: usize, to: usize) -> usize
+        requires laid { IsMany self.now }
+        requires within { i < length (many_pairs self.now) }
+    {
+        let at = place(&self.firsts, i);
+        let before = i.saturating_sub(self.firsts[at]);
+        self.chunks[at]
+            .items
+            .len()
+            .saturating_sub(before)
+            .min(to.saturating_sub(i))
+    }
+
     /// Appends a chunk, which is shared, where each chunk has 32 items or more. Out of memory, the chunks
     /// stay as they were.
     pub(crate) fn push_chunk(&mut self, chunk: Arc<Chunk<T>, Global>) -> Result<(), AllocError>

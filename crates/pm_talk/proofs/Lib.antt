@@ -6,3 +6,4 @@ pub mod Accepting
 pub mod Submitting
 pub mod Opens
 pub mod Heard
+pub mod IdLaws

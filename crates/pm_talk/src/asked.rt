@@ -4,6 +4,7 @@ ghost use Rattle.serde_json.specs.View.{view};
 ghost use Rattle.pm_head.specs.Answers.{Gives};
 ghost use Rattle.pm_talk.specs.Asked.{submit_in, since_in, asked_of, asked_line, word_in, word_named};
 
+use crate::at_once::asked_at_once;
 use crate::fields::id_in;
 use pm_apply::DocChange;
 use pm_head::{Code, LineError, json_line};
@@ -37,6 +38,9 @@ pub enum Asked {
 pub(crate) fn asked_line(alloc: Global, schema: &Schema, line: &[u8]) -> Result<Asked, LineError>
     ensures { Gives (λ a. a) result (asked_line schema.now.spec line.now) }
 {
+    if let Some(asked) = asked_at_once(alloc, schema, line)? {
+        return Ok(asked);
+    }
     let json = json_line(alloc, line)?;
     asked_of(alloc, schema, &json)
 }
@@ -71,7 +75,7 @@ fn word_in(json: &Value) -> Result<Word, LineError>
     }
 }
 
-fn word_named(text: &str) -> Option<Word>
+pub(crate) fn word_named(text: &str) -> Option<Word>
     ensures { result ≡ word_named text.now }
 {
     if text == "submit" {

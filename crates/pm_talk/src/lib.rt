@@ -13,6 +13,7 @@
 #![tactic(auto)]
 
 mod asked;
+mod at_once;
 mod fields;
 mod ids;
 mod live;

@@ -180,8 +180,18 @@ fn short_part(alloc: Global, pieces: &Pieces, from: usize, to: usize) -> Result<
     requires within { to ≤ length (text_in pieces.now) }
     ensures { IfOk result (λ p. piece_units p ≡ take (to - from) (drop from (text_in pieces.now))) }
 {
-    let units = pieces.list(alloc, from, to)?;
-    Piece::of_units(alloc, &units)
+    let mut made = Piece::new(alloc);
+    let mut at = from;
+    while at < to {
+        let place = pieces.place(at);
+        let piece = pieces.piece(place.index);
+        let end = piece.len().min(place.rest + (to - at));
+        let part = piece.part(alloc, place.rest, end)?;
+        let joined = made.joined(alloc, &part)?;
+        made = joined;
+        at += end - place.rest;
+    }
+    Ok(made)
 }
 
 /// These units in pieces of 1,024 but the last.

@@ -1,4 +1,4 @@
-use Rattle.std.proofs.Common.{◌≡◌, ◌++◌, ◌+◌, ◌<◌, [], ◌∷◌, List, ℕ, true, length, map, take, get_or, sym, subst, ap, arith, ◌∙◌, rules}
+use Rattle.std.proofs.Common.{◌≡◌, ◌++◌, ◌+◌, ◌<◌, [], ◌∷◌, List, ℕ, length, map, take, get_or, sym, subst, ap, arith, ◌∙◌, rules}
 use Rattle.std.proofs.lemmas.List.{take_more, length-map, get_or-map}
 use Rattle.pm_talk.specs.declared.talk.Talk.TheVariants.{AwaitsSchema}
 use Rattle.pm_kept.specs.Behind.{Behind}

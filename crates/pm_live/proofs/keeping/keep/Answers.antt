@@ -1,9 +1,8 @@
 use Rattle.std.proofs.Common.{◌∙◌, ℕ, Bool, List, refl, ap, subst}
 use Rattle.pm_talk.specs.Talk.{is_open}
 use Rattle.pm_kept.specs.Runs.{KeptRun}
-use Rattle.pm_kept.proofs.Stands.{up_leaves}
+use Rattle.pm_kept.proofs.Files.{up_leaves}
 use Rattle.pm_live.specs.Keeping.{file_status_of}
-use Rattle.pm_live.proofs.Files.{none_is}
 use Rattle.pm_live.proofs.keeping.keep.Goals as goal
 
 pub returns-clause-talked : goal.returns-clause-talked
@@ -22,7 +21,7 @@ returns-clause-talked g c =
       unread = c.serve_kept-served.new.lines.unread;
       begins = refl;
       over = refl;
-      before = refl;
+      before = λ clean. refl;
       up = c.requires.up;
       was_good = c.requires.good;
       run = subst (λ (before : List ℕ). KeptRun seen may_leave is_clean faults served c.args.kept end (g.R.Source.left c.args.source.now)
@@ -30,10 +29,10 @@ returns-clause-talked g c =
       ends = c.serve_kept-served.ensures.faults;
       good = c.serve_kept-served.ensures.good;
       gives = refl;
-      says = c.status_of_kept-status.ensures ∙ ap (λ (b : Bool). file_status_of served b c.is_none.result) c.is_open.ensures ∙ ap (λ (b : Bool). file_status_of served (is_open end.talk) b) (none_is end.words c.is_none.result c.is_none.ensures);
+      says = c.status_of_kept-status.ensures ∙ ap (λ (b : Bool). file_status_of served b end.failed) c.is_open.ensures;
     }
 
 pub returns-clause-again : goal.returns-clause-again
 returns-clause-again g c =
     let end = c.serve_kept-served.new.kept in
-    up_leaves g.D.Disk.seen g.D.Disk.may_leave g.D.Disk.is_clean g.D.Disk.is_usable end.words end.talk end.opening end.journal c.serve_kept-served.ensures.good.up
+    up_leaves g.D.Disk.seen g.D.Disk.may_leave g.D.Disk.is_clean g.D.Disk.is_usable end.failed end.talk end.held end.journal c.serve_kept-served.ensures.good.up

@@ -1,5 +1,5 @@
-use Rattle.std.proofs.Common.{inr, refl, rules, sym, ◌∙◌}
-use Rattle.pm_live.proofs.Files.{durable, begun_at, none_before}
+use Rattle.std.proofs.Common.{[], inr, refl, rules, sym, ◌∙◌}
+use Rattle.pm_live.proofs.Files.{durable, begun_at, lines_before}
 use Rattle.pm_live.proofs.keeping.run_new.Goals as goal
 
 pub new-kept-requires-clause-durable : goal.new-kept-requires-clause-durable
@@ -19,7 +19,7 @@ returns-clause-output g c =
       untouched = record { same = c.is_blank.ensures.seen; crash = c.is_blank.ensures.crash };
       empty = λ clean. sym c.is_blank.ensures.seen ∙ search rules;
       talked = begun_at seen may_leave is_clean is_usable faults c.keep.result.status kept.talk _ _ _ kept.journal.disk c.is_blank.new.disk c.keep.result.disk _ _ _ _ _ _ _ _ _
-          c.new-kept.ensures.talk (none_before seen kept c.new-kept.ensures.talk) c.new-kept.ensures.disk refl c.keep.ensures.talked;
+          c.new-kept.ensures.talk (λ clean. lines_before seen kept c.is_blank.new.disk [] c.new-kept.ensures.held c.new-kept.ensures.disk (search rules)) c.new-kept.ensures.disk refl c.keep.ensures.talked;
     }
 
 pub returns-clause-again : goal.returns-clause-again

@@ -29,7 +29,7 @@ returns-clause-output g c =
       said = g.W.Sink.written c.write_all.new.sink;
       says = search rules;
       talked = begun_at seen may_leave is_clean is_usable faults c.keep.result.status kept.talk opened.talk _ _ kept.journal.disk c.open.new.disk c.keep.result.disk _ _ _ _ _ _ _ _ _
-          c.resume-kept.ensures.talk (lines_before seen kept opened.talk c.open.new.disk (seen c.args.disk) c.resume-kept.ensures.talk c.in-Ok.ensures.open c.resume-kept.ensures.disk c.open.ensures.seen)
+          c.resume-kept.ensures.talk (λ clean. lines_before seen kept c.open.new.disk (seen c.args.disk) c.resume-kept.ensures.held c.resume-kept.ensures.disk c.open.ensures.seen)
           c.resume-kept.ensures.disk still c.keep.ensures.talked;
     })
 
@@ -58,7 +58,7 @@ pub returns-then-is_err-clause-output : goal.returns-then-is_err-clause-output
 returns-then-is_err-clause-output g c =
     let seen = g.D.Disk.seen in
     let opened = c.in-Ok.opened in
-    let text : c.as_bytes.result.now ≡ resumed_text opened.talk = c.as_bytes.ensures.value ∙ c.in-Ok-Ok-Ok.ensures'' in
+    let text : c.as_bytes.result.now ≡ resumed_text opened.talk = c.as_bytes.ensures.value ∙ c.in-Ok-Ok.ensures' in
     let failed : is_err c.write_all.result ≡ true = search rules in
     let front = on_err c.write_all.result _ failed c.write_all.ensures.front in
     let part : FrontWritten c.as_bytes.result.now (g.W.Sink.written c.args.sink.now) (g.W.Sink.written c.write_all.new.sink) =

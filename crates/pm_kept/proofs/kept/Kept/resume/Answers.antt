@@ -1,10 +1,10 @@
-use Rattle.std.proofs.Common.{IsTrue, sym, subst, ◌∙◌, ap}
+use Rattle.std.proofs.Common.{IsTrue, refl, sym, subst, ◌∙◌, ap}
 use Rattle.pm_talk.specs.declared.talk.Talk.TheVariants.{AwaitsSchema}
 use Rattle.pm_journal.specs.Lines.{recorded}
 use Rattle.pm_journal.specs.Journal.{texts}
 use Rattle.pm_journal.proofs.Lines.{at_rest_recorded}
 use Rattle.pm_kept.specs.Behind.{Behind}
-use Rattle.pm_kept.proofs.Stands.{resumed}
+use Rattle.pm_kept.proofs.Files.{resumed}
 use Rattle.pm_kept.proofs.kept.Kept.resume.Goals as goal
 
 pub returns-clause-good : goal.returns-clause-good
@@ -20,5 +20,5 @@ returns-clause-good g c =
     subst (λ ls. Behind ls AwaitsSchema opened.talk) (sym lines) c.requires.stands) in
     record {
       talk = c.requires.talk;
-      up = (c.requires.spare, resumed seen g.D.Disk.may_leave g.D.Disk.is_clean g.D.Disk.is_usable opened.talk c.args.spare.opening journal c.requires.open c.resume-journal.ensures.open stands);
+      up = (resumed seen g.D.Disk.may_leave g.D.Disk.is_clean g.D.Disk.is_usable opened.talk journal c.requires.open c.resume-journal.ensures.open stands, λ opens. refl);
     }

@@ -1,0 +1,24 @@
+//! One document of a house: the document, its log from a first kept version on, and the IDs of the clients in it.
+//!
+//! The main call is `Archive::answer`, which answers a line to the document.
+//!
+//! Proved: what a line is answered, and what the document and its log are then (`answered`). Out of memory changes nothing. Both
+//! documents stay valid, and the log leads from the first kept one to the last (`IsArchive`). A submission is accepted exactly
+//! where there is room for its ID, its version is the document's and its steps apply (`AcceptsExactly`); a line with a fault
+//! changes nothing (`FaultsChangeNothing`).
+//!
+//! Not proved: that there is memory.
+#![tactic(auto)]
+
+mod answering;
+mod archive;
+mod presenting;
+mod shared;
+mod texts;
+mod theorems;
+mod writing;
+
+pub use archive::Archive;
+pub use shared::Shared;
+pub use texts::opened_text;
+pub use theorems::laws;

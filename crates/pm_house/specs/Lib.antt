@@ -1,0 +1,5 @@
+pub mod Found
+pub mod Texts
+pub mod Houses
+pub mod Replies
+pub mod Turns

@@ -1,0 +1,7 @@
+pub mod Words
+pub mod Names
+pub mod Fields
+pub mod Openings
+pub mod Namings
+pub mod Wishes
+pub mod Values
