@@ -55,6 +55,10 @@ def content(text, more=()):
     return [{"name": "doc", "content": text}, BASE[1], {"name": "l"}, BASE[3], *more]
 
 
+def in_group(count):
+    return [{"name": f"g{it}", "group": "g"} for it in range(count)]
+
+
 row("lists within one another in a line, bytes", "check", 250_000)(lambda n: session(doc="[" * n))
 row("objects within one another in a line, bytes", "check", 250_000)(lambda n: session(doc='{"":' * (n // 4)))
 row("lists and objects within one another, 126 deep, bytes", "check", 250_000)(
@@ -117,6 +121,18 @@ row("types that each lead on to a place of their own", "check", 249)(
         )
     )
 )
+row("types of a group, each an edge at 990 states", "check", 250)(
+    lambda n: session(content("p", [*in_group(n), {"name": "t", "content": "(g((p?){31}){32})*"}]))
+)
+row("types of one content, with 200,000 edges each", "check", 5)(
+    lambda n: session(content("p", [*in_group(200), *({"name": f"t{it}", "content": "(g((p?){31}){32})*"} for it in range(n))]))
+)
+row("a group's name, as often as it has types", "check", 250)(
+    lambda n: session(content("p", [*in_group(n), {"name": "t", "content": "g " * n}]))
+)
+row("a group of marks behind as many others, as often", "check", 1_000)(
+    lambda n: session(marks=[{"name": "a", "group": "h " * n}, {"name": "b", "group": "g"}, {"name": "c", "excludes": "g " * n}])
+)
 row("suffixes one upon another, after a choice of 4,000", "check", 124)(lambda n: session(content("(" + "p|" * 3999 + "p)" + "+" * n)))
 row("repetitions within one another, of a choice of 3,800", "check", 60)(
     lambda n: session(content("(" * n + "(" + "p|" * 3799 + "p)" + "+|p)" * n))
@@ -157,6 +173,13 @@ row("texts with marks in turn", "check", 5_000)(
                 }
             ],
         },
+    )
+)
+row("steps that mark all paragraphs anew, 20", "replay", 4_000)(
+    lambda n: session(
+        marks=[{"name": "m"}],
+        doc=paragraphs(n, "x"),
+        ops=[op(op="step", step={"stepType": "addMark", "from": 0, "to": 3 * n, "mark": {"type": "m"}})] * 20,
     )
 )
 row("a step's slice of paragraphs", "replay", 10_000)(

@@ -1,7 +1,7 @@
 /* Times the answer to a letter that one editor submits: by the library in this process, or by the live authority over pipes. The editor
  * types ten letters and takes them back, in the middle of a document of paragraphs of 200 tokens. Writes the microseconds of an
  * answer, those of the processor for both ends, and the document at the end.
- * usage: library inside|PROGRAM LETTERS       PROGRAM is the live authority's */
+ * usage: library inside|PROGRAM TOKENS WARM LETTERS       PROGRAM is the live authority's; WARM letters are not timed */
 #define _GNU_SOURCE
 #include "gezhufet.h"
 
@@ -11,7 +11,7 @@
 #include <time.h>
 #include <unistd.h>
 
-enum { PARAGRAPHS = 20, LETTERS = 198, WARM = 640, IN_A_ROW = 10, AT = 10 * 200 + 101, ROOM = 16384 };
+enum { PARAGRAPH = 200, LETTERS = PARAGRAPH - 2, IN_A_ROW = 10, AROUND = 64, LINE = 512 };
 #define SCHEMA \
   "{\"nodes\":[{\"name\":\"doc\",\"content\":\"paragraph+\"},{\"name\":\"paragraph\",\"content\":\"text*\"},{\"name\":\"text\"}]," \
   "\"version\":2}"
@@ -21,7 +21,10 @@ static FILE *to;
 static int from;
 /* The processor's time of the authority's process. */
 static clockid_t busy;
-static char answer[ROOM];
+/* The tokens of the document, and the room for its line. */
+static unsigned tokens;
+static size_t room;
+static char *answer;
 
 static void fail(const char *what) {
   fprintf(stderr, "library: %s\n", what);
@@ -32,13 +35,12 @@ static void fail(const char *what) {
 static size_t ask(const char *line, size_t size) {
   size_t count = 0;
   if (talk) {
-    gezhufet_tell(talk, line, size - 1);
-    return gezhufet_answer(talk, answer, sizeof answer);
+    return gezhufet_ask(talk, line, size - 1, answer, room);
   }
   fwrite(line, 1, size, to);
   fflush(to);
   do {
-    ssize_t more = read(from, answer + count, sizeof answer - count);
+    ssize_t more = read(from, answer + count, room - count);
     if (more < 1) fail("the authority gives no answer");
     count += (size_t)more;
   } while (answer[count - 1] != '\n');
@@ -83,9 +85,9 @@ static double worked(void) { return micros(CLOCK_PROCESS_CPUTIME_ID) + (talk ? 0
 
 /* The letter of this number is typed, or the last one of ten is taken back. */
 static void submit(unsigned number) {
-  char line[512];
+  char line[LINE];
   unsigned within = number % (2 * IN_A_ROW), typed = within < IN_A_ROW;
-  unsigned at = AT + (typed ? within : 2 * IN_A_ROW - 1 - within);
+  unsigned at = tokens / 2 + 101 + (typed ? within : 2 * IN_A_ROW - 1 - within);
   const char *slice = typed ? "\"slice\":{\"content\":[{\"type\":\"text\",\"text\":\"x\"}]}," : "";
   int size = snprintf(line, sizeof line,
                       "{\"clientID\":0,\"op\":\"submit\",\"steps\":[{\"stepType\":\"replace\",%s\"from\":%u,\"to\":%u}],\"version\":%u}\n",
@@ -94,8 +96,8 @@ static void submit(unsigned number) {
 }
 
 static char *document(void) {
-  char *doc = malloc(PARAGRAPHS * 300), *end = doc + sprintf(doc, "{\"type\":\"doc\",\"content\":[");
-  for (int at = 0; at < PARAGRAPHS; at++) {
+  char *doc = malloc(room), *end = doc + sprintf(doc, "{\"type\":\"doc\",\"content\":[");
+  for (unsigned at = 0; at < tokens / PARAGRAPH; at++) {
     end += sprintf(end, "%s{\"type\":\"paragraph\",\"content\":[{\"type\":\"text\",\"text\":\"", at ? "," : "");
     for (int it = 0; it < LETTERS; it++) *end++ = "abcdefghi "[it % 10];
     end += sprintf(end, "\"}]}");
@@ -106,18 +108,24 @@ static char *document(void) {
 
 int main(int count, char **words) {
   double start, work;
-  char *doc = document();
-  unsigned letters, number = 0;
-  if (count != 3) return 2;
-  letters = (unsigned)atoi(words[2]);
+  char *doc;
+  unsigned warm, letters, number = 0;
+  if (count != 5) return 2;
+  tokens = (unsigned)atoi(words[2]);
+  warm = (unsigned)atoi(words[3]);
+  letters = (unsigned)atoi(words[4]);
+  room = LINE + tokens / PARAGRAPH * (PARAGRAPH + AROUND);
+  answer = malloc(room);
+  doc = document();
   begin(words[1], doc);
-  while (number < WARM) submit(number++);
+  while (number < warm) submit(number++);
   start = micros(CLOCK_MONOTONIC);
   work = worked();
-  while (number < WARM + letters) submit(number++);
+  while (number < warm + letters) submit(number++);
   printf("%.3f %.3f\n", (micros(CLOCK_MONOTONIC) - start) / letters, (worked() - work) / letters);
   fwrite(answer, 1, ask("{\"op\":\"doc\"}\n", 13), stdout);
   gezhufet_close(talk);
   free(doc);
+  free(answer);
   return 0;
 }

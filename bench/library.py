@@ -3,7 +3,7 @@
 The same as bench/library.c: the editor types ten letters and takes them back, in the middle of a document of paragraphs of 200
 tokens. Writes the microseconds of an answer, those of the processor for both ends, and the document at the end. Both sides make JSON of
 the message and read it from the answer, by the package's own functions, so that they differ by the way to the engine alone.
-usage: library.py inside|PROGRAM LETTERS       PROGRAM is the live authority's
+usage: library.py inside|PROGRAM TOKENS WARM LETTERS       PROGRAM is the live authority's; WARM letters are not timed
 """
 
 import json
@@ -20,18 +20,17 @@ SCHEMA = {
     "version": 2,
 }
 PARAGRAPH = {"type": "paragraph", "content": [{"type": "text", "text": ("abcdefghi " * 20)[:198]}]}
-DOC = {"type": "doc", "content": [PARAGRAPH] * 20}
-WARM, IN_A_ROW, AT = 640, 10, 10 * 200 + 101
+IN_A_ROW = 10
 LETTER = {"content": [{"type": "text", "text": "x"}]}
 
 
 class Outside:
     """The live authority."""
 
-    def __init__(self, program: str) -> None:
+    def __init__(self, program: str, doc: Any) -> None:
         self.process = subprocess.Popen([program], stdin=subprocess.PIPE, stdout=subprocess.PIPE)
         self.process.stdin.write(line_of(SCHEMA) + b"\n")
-        self.tell(DOC)
+        self.tell(doc)
 
     def busy(self) -> float:
         """The processor's seconds of the process, by its clock's number in Linux."""
@@ -43,30 +42,31 @@ class Outside:
         return value_of(self.process.stdout.readline())
 
 
-def submission(number: int) -> Any:
+def submission(number: int, middle: int) -> Any:
     """The letter of this number is typed, or the last one of ten is taken back."""
     within = number % (2 * IN_A_ROW)
     if within < IN_A_ROW:
-        step = {"stepType": "replace", "slice": LETTER, "from": AT + within, "to": AT + within}
+        step = {"stepType": "replace", "slice": LETTER, "from": middle + within, "to": middle + within}
     else:
-        at = AT + 2 * IN_A_ROW - 1 - within
+        at = middle + 2 * IN_A_ROW - 1 - within
         step = {"stepType": "replace", "from": at, "to": at + 1}
     return {"clientID": 0, "op": "submit", "steps": [step], "version": number}
 
 
-def main(side: str, letters: int) -> None:
-    authority = Authority(SCHEMA, DOC) if side == "inside" else Outside(side)
+def main(side: str, tokens: int, warm: int, letters: int) -> None:
+    doc = {"type": "doc", "content": [PARAGRAPH] * (tokens // 200)}
+    authority = Authority(SCHEMA, doc) if side == "inside" else Outside(side, doc)
 
     def times() -> Tuple[float, float]:
         return time.perf_counter(), time.process_time() + (0 if side == "inside" else authority.busy())
 
-    for number in range(WARM + letters):
-        if number == WARM:
+    for number in range(warm + letters):
+        if number == warm:
             start = times()
-        if "accepted" not in authority.tell(submission(number)):
+        if "accepted" not in authority.tell(submission(number, tokens // 2 + 101)):
             sys.exit("library: a letter is not accepted")
     print(*((end - begin) / letters * 1e6 for begin, end in zip(start, times())))
     print(json.dumps(authority.tell({"op": "doc"}), sort_keys=True, separators=(",", ":")), flush=True)
 
 
-main(sys.argv[1], int(sys.argv[2]))
+main(sys.argv[1], *map(int, sys.argv[2:]))

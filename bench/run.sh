@@ -11,18 +11,18 @@ set -eu
 here=$(cd "$(dirname "$0")" && pwd)
 export NODE_PATH=/usr/share/nodejs
 package=$here/../bindings/js
-parts="check typing clients undos rebases edits long generated threads live embed library talk server"
+parts="check typing clients undos rebases edits long generated threads live embed talk server"
 
 # What each part runs. The sizes are such that all parts take less than twelve minutes.
 part() {
   case $1 in
-  check | undos | edits | long | live | embed | library | talk) node "$here/$1.js" ;;
+  check | undos | edits | long | live | embed | talk) node "$here/$1.js" ;;
   typing) node "$here/typing.js" 1000 10000 100000 ;;
   clients) node "$here/clients.js" 32 3000 ;;
   rebases) node "$here/rebases.js" 500 10 1 2000 10 1 2000 10 100 ;;
   generated) node "$here/generated.js" 4 2500 1 ;;
   threads) node "$here/threads.js" 32 500 ;;
-  server) node "$here/server-load.js" 400 40 30 ;;
+  server) node "$here/server-load.js" 400 40 20 ;;
   *)
     echo "bench: the parts are: $parts" >&2
     exit 2
@@ -43,17 +43,18 @@ install() {
 need() {
   case $1 in
   live) [ -n "${PM_LIVE-}" ] || "$here/../pm" build live ;;
-  library)
-    need live
-    [ -n "${GEZHUFET_PREFIX-}" ] || "$here/../pm" lib
-    ;;
   embed)
     need live
+    [ -n "${GEZHUFET_PREFIX-}" ] || "$here/../pm" lib
     [ -e "$package/gezhufet.wasm" ] || "$here/../pm" wasm
-    [ -e "$package/addon/build/gezhufet.node" ] || { "$here/../pm" lib && "$package/addon/build.sh"; }
+    built="${GEZHUFET_PREFIX-$here/../out}"
+    [ -e "$package/addon/build/gezhufet.node" ] || "$package/addon/build.sh" "$built/lib/libgezhufet.a" "$built/include"
     ;;
   talk) [ -e "$here/../out/gezhufet.wasm" ] || "$here/../pm" wasm ;;
-  server) [ -e "$package/gezhufet.wasm" ] || "$here/../pm" wasm ;;
+  server)
+    need live
+    [ -e "$package/gezhufet.wasm" ] || "$here/../pm" wasm
+    ;;
   *) [ -n "${PROGRAM-}" ] || "$here/../pm" build ;;
   esac
 }

@@ -1,18 +1,21 @@
-// Loads the server with editors that type, and beside it, with the same, a relay for Yjs that checks nothing (load-relay.js). Tells how
-// long it takes until the others have a letter, the memory, and the processor's time. At the end each document has all its letters.
-// usage: node bench/server-load.js [EDITORS] [DOCUMENTS] [SECONDS]     2000, 200 and 600 unless told, two letters a second
-// The variable STORE is the server's store, `memory` unless told; others take their settings from the server's variables.
+// Loads the server with editors that type, in memory and over a folder, and with the same a relay that checks nothing, and one that keeps
+// the documents of Yjs (load-relay.js). Tells how long it takes until the others have a letter, the memory, and the processor's time. At
+// the end each document has all its letters.
+// usage: node bench/server-load.js [EDITORS] [DOCUMENTS] [SECONDS] [SIDE..]
+//   2000, 200 and 600 unless told, two letters a second; the sides are memory, folder, relay and yjs, one after the other
+// The variable PM_LIVE names another program than the one that is built, FOLDER where the folder is made. Others are the server's own.
 
 "use strict"
 
 const fs = require("fs")
 const path = require("path")
 const {fork, spawn} = require("child_process")
-const {ensure} = require("./measure")
+const {ensure, LIVE} = require("./measure")
 
 const [EDITORS, DOCUMENTS, SECONDS] = [2000, 200, 600].map((standing, i) => Number(process.argv[2 + i] || standing))
 const LETTERS = 2, LOADERS = 2, SECRET = "the-secret-of-a-load-that-nobody-keeps"
 const EACH = Math.round(EDITORS / DOCUMENTS)
+const FOLDER = path.join(process.env.FOLDER || path.join(__dirname, "..", "out"), `server-load-${process.pid}`)
 
 const names = Array.from({length: DOCUMENTS}, (_, i) => `load-${process.pid}-${i}`)
 const pause = milliseconds => new Promise(resolve => setTimeout(resolve, milliseconds))
@@ -24,11 +27,11 @@ const childrenOf = pid => fs.readdirSync(`/proc/${pid}/task`).flatMap(task =>
 
 const treeOf = pid => [pid, ...childrenOf(pid).flatMap(treeOf)]
 
-// The processor's time that they took, in seconds, and the greatest resident memory in MB.
+// The processor's time that they took and those of them that have ended, in seconds, and the greatest resident memory in MB.
 function spentBy(pid) {
   const hundredths = treeOf(pid).map(it => {
     const fields = fs.readFileSync(`/proc/${it}/stat`, "utf8").split(") ").pop().split(" ")
-    return Number(fields[11]) + Number(fields[12])
+    return fields.slice(11, 15).reduce((sum, field) => sum + Number(field), 0)
   })
   const kilobytes = treeOf(pid).map(it => Number(/VmHWM:\s+(\d+)/.exec(fs.readFileSync(`/proc/${it}/status`, "utf8"))[1]))
   const sum = figures => figures.reduce((a, b) => a + b, 0)
@@ -37,16 +40,16 @@ function spentBy(pid) {
 
 // ---- the sides
 
-function startOurs() {
+function startOurs(store) {
   const env = {
-    ...process.env, GEZHUFET_PORT: "0", GEZHUFET_SECRET: SECRET, GEZHUFET_STORE: process.env.STORE || "memory", GEZHUFET_LOG_LEVEL: "info",
+    GEZHUFET_PROGRAM: LIVE, ...process.env, GEZHUFET_PORT: "0", GEZHUFET_SECRET: SECRET, GEZHUFET_STORE: store, GEZHUFET_FOLDER: FOLDER,
   }
   const child = spawn(process.execPath, [path.join(__dirname, "..", "server", "main.js")], {env, stdio: ["ignore", "inherit", "pipe"]})
   return started(child, child.stderr, text => /"event":"listening".*?"port":(\d+)/.exec(text)?.[1])
 }
 
-function startTheirs() {
-  const child = spawn(process.execPath, [path.join(__dirname, "load-relay.js")], {stdio: ["ignore", "pipe", "inherit"]})
+function startTheirs(kind) {
+  const child = spawn(process.execPath, [path.join(__dirname, "load-relay.js"), kind], {stdio: ["ignore", "pipe", "inherit"]})
   return started(child, child.stdout, text => /^(\d+)\n/.exec(text)?.[1])
 }
 
@@ -74,7 +77,14 @@ async function lengthOurs(address, name) {
 
 const lengthTheirs = async (address, name) => (await (await fetch(`${address}/${name}`)).json()).length
 
-const SIDES = {ours: [startOurs, lengthOurs], theirs: [startTheirs, lengthTheirs]}
+const OURS = {kind: "ours", start: startOurs, lengthOf: lengthOurs}, THEIRS = {kind: "theirs", start: startTheirs, lengthOf: lengthTheirs}
+
+const SIDES = {
+  memory: {...OURS, title: "server in memory"},
+  folder: {...OURS, title: "server over a folder"},
+  relay: {...THEIRS, title: "relay"},
+  yjs: {...THEIRS, title: "Yjs"},
+}
 
 // ---- what is measured
 
@@ -97,8 +107,8 @@ function within(counts, percent) {
   return sorted.find(([, count]) => (seen += count) >= all * percent / 100)[0] / 10
 }
 
-async function load(kind) {
-  const [start, lengthOf] = SIDES[kind], {child, address} = await start()
+async function load(name) {
+  const {kind, start, lengthOf} = SIDES[name], {child, address} = await start(name)
   const loaders = Array.from({length: LOADERS}, (_, i) => startLoader(kind, address, names.filter((_it, at) => at % LOADERS == i)))
   await Promise.all(loaders.map(it => it.ready))
   const before = spentBy(child.pid), begin = Date.now()
@@ -107,33 +117,48 @@ async function load(kind) {
   const after = spentBy(child.pid), counts = new Map()
   for (const [tenths, count] of reports.flatMap(it => it.counts)) counts.set(tenths, (counts.get(tenths) || 0) + count)
   const lacking = reports.reduce((sum, it) => sum + it.lacking, 0)
-  ensure(lacking == 0, `${kind}: in ${lacking} documents letters are lacking`)
-  for (const name of names) {
-    const length = await lengthOf(address, name)
-    ensure(length == EACH * SECONDS * LETTERS, `${kind}: ${name} has ${length} letters`)
+  ensure(lacking == 0, `${name}: in ${lacking} documents letters are lacking`)
+  for (const document of names) {
+    const length = await lengthOf(address, document)
+    ensure(length == EACH * SECONDS * LETTERS, `${name}: ${document} has ${length} letters`)
   }
-  child.removeAllListeners("exit")
-  child.kill()
+  await ended(child)
   const sent = reports.reduce((sum, it) => sum + it.sent, 0), letters = EACH * DOCUMENTS * SECONDS * LETTERS
+  const seconds = after.seconds - before.seconds
   return {
-    half: within(counts, 50), most: within(counts, 99), megabytes: after.megabytes,
-    processors: (after.seconds - before.seconds) / took, letters: letters / took, sent: sent / letters,
+    half: within(counts, 50), most: within(counts, 99), megabytes: after.megabytes, seconds,
+    letter: 1e6 * seconds / letters, processors: seconds / took, letters: letters / took, sent: sent / letters,
   }
 }
 
+function ended(child) {
+  child.removeAllListeners("exit")
+  child.kill()
+  return new Promise(resolve => child.on("exit", resolve))
+}
+
+// A row of BENCH.md.
+function row(what, measured, key, digits) {
+  console.log(`| ${what} | ${measured.map(it => it[key].toFixed(digits)).join(" | ")} |`)
+}
+
 async function main() {
-  console.log(`server-load.js: ${EACH * DOCUMENTS} editors, ${DOCUMENTS} documents, ${SECONDS} s, ${LETTERS} letters a second each`)
-  const ours = await load("ours")
-  await pause(1000)
-  const theirs = await load("theirs")
-  console.log(`${"".padEnd(46)}${"server".padStart(9)}${"relay".padStart(9)}`)
-  const row = (what, key, digits) => console.log(what.padEnd(46) + [ours, theirs].map(it => it[key].toFixed(digits).padStart(9)).join(""))
-  row("until the others have a letter, ms, median", "half", 1)
-  row("  of 99 of 100", "most", 1)
-  row("greatest memory, MB", "megabytes", 0)
-  row("processors at work", "processors", 2)
-  row("letters a second", "letters", 0)
-  row("messages sent for a letter", "sent", 2)
+  const sides = process.argv.slice(5).length ? process.argv.slice(5) : Object.keys(SIDES), measured = []
+  for (const side of sides) {
+    measured.push(await load(side))
+    fs.rmSync(FOLDER, {recursive: true, force: true})
+    await pause(1000)
+  }
+  const what = `${EACH * DOCUMENTS} editors, ${DOCUMENTS} documents, ${SECONDS} s, ${LETTERS} letters a second each`
+  console.log(`| **server-load.js**: ${what} | ${sides.map(it => SIDES[it].title).join(" | ")} |\n|---${"|---".repeat(sides.length)}|`)
+  row("ms until the others have a letter, median", measured, "half", 1)
+  row("of 99 of 100", measured, "most", 1)
+  row("seconds of a processor", measured, "seconds", 1)
+  row("µs of it for a letter", measured, "letter", 0)
+  row("processors at work", measured, "processors", 2)
+  row("greatest memory, MB", measured, "megabytes", 0)
+  row("letters a second", measured, "letters", 0)
+  row("messages sent for a letter", measured, "sent", 2)
 }
 
 main().catch(error => {

@@ -36,9 +36,11 @@ function timed(work) {
 // ---- pending letters over another's
 
 /// Two sides of a row: the milliseconds in which pending letters go over as many of another, in the engine and as rebaseSteps of
-/// prosemirror-collab does it. Each begins with all pending steps made.
-function rebasing(engine, {pending, foreign, places}) {
-  const schema = schemaOf(types), first = docOf(1, "abcdefghij".repeat(letters / 10)), doc = Node.fromJSON(schema, first)
+/// prosemirror-collab does it. Each begins with all pending steps made. All letters go into the first of so many paragraphs, which has 400
+/// letters, and the others ten.
+function rebasing(engine, {pending, foreign, places, paragraphs = 1}) {
+  const first = paragraph("abcdefghij".repeat(letters / 10)), rest = Array(paragraphs - 1).fill(paragraph("abcdefghij"))
+  const schema = schemaOf(types), doc = Node.fromJSON(schema, {type: "doc", content: [first, ...rest]})
   const letter = text => new Slice(Fragment.from(schema.text(text)), 0, 0)
   const stepAt = (at, text) => new ReplaceStep(at, at, letter(text))
   const mine = listOf(pending, i => stepAt(typedAt(i, places), "x")), others = listOf(foreign, i => stepAt(foreignAt(i), "y"))
@@ -117,4 +119,4 @@ function measure(engine, runs) {
   })
 }
 
-module.exports = {measure}
+module.exports = {measure, rebasing}

@@ -6,12 +6,9 @@
 "use strict"
 
 const fs = require("fs")
-const os = require("os")
 const path = require("path")
-const {pathToFileURL} = require("url")
-const {bundle} = require("../live/page/bundle")
-const {Browser, chromium} = require("../live/page/chromium")
 const {RUNS, ensure, row, title} = require("./measure")
+const {chromium, openPage} = require("./page")
 const {measure} = require("./talk-work")
 
 const MODULE = process.env.WASM || path.join(__dirname, "..", "out", "gezhufet.wasm")
@@ -22,20 +19,14 @@ async function inNode(bytes) {
 }
 
 async function inPage(bytes) {
-  const folder = fs.mkdtempSync(path.join(os.tmpdir(), "gezhufet-bench-page-")), file = path.join(folder, "page.html")
-  const script = bundle(path.join(__dirname, "talk-page.js")).replace(/<\/script/g, "<\\/script")
-  const module = `<script id="module" type="text/plain">${bytes.toString("base64")}</script>`
-  fs.writeFileSync(file, `<!doctype html><meta charset="utf-8">${module}<script>${script}</script>`)
-  const browser = new Browser(chromium())
+  const {tab, close} = await openPage("talk-page.js", bytes)
   try {
-    const tab = await browser.open(pathToFileURL(file).href)
     await tab.until("window.measure !== undefined")
     await tab.value(`void measure(${RUNS}).then(it => { window.figures = it }, error => { window.figures = String(error) })`)
     await tab.until("window.figures !== undefined", 600000)
     return await tab.value("window.figures")
   } finally {
-    await browser.close()
-    fs.rmSync(folder, {recursive: true})
+    await close()
   }
 }
 

@@ -48,7 +48,7 @@ class Session {
     const {url, token, name = null, color = null, WebSocket = globalThis.WebSocket} = options
     this.#connection = new Connection({
       url, token, WebSocket,
-      greeting: () => ({name, color, version: this.log?.version ?? null}),
+      greeting: () => ({name, color, version: this.log?.version ?? null, epoch: this.epoch ?? null}),
       onWelcome: welcome => this.#welcome(welcome),
       onMessage: message => this.#read(message),
       onState: (state, error) => {
@@ -131,11 +131,12 @@ class Session {
     if (this.log.version > this.#pm.getVersion(this.view.state)) this.#pm.pull(this.view)
   }
 
-  #begin({doc, version, clientID}) {
+  #begin({doc, version, epoch, clientID}) {
     const {engine, schema, packages, newGroupDelay} = this.#options
     const {Step} = packages
     this.doc = schema.nodeFromJSON(doc)
     this.first = null
+    this.epoch = epoch
     this.clientID = clientID
     this.client?.close()
     this.client = engine.openClient({schema, doc: this.doc, version, clientID}, {Step})
@@ -156,19 +157,24 @@ class Session {
     if (JSON.stringify(sorted(JSON.parse(schemaLine(this.schema)))) != JSON.stringify(sorted(schema)))
       throw new Error(`the document has the schema ${welcome.schemaName}, which is not the editor's`)
     Object.assign(this, {right, limits, name, color, length: version})
-    const isFirst = !this.log
+    const isFirst = !this.log, lost = doc ? this.#unconfirmed() : null
     if (doc) this.#begin(welcome)
-    if (doc && !isFirst) this.#reset()
+    if (doc && !isFirst) this.#reset(lost)
     this.people.begin(welcome.present)
     this.comments.begin(welcome.comments)
     if (isFirst) this.#begun(this)
   }
 
-  // The server has not what the editor was at: it begins anew with the server's document.
-  #reset() {
-    const {view} = this, lost = view && this.pending > 0 ? view.state.doc : null
-    view?.updateState(this.createState(this.#plugins))
-    this.#options.onReset(lost)
+  // The server has not what the editor was at: it begins anew with the server's document. What was not confirmed is told as lost.
+  #reset({doc, steps}) {
+    this.view?.updateState(this.createState(this.#plugins))
+    this.#options.onReset(doc, steps)
+  }
+
+  // The steps that the server has not confirmed, and the document with them: null where there are none.
+  #unconfirmed() {
+    const {steps} = this.pending ? this.client.compose() : {steps: []}
+    return {doc: steps.length ? this.view.state.doc : null, steps}
   }
 
   #read(message) {
@@ -273,6 +279,7 @@ class Session {
     const response = await fetch(address, {headers: {Authorization: `Bearer ${text}`}})
     const answer = await response.json()
     if (!response.ok) throw new ServerError(answer.error)
+    if (answer.epoch !== this.epoch) throw new Error("the server has another log by now")
     return answer
   }
 }

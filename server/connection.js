@@ -1,6 +1,7 @@
 // One connection to one document: what comes is measured and done one after the other, and what goes out goes at the reader's pace.
 
 import {Refusal, refusalOf} from "./errors.js"
+import {frameOf} from "./frames.js"
 import {said} from "./log.js"
 import {OPS, greet} from "./ops.js"
 import {Outbox} from "./outbox.js"
@@ -48,7 +49,7 @@ export class Connection {
       this.#hear()
       this.pump()
     }
-    this.#outbox = new Outbox(socket, server, {onReady, onSlow})
+    this.#outbox = new Outbox({socket, wire: request.socket}, server, {onReady, onSlow})
     socket.on("message", (data, isBinary) => this.#receive(data, isBinary))
     socket.on("pong", () => { this.heard = Date.now() })
     socket.on("error", error => server.log.debug("socket-fails", {document: name, ...said(error)}))
@@ -67,10 +68,17 @@ export class Connection {
   // Does what comes in its turn. Where much is waiting nothing more is read.
   #inTurn(work, id) {
     if (++this.#waiting >= MOST_WAITING) this.socket.pause()
-    this.#work = this.#work.then(() => (this.#isOver ? undefined : work())).catch(error => this.#refuse(error, id)).finally(() => {
-      this.#waiting--
-      this.#hear()
-    })
+    this.#work = this.#work.then(() => this.#do(work, id))
+  }
+
+  async #do(work, id) {
+    try {
+      if (!this.#isOver) await work()
+    } catch (error) {
+      this.#refuse(error, id)
+    }
+    this.#waiting--
+    this.#hear()
   }
 
   // It is heard again where it reads, and not much waits to be done for it.
@@ -135,9 +143,12 @@ export class Connection {
 
   // ---- what it is told
 
-  send(data) { this.#outbox.send(data) }
+  /** @param {Buffer} frame what `frameOf` made */
+  send(frame) { this.#outbox.send(frame) }
 
-  say(message) { this.send(JSON.stringify(message)) }
+  sayText(text) { this.send(frameOf(text)) }
+
+  say(message) { this.sayText(JSON.stringify(message)) }
 
   // An error is told. Before the welcome, and where it is of the whole connection, it is the last word.
   #refuse(error, id) {
@@ -170,8 +181,8 @@ export class Connection {
   pump() {
     const {document} = this
     while (!this.#isHeld && document.tail.has(this.sent)) {
-      const {message, to} = document.tail.message(this.sent, this.server.settings.messageBytes)
-      this.#push(message, to)
+      const {frame, to} = document.tail.frame(this.sent, this.server.settings.messageBytes)
+      this.#push(frame, to)
     }
     if (!this.#isHeld && !this.#isFetching) this.#fetch()
   }
@@ -180,10 +191,10 @@ export class Connection {
     return this.#isOver || !this.document || this.isSubmitting || this.isSlow || this.sent >= this.document.version
   }
 
-  #push(message, to) {
+  #push(frame, to) {
     this.server.counts.pushed.add(to - this.sent)
     this.sent = to
-    this.send(message)
+    this.send(frame)
   }
 
   // What is no longer at hand is asked of the store.
@@ -191,7 +202,7 @@ export class Connection {
     this.#isFetching = true
     try {
       const from = this.sent, {text, to} = await this.document.entries(from)
-      if (!this.#isHeld && this.sent == from) this.#push(`{"op":"entries","entries":${text}}`, to)
+      if (!this.#isHeld && this.sent == from) this.#push(frameOf(`{"op":"entries","entries":${text}}`), to)
     } catch (error) {
       this.end(this.#refusal(error))
     } finally {

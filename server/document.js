@@ -1,8 +1,10 @@
 // A document that is open: who watches it, what they are told, and its last entries.
 
 import {Comments} from "./comments.js"
+import {frameOf} from "./frames.js"
 import {said} from "./log.js"
 import {Presences} from "./presence.js"
+import {textOf} from "./store/entries.js"
 import {Tail} from "./tail.js"
 import {Turns} from "./turns.js"
 
@@ -10,7 +12,7 @@ const FLEETING = "presence:"
 
 export class Document {
   #settings
-  #isReading = null
+  #reading = null
   #doc = null
   #onWay = new Set()
 
@@ -69,21 +71,20 @@ export class Document {
   /** Once all that is on its way has been answered. */
   async settled() { await Promise.allSettled([...this.#onWay]) }
 
-  /** Takes what the log has more, and tells it. One reading is under way at a time, and goes on until nothing is left. */
-  catchUp() {
-    this.#isReading ??= this.#read().finally(() => { this.#isReading = null }).then(() => (this.#isBehind ? this.catchUp() : undefined))
-    return this.#isReading
-  }
+  /** Takes what the log has more, and tells it. One reading is under way at a time. */
+  async catchUp() { while (this.#isBehind) await (this.#reading ??= this.#read()) }
 
   get #isBehind() { return this.tail.version < this.held.version }
 
   async #read() {
-    while (this.#isBehind) {
+    try {
       const entries = await this.held.since(this.tail.version, this.#settings.messageBytes)
       if (entries.steps.length == 0) throw new Error("the store has no entries where it says it has")
       this.tail.add(entries)
       for (const watcher of this.watchers) watcher.pump()
       this.comments.grown(this.version)
+    } finally {
+      this.#reading = null
     }
   }
 
@@ -93,7 +94,7 @@ export class Document {
     if (this.tail.has(start)) return this.tail.text(start, this.#settings.messageBytes, most)
     const {clientIDs, steps, version} = await this.held.since(start, this.#settings.messageBytes), to = Math.min(version, most)
     const count = to - start
-    return {text: JSON.stringify({clientIDs: clientIDs.slice(0, count), steps: steps.slice(0, count), version: to}), to}
+    return {text: textOf({clientIDs: clientIDs.slice(0, count), steps: steps.slice(0, count), version: to}), to}
   }
 
   /** Whether the log is so long, also where this server has not heard of it yet. */
@@ -121,9 +122,9 @@ export class Document {
 
   /** Tells all who watch, but one client, and those who read too slowly where it may be missed. */
   tell(told, clientID = null) {
-    const data = Buffer.from(JSON.stringify(told)), isFleeting = told.op == "presence"
+    const frame = frameOf(JSON.stringify(told)), isFleeting = told.op == "presence"
     for (const watcher of this.watchers)
-      if (watcher.clientID != clientID && !(isFleeting && watcher.isSlow)) watcher.send(data)
+      if (watcher.clientID != clientID && !(isFleeting && watcher.isSlow)) watcher.send(frame)
   }
 
   #tellServers(clientID, presence) {

@@ -3,12 +3,14 @@
 
 import {spawn} from "node:child_process"
 import {EndedError, openEngine} from "../bindings/js/src/index.js"
+import {entriesIn} from "./store/entries.js"
 
 /** Versions are written with 32 bits. No log is so long, so a submission of this version is one of another than the log's. */
 const NO_VERSION = 4_294_967_295
 
-/** For how many milliseconds an answer of a process is waited for. */
+/** For how many milliseconds an answer of a process is waited for, and how often it is looked whether one is. */
 const PATIENCE = 120_000
+const LOOK = 10_000
 
 /** Engines in this process, among which documents are shared out: one that stops by a fault of its own takes a part of them alone. */
 export class Engines {
@@ -96,7 +98,10 @@ export class Inside {
   }
 
   /** The entries from a version on that is not before its base. */
-  since(version) { return this.#counted(this.#authority.ask({op: "since", version: version - this.#base})) }
+  since(version) {
+    const entries = entriesIn(this.#authority.tell(`{"op":"since","version":${version - this.#base}}`))
+    return {...entries, version: this.#base + entries.version}
+  }
 
   doc() { return this.#counted(this.#authority.ask({op: "doc"})) }
 
@@ -114,9 +119,10 @@ export class Live {
   #process
   #waiting = []
   #parts = []
+  #heard = 0
   #said = ""
   #fault = null
-  #timer = null
+  #timer
 
   /** @param {string[]} command the program and its words */
   constructor([program, ...words]) {
@@ -131,6 +137,8 @@ export class Live {
     this.#process.stdin.on("error", () => {})
     this.#process.stderr.setEncoding("utf8").on("data", text => { this.#said = (this.#said + text).slice(-1000) })
     this.#process.stdout.setEncoding("utf8").on("data", text => this.#read(text))
+    this.#timer = setInterval(() => this.#watch(), LOOK)
+    this.#timer.unref()
   }
 
   // A long answer comes in many parts.
@@ -138,39 +146,47 @@ export class Live {
     const [first, ...rest] = text.split("\n")
     this.#parts.push(first)
     for (const next of rest) {
-      const line = this.#parts.join("")
+      this.#answered(this.#parts.join(""))
       this.#parts = [next]
-      this.#waiting.shift()?.resolve(line)
-      this.#watch()
     }
+  }
+
+  #answered(line) {
+    const [asked] = this.#waiting
+    this.#heard = Date.now()
+    asked?.answers.push(line)
+    if (asked?.answers.length === asked?.count) this.#waiting.shift()?.resolve(asked.answers)
   }
 
   // One that does not answer for so long is ended, by which who waits is told.
   #watch() {
-    clearTimeout(this.#timer)
-    if (this.#waiting.length) this.#timer = setTimeout(() => this.#process.kill("SIGKILL"), PATIENCE)
+    if (this.#waiting.length && Date.now() - this.#heard > PATIENCE) this.#process.kill("SIGKILL")
   }
 
   #fail(error) {
     this.#fault ??= error
-    clearTimeout(this.#timer)
+    clearInterval(this.#timer)
     for (const {reject} of this.#waiting.splice(0)) reject(this.#fault)
   }
 
-  /** The answer that comes next, to what is written: lines, none where the process speaks first. */
-  async next(lines = []) {
-    if (this.#fault) throw this.#fault
-    const answer = new Promise((resolve, reject) => this.#waiting.push({resolve, reject}))
-    if (lines.length) this.#process.stdin.write(`${lines.join("\n")}\n`)
-    if (this.#waiting.length == 1) this.#watch()
-    return JSON.parse(await answer)
+  // The answers that come next, so many, to lines that are written at once.
+  #answers(count, lines) {
+    if (this.#fault) return Promise.reject(this.#fault)
+    if (this.#waiting.length == 0) this.#heard = Date.now()
+    return new Promise((resolve, reject) => {
+      this.#waiting.push({count, answers: [], resolve, reject})
+      if (lines.length) this.#process.stdin.write(`${lines.join("\n")}\n`)
+    })
   }
 
-  /** The answers to messages, which are written at once. */
-  ask(...messages) {
-    const lines = messages.map(it => JSON.stringify(it))
-    return Promise.all(lines.map((_, i) => this.next(i == 0 ? lines : [])))
-  }
+  /** The answer that comes next, to what is written: lines, none where the process speaks first. */
+  async next(lines = []) { return JSON.parse((await this.#answers(1, lines))[0]) }
+
+  /** The answers to lines, as their texts. */
+  tell(...lines) { return this.#answers(lines.length, lines) }
+
+  /** The answer to a message. */
+  ask(message) { return this.next([JSON.stringify(message)]) }
 
   /** Lets it end once it has answered all, and by force where it does not. */
   async close(seconds = 10) {
@@ -202,7 +218,7 @@ export async function firstDocument(schema, doc, {engines, program}) {
   try {
     const opened = await live.next([JSON.stringify(schema), JSON.stringify(doc)])
     if (opened.fault !== undefined) throw new Error(`line ${opened.line} has the fault ${opened.fault}`)
-    const [{doc: first}] = await live.ask({op: "doc"})
+    const {doc: first} = await live.ask({op: "doc"})
     return first
   } finally {
     await live.close()

@@ -15,6 +15,7 @@ const CLOSES = {
   schema: 4404,
   replaced: 4409,
   version: 4410,
+  epoch: 4410,
   slow: 4413,
   limit: 4429,
   abuse: 4429,

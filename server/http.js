@@ -116,8 +116,8 @@ export class Door {
     try {
       await this.#server.store.check()
     } catch (error) {
-      this.#server.log.warn("unhealthy", said(error))
-      return this.#json(response, 503, {status: "the store fails"})
+      this.#server.log.warn("unhealthy", said(error.cause ?? error))
+      return this.#json(response, 503, {status: error instanceof Refusal ? error.message : "the store fails"})
     }
     this.#json(response, 200, {status: "ok"})
   }
@@ -150,7 +150,7 @@ export class Door {
   }
 }
 
-const about = ({name, held: {schemaName, schema}}) => ({document: name, schemaName, schema})
+const about = ({name, held: {schemaName, schema, epoch}}) => ({document: name, schemaName, schema, epoch})
 
 /** What there is of a document. */
 const PARTS = {
@@ -163,7 +163,7 @@ const PARTS = {
     await document.catchUp()
     const from = countOf(searchParams.get("from"), 0), most = countOf(searchParams.get("to"), document.version)
     const {text} = await document.entries(from, Math.max(from, Math.min(most, document.version)))
-    return {from, ...JSON.parse(text), length: document.version}
+    return {from, ...JSON.parse(text), length: document.version, epoch: document.held.epoch}
   },
   async comments(document) {
     if (!document.comments.isBegun) await document.doc()

@@ -1,9 +1,10 @@
-// The server as a process: its settings are the environment's. SIGTERM and SIGINT stop it.
+// The server as a process: its settings are the environment's. SIGTERM and SIGINT stop it. With the word `--restored` each document gets
+// another epoch.
 
 import {makeLog, said} from "./log.js"
 import {startServer} from "./server.js"
 
-const server = await startServer().catch(error => fail("not-started", error))
+const server = await startServer({restored: process.argv.includes("--restored")}).catch(error => fail("not-started", error))
 
 let isStopping = false
 for (const signal of ["SIGTERM", "SIGINT"])

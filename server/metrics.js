@@ -37,17 +37,21 @@ class Histogram {
 
   constructor(bounds) {
     this.#bounds = bounds
-    this.#counts = bounds.map(() => 0)
+    this.#counts = [...bounds.map(() => 0), 0]
   }
 
+  // (each is counted at the first bound that it keeps)
   add(seconds) {
-    this.#bounds.forEach((bound, i) => { if (seconds <= bound) this.#counts[i]++ })
+    let at = 0
+    while (seconds > this.#bounds[at]) at++
+    this.#counts[at]++
     this.#sum += seconds
     this.#count++
   }
 
   lines(name) {
-    const buckets = this.#bounds.map((bound, i) => `${name}_bucket{le="${bound}"} ${this.#counts[i]}`)
+    let sum = 0
+    const buckets = this.#bounds.map((bound, i) => `${name}_bucket{le="${bound}"} ${sum += this.#counts[i]}`)
     return [...buckets, `${name}_bucket{le="+Inf"} ${this.#count}`, `${name}_sum ${this.#sum}`, `${name}_count ${this.#count}`]
   }
 }
@@ -88,7 +92,7 @@ export function serverMetrics() {
     steps: metrics.counter("steps_accepted_total", "Steps that were accepted from this server's connections."),
     pushed: metrics.counter("entries_pushed_total", "Entries of logs that were pushed to connections."),
     received: metrics.counter("received_bytes_total", "Bytes of messages that came."),
-    sent: metrics.counter("sent_bytes_total", "Bytes of messages that were sent."),
+    sent: metrics.counter("sent_bytes_total", "Bytes of messages that were sent, with their frames' heads."),
     errors: metrics.counter("errors_total", "Errors that were told to clients, by their code."),
     closed: metrics.counter("connections_closed_total", "Connections that ended, by the code of their close."),
     opened: metrics.counter("connections_opened_total", "Connections that came."),

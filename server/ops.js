@@ -23,10 +23,11 @@ async function taken({server: {documents, users}, name, schema, given: {right, u
   return document
 }
 
-// What one begins with who has nothing of the document, or whose version the log reaches.
-async function begun(document, version) {
+// What one begins with who has nothing of the document, or whose version this very log reaches.
+async function begun(document, {version, epoch}) {
   if (version === null) return document.doc()
   if (!await document.reaches(version)) throw new Refusal("version", "the log is not so long")
+  if (epoch !== document.held.epoch) throw new Refusal("epoch", "the log is another one by now")
   if (!document.comments.isBegun) await document.doc()
   return null
 }
@@ -35,18 +36,18 @@ const limitsOf = ({messageBytes, messagesPerSecond, messageBurst, comments, comm
   ({bytes: messageBytes, messagesPerSecond, burst: messageBurst, comments, text: commentText})
 
 /** Takes the first message, which has to be a hello, and answers it with a welcome. */
-export async function greet(connection, {op, version = null, ticket = null, name, color}) {
+export async function greet(connection, {op, version = null, epoch = null, ticket = null, name, color}) {
   if (op != "hello" || !(version === null || isVersion(version))) throw new Refusal("hello", "the first message is no hello")
   const clientID = idOf(connection, ticket), document = await taken(connection)
   try {
-    const fresh = await begun(document, version), comments = await document.comments.list()
+    const fresh = await begun(document, {version, epoch}), comments = await document.comments.list()
     if (connection.isOver) throw new Refusal("hello", "the connection has ended")
     if (document.isDead) throw hasEnded()
     const who = {clientID, name: nameOf(connection.given.name ?? name) || connection.given.user, color: colorOf(color, clientID)}
     connection.who = who
     connection.join(document, clientID, fresh?.version ?? version)
     replaceOthers(connection)
-    connection.send(welcome(connection, {fresh, comments}))
+    connection.sayText(welcome(connection, {fresh, comments}))
   } catch (error) {
     connection.server.documents.leave(document)
     throw error
@@ -63,9 +64,9 @@ function replaceOthers(connection) {
 }
 
 function welcome({server: {settings}, given, who, document, sent}, {fresh, comments}) {
-  const {schemaName, schema} = document.held
+  const {schemaName, schema, epoch} = document.held
   const text = JSON.stringify({
-    op: "welcome", protocol: PROTOCOL, document: document.name, schemaName, schema, ...who,
+    op: "welcome", protocol: PROTOCOL, document: document.name, schemaName, schema, epoch, ...who,
     ticket: signTicket(settings.secret[0], {document: document.name, user: given.user, clientID: who.clientID}),
     right: given.right, version: fresh ? sent : document.version, comments, present: document.presences.list(who.clientID),
     expires: given.expires ?? null, limits: limitsOf(settings),
@@ -111,7 +112,7 @@ async function answered(connection, {version, steps}) {
 async function since(connection, {id, version}) {
   if (!isCount(version)) throw new Refusal("op", "what came since has a version")
   const {text, to} = await connection.document.entries(version)
-  connection.send(`{"op":"answer","id":${id},"answer":${text}}`)
+  connection.sayText(`{"op":"answer","id":${id},"answer":${text}}`)
   if (version <= connection.sent) connection.sent = Math.max(connection.sent, to)
 }
 

@@ -5,21 +5,24 @@ const MOST = 10
 
 export class Outbox {
   #socket
+  #wire
   #settings
   #counts
   #onReady
   #onSlow
   #bytes = 0
+  #lengths = []
   #timer = null
   #isLate = false
 
   /**
-   * @param {import("ws").WebSocket} socket
+   * @param {{socket: import("ws").WebSocket, wire: import("node:net").Socket}} ways the WebSocket, and what it writes to
    * @param {{settings: import("./settings.js").Settings, counts: ReturnType<import("./metrics.js").serverMetrics>}} server
    * @param {{onReady: () => void, onSlow: () => void}} calls when it has read, and when it has not for too long
    */
-  constructor(socket, {settings, counts}, {onReady, onSlow}) {
+  constructor({socket, wire}, {settings, counts}, {onReady, onSlow}) {
     this.#socket = socket
+    this.#wire = wire
     this.#settings = settings
     this.#counts = counts
     this.#onReady = onReady
@@ -28,13 +31,13 @@ export class Outbox {
 
   get isSlow() { return this.#timer !== null }
 
-  /** @param {Buffer | string} data a message's text */
-  send(data) {
+  /** @param {Buffer} frame what `frameOf` made */
+  send(frame) {
     if (this.#socket.readyState != this.#socket.constructor.OPEN) return
-    const message = typeof data == "string" ? Buffer.from(data) : data
-    this.#bytes += message.length
-    this.#counts.sent.add(message.length)
-    this.#socket.send(message, {binary: false}, () => this.#gone(message.length))
+    this.#bytes += frame.length
+    this.#lengths.push(frame.length)
+    this.#counts.sent.add(frame.length)
+    this.#wire.write(frame, this.#gone)
     if (this.#bytes > this.#settings.slowBytes && !this.isSlow) this.#pause()
     if (this.#bytes > MOST * this.#settings.slowBytes) this.#late()
   }
@@ -52,8 +55,9 @@ export class Outbox {
     this.#onSlow()
   }
 
-  #gone(bytes) {
-    this.#bytes -= bytes
+  // They go in the order in which they came.
+  #gone = () => {
+    this.#bytes -= this.#lengths.shift()
     if (!this.isSlow || this.#bytes > this.#settings.slowBytes / 2) return
     this.end()
     this.#onReady()

@@ -1,8 +1,9 @@
 #!/bin/sh
 # Starts the server, and says its address. Debian's packages are installed where they are missing, and the engine is proved and built
 # where it is not built: as a program for the store, and as a module for comments and pages. Ctrl-C stops it.
-# usage: server/run.sh [PORT]
-#   8080 unless told. The settings are variables (docs/use/SERVER.md). Without a secret (GEZHUFET_SECRET) the server makes one, listens
+# usage: server/run.sh [--restored] [PORT]
+#   8080 unless told. With --restored, after older data was put back, no editor goes on from what it had of the documents.
+#   The settings are variables (docs/use/SERVER.md). Without a secret (GEZHUFET_SECRET) the server makes one, listens
 #   on this machine alone, and gives anybody here a token.
 
 set -eu
@@ -10,8 +11,13 @@ set -eu
 top=$(cd "$(dirname "$0")/.." && pwd)
 . "$top/server/packages.sh"
 
+words=
+if [ "${1-}" = --restored ]; then
+  words=$1
+  shift
+fi
 case ${1-} in
-  *[!0-9]*) echo "usage: server/run.sh [PORT]" >&2 && exit 2 ;;
+  *[!0-9]*) echo "usage: server/run.sh [--restored] [PORT]" >&2 && exit 2 ;;
   ?*) export GEZHUFET_PORT="$1" ;;
 esac
 
@@ -33,4 +39,4 @@ if [ -z "${GEZHUFET_SECRET-}" ]; then
   export GEZHUFET_SECRET GEZHUFET_OPEN="${GEZHUFET_OPEN:-1}"
   echo "server: open to all on this machine: http://127.0.0.1:${GEZHUFET_PORT:-8080}/ (Ctrl-C stops it)" >&2
 fi
-exec node "$top/server/main.js"
+exec node "$top/server/main.js" ${words:+"$words"}

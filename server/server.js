@@ -61,6 +61,7 @@ class Server {
     this.access = (await import(pathToFileURL(settings.access))).access
     this.store = storeOf(settings, {engines, log})
     await this.store.start()
+    if (settings.restored) await this.store.renew()
     this.documents = new Documents({settings, store: this.store, engines: hasEngine ? engines : null, log})
     this.#gauges()
     await this.#listen(await this.#pages())

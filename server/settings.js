@@ -26,6 +26,8 @@ const DEFAULTS = {
   schemas: path.join(HERE, "schemas"),
   schema: "basic",
   logLevel: "info",
+  // Whether what keeps the documents was put back from an older state: each has another epoch then.
+  restored: false,
   // What one may send.
   messageBytes: 1_000_000,
   messagesPerSecond: 50,

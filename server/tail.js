@@ -1,6 +1,7 @@
 // The last entries of a log, as the engine wrote them, kept at hand: most editors ask for no others.
 
-/** @typedef {{clientIDs: string[], steps: object[], version: number}} Entries */
+import {frameOf} from "./frames.js"
+import {textOf} from "./store/entries.js"
 
 export class Tail {
   #most
@@ -9,7 +10,7 @@ export class Tail {
   #steps = []
   #sizes = []
   // What was told last, which most are told.
-  #made = {from: -1, to: -1, message: null}
+  #made = {from: -1, to: -1, frame: null}
 
   /**
    * @param {number} version where it begins
@@ -26,14 +27,13 @@ export class Tail {
   /** Whether all from a version on are here. */
   has(version) { return version >= this.#first }
 
-  /** @param {Entries} entries those that come next */
+  /** @param {import("./store/entries.js").Entries} entries those that come next */
   add({clientIDs, steps, version}) {
     if (version - steps.length != this.version) throw new Error("entries do not go on from those at hand")
     for (const [i, step] of steps.entries()) {
-      const text = JSON.stringify(step), id = JSON.stringify(clientIDs[i])
-      this.#steps.push(text)
-      this.#ids.push(id)
-      this.#sizes.push(Buffer.byteLength(text) + Buffer.byteLength(id) + 2)
+      this.#steps.push(step)
+      this.#ids.push(clientIDs[i])
+      this.#sizes.push(Buffer.byteLength(step) + Buffer.byteLength(clientIDs[i]) + 2)
     }
     if (this.#steps.length > 2 * this.#most) this.#cut(this.#steps.length - this.#most)
   }
@@ -62,16 +62,16 @@ export class Tail {
     return {text: this.#write(from, to), to}
   }
 
-  /** The same as a message for those who watch. */
-  message(from, bytes) {
+  /** The same as a message's frame for those who watch. */
+  frame(from, bytes) {
     const to = this.#end(from, bytes, this.version)
     if (this.#made.from != from || this.#made.to != to)
-      this.#made = {from, to, message: Buffer.from(`{"op":"entries","entries":${this.#write(from, to)}}`)}
+      this.#made = {from, to, frame: frameOf(`{"op":"entries","entries":${this.#write(from, to)}}`)}
     return this.#made
   }
 
   #write(from, to) {
-    const part = list => list.slice(from - this.#first, to - this.#first).join(",")
-    return `{"clientIDs":[${part(this.#ids)}],"steps":[${part(this.#steps)}],"version":${to}}`
+    const part = list => list.slice(from - this.#first, to - this.#first)
+    return textOf({clientIDs: part(this.#ids), steps: part(this.#steps), version: to})
   }
 }

@@ -91,6 +91,12 @@ done = run(["new", path], SCHEMA + "\n" + DOC + "\n")
 told("new answers the size", done.returncode == 0 and json.loads(done.stdout) == {"size": 4, "version": 0})
 told("lines 1 and 2 are in the file", lines_of(path) == ([SCHEMA, DOC], True))
 
+# a submission of no steps changes nothing, and is not in the file
+none = path + "-none"
+done = run(["new", none], "\n".join([SCHEMA, DOC, '{"op":"submit","version":0,"clientID":"ann","steps":[]}']) + "\n")
+told("no steps are accepted", done.stdout.endswith(b'{"accepted":{"count":0,"from":0}}\n'))
+told("no steps are not in the file", lines_of(none) == ([SCHEMA, DOC], True))
+
 # a kill while a file is begun leaves it with both lines or with none, and with both where they were answered
 right = True
 for i in range(kills):

@@ -4,14 +4,14 @@
 # of tests/editor have for a client; and whole sessions, whose reports have to be those of `replay`.
 # What is missing (the library, gcc, valgrind, python3, the built programs) is said, and what needs it is left out.
 # The last line is `N passed, M failed`.
-# usage: tests/library.sh
+# usage: tests/library.sh [--build]      with --build a library that is missing below out/, or old, is built with nothing proved
 # The variables GEZHUFET_PREFIX, PM_LIVE and PROGRAM name another folder than out/, and other programs than
 # crates/pm_live/out/pm_live and crates/pm_program/out/pm_program.
 
 set -u
 
 top=$(cd "$(dirname "$0")/.." && pwd) || exit 70
-prefix="${GEZHUFET_PREFIX:-$top/out}"
+. "$top/tests/library/prefix.sh"
 live="${PM_LIVE:-$top/crates/pm_live/out/pm_live}"
 program="${PROGRAM:-$top/crates/pm_program/out/pm_program}"
 room=$(mktemp -d) || exit 70
@@ -57,6 +57,11 @@ part() {
   failed=$((failed + here))
 }
 
+if ! choose_prefix "${1-}"; then
+  failed=1
+  echo "library: the library could not be built"
+  finish
+fi
 if [ ! -f "$prefix/lib/libgezhufet.a" ]; then
   leave_out "all is" "the library is not built (./pm lib): $prefix/lib"
   finish

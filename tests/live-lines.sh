@@ -52,6 +52,21 @@ says "line 2 has a fault" 1 "{\"fault\":16,\"line\":2}$lf"
 # A line of 1,048,576 bytes is read; one that is longer by a byte is passed over, and the next is answered.
 said=$(printf '%s\n%s\n%-1048576s\n%-1048577s\n%s\n' "$schema" "$doc" "$since" "$since" "$since" | run)
 says "a line is too long" 0 "$opened$lf$entries$lf{\"fault\":3}$lf$entries$lf"
+# An ID has at most 1,024 bytes, its quotes counted.
+long=$(printf '%01022d' 0)
+ids='{"op":"submit","version":0,"clientID":"%s","steps":[]}\n'
+# shellcheck disable=SC2059
+said=$(printf "%s\\n%s\\n$ids$ids" "$schema" "$doc" "$long" "0$long" | run)
+says "an ID is too long" 0 "$opened$lf{\"accepted\":{\"count\":0,\"from\":0}}$lf{\"fault\":19}$lf"
+taken='{"op":"submit","version":0,"clientID":1,"steps":[{"stepType":"replace","from":1,"to":2},{"stepType":"replace","from":1,"to":2}]}'
+step='{"from":1,"stepType":"replace","to":2}'
+said=$(printf '%s\n' "$schema" "$doc" "$taken" '{"op":"since","version":0,"most":1}' '{"op":"since","version":1,"most":4294967295}' \
+  '{"op":"since","version":1,"most":0}' '{"op":"since","version":7,"most":1}' '{"op":"since","version":0,"most":null}' \
+  '{"op":"since","version":0,"most":-1}' | run)
+says "so many entries at most" 0 "$opened$lf{\"accepted\":{\"count\":2,\"from\":0}}$lf\
+{\"clientIDs\":[1],\"steps\":[$step],\"version\":1}$lf{\"clientIDs\":[1],\"steps\":[$step],\"version\":2}$lf\
+{\"clientIDs\":[],\"steps\":[],\"version\":1}$lf{\"clientIDs\":[],\"steps\":[],\"version\":2}$lf\
+{\"clientIDs\":[1,1],\"steps\":[$step,$step],\"version\":2}$lf{\"fault\":6}$lf"
 said=$(run live </dev/null)
 says "there are words" 2 ""
 said=$(run </)

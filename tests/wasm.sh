@@ -4,15 +4,19 @@
 # ProseMirror's over it. What is missing (gcc, node, ProseMirror's packages, the built program or module) is said, and what needs it
 # is left out.
 # The last line is `N passed, M failed`.
-# usage: tests/wasm.sh
-# The variable PM_LIVE names another program than crates/pm_live/out/pm_live.
+# usage: tests/wasm.sh [--build]      with --build Debian's binaryen and node's headers are installed where they are missing, and the module
+# that is missing, or old, is built with nothing proved, and so is the C library for the node addon
+# The variables PM_LIVE and GEZHUFET_PREFIX name another program than crates/pm_live/out/pm_live and another folder than out/, which has
+# the C library.
 
 set -u
 
 top=$(cd "$(dirname "$0")/.." && pwd) || exit 70
 . "$top/live/packages.sh"
+. "$top/tests/library/prefix.sh"
 native="${PM_LIVE:-$top/crates/pm_live/out/pm_live}"
 package=$top/bindings/js
+headers=${NODE_INCLUDE-/usr/include/node}
 work=$(mktemp -d) || exit 70
 trap 'rm -rf "$work"' EXIT
 passed=0
@@ -63,6 +67,30 @@ if command -v gcc >/dev/null 2>&1; then
 else
   leave_out "what the C does is" "gcc is missing"
 fi
+
+# ---- what is built
+
+# Builds the module and the addon over the library, as far as what they are made with is there.
+build_all() {
+  command -v wasm-opt >/dev/null 2>&1 || install binaryen || true
+  [ -e "$headers/node_api.h" ] || install libnode-dev || true
+  if command -v wasm-opt >/dev/null 2>&1 && is_old "$package/gezhufet.wasm" "$top/tools/wasm"; then
+    judge_build "the module" "$top/pm" try wasm
+  fi
+  command -v gcc >/dev/null 2>&1 && [ -e "$headers/node_api.h" ] || return 0
+  judge_build "the library" choose_prefix --build
+  judge_build "the addon" "$package/addon/build.sh" "$prefix/lib/libgezhufet.a" "$prefix/include"
+}
+
+judge_build() {
+  what=$1
+  shift
+  "$@" && return
+  failed=$((failed + 1))
+  echo "wasm: $what could not be built"
+}
+
+[ "${1-}" != --build ] || build_all
 
 # ---- the package
 

@@ -156,9 +156,13 @@ def unproved(name):
     if os.path.isfile(made) and os.path.getmtime(made) > newest(sources(name)):
         return made
     # What is tried is compiled with the address sanitizer, for which there is no need here.
-    rt, folder = view(f"{at}/kit", f"{at}/record", "-fsanitize=address"), trial(name, f"{at}/trial")
-    how = {"cwd": folder, "stdin": subprocess.DEVNULL, "stdout": subprocess.DEVNULL, "stderr": subprocess.PIPE}
-    tried = subprocess.run([rt, "try"], **how, check=False)
+    rt = view(f"{at}/kit", f"{at}/record", "-fsanitize=address")
+    try:
+        how = {"cwd": trial(name, f"{at}/trial"), "stdin": subprocess.DEVNULL, "stdout": subprocess.DEVNULL, "stderr": subprocess.PIPE}
+        tried = subprocess.run([rt, "try"], **how, check=False)
+    finally:
+        # `rt ci` refuses a tree with a second crates.txt, or with sources beside crates/.
+        shutil.rmtree(f"{at}/trial", ignore_errors=True)
     if not os.path.isfile(made):
         sys.stderr.buffer.write(tried.stderr)
         fail(f"no module of {name} was recorded")

@@ -60,8 +60,11 @@ export interface Authority<N = JSONObject, S = JSONObject> {
    * @throws MemoryError where there is no memory for it; it may be sent again
    */
   submit(submission: Submission): Submitted
-  /** The log's entries from `version` on, none where it is the log's length or more. */
-  since(version?: number): Entries<S>
+  /**
+   * The log's entries from `version` on, none where it is the log's length or more. With `most` at most so many, and the version
+   * after the last of them.
+   */
+  since(version?: number, most?: number): Entries<S>
   /** The document and its version. */
   doc(): Document<N>
   /** The answer to a message of the live authority, both as JSON values. A fault is an answer too. */

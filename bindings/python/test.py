@@ -68,6 +68,8 @@ class Tests(unittest.TestCase):
         self.authority.submit(1, 7, [insert(1, "y")])
         entries = self.authority.since(1)
         self.assertEqual((entries.client_ids, entries.version, len(entries.steps)), ([7], 2, 1))
+        entries = self.authority.since(0, 1)
+        self.assertEqual((entries.client_ids, entries.version, len(entries.steps)), (["ann"], 1, 1))
 
     def test_another_version_raises_with_the_length(self) -> None:
         self.authority.submit(0, "ann", [insert(1, "x")])

@@ -12,7 +12,7 @@ const BEFORE_END = 60000, LONGEST_TIMER = 2147483647
 
 // Errors after which connecting again is no use, and those after which the client begins anew.
 const FINAL = new Set(["access", "document", "schema", "hello", "replaced"])
-const ANEW = new Set(["ticket", "version"])
+const ANEW = new Set(["ticket", "version", "epoch"])
 
 export class Connection {
   #options
@@ -31,8 +31,8 @@ export class Connection {
   #online = []
 
   /// `url` is the document's, `token` a text or a function that gives one and is told whether the last was refused, `greeting()` the
-  /// fields of `hello` but the ticket, with `version` null to begin. `onWelcome(welcome)`, `onMessage(message)`, `onState(state, error)`
-  /// and `onError(error)` are told.
+  /// fields of `hello` but the ticket, with `version` and `epoch` null to begin. `onWelcome(welcome)`, `onMessage(message)`,
+  /// `onState(state, error)` and `onError(error)` are told.
   constructor(options) {
     this.#options = {WebSocket: globalThis.WebSocket, onError: () => {}, ...options}
     globalThis.addEventListener?.("online", this.#retry)
@@ -94,8 +94,8 @@ export class Connection {
 
   #greet() {
     this.#heard = Date.now()
-    const {version, ...others} = this.#options.greeting()
-    const known = this.#isAnew ? {version: null, ticket: null} : {version, ticket: this.#ticket}
+    const {version, epoch, ...others} = this.#options.greeting()
+    const known = this.#isAnew ? {version: null, epoch: null, ticket: null} : {version, epoch, ticket: this.#ticket}
     this.#socket.send(JSON.stringify({op: "hello", name: null, color: null, ...others, ...known}))
     this.#watch()
   }

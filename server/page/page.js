@@ -145,9 +145,10 @@ function handlers(app) {
     onComments: () => app.talk?.show(),
     onChoose: id => app.talk?.choose(id),
     onGrow: () => app.later?.(),
-    onReset(lost) {
+    onReset(lost, steps) {
+      const changes = steps.length == 1 ? "1 change" : `${steps.length} changes`
       app.history.reset()
-      tell(lost ? `${RESET} What was not sent yet is lost; this was the text: ${lost.textBetween(0, lost.content.size, " ")}` : RESET)
+      tell(lost ? `${RESET} Lost: ${changes}, not sent yet. This was the text: ${lost.textBetween(0, lost.content.size, " ")}` : RESET)
     },
     onRefuse: (_step, error) => tell(`That change can't be made: ${error.message}`),
     onError: error => tell(error.message),

@@ -1,11 +1,14 @@
-// Documents in one folder, each in the engine's own log: a process of `pm live` for each that is held. Beside NAME.log stand the notes.
+// Documents in one folder, each in the engine's own log: a process of `pm live` for each that is held. Beside NAME.log stand the notes,
+// and the log's epoch.
 
 import fs from "node:fs/promises"
 import path from "node:path"
 import {setTimeout as wait} from "node:timers/promises"
 import {firstDocument, Live} from "../engine.js"
 import {Refusal, storeFails} from "../errors.js"
-import {back, front, whole} from "./entries.js"
+import {said} from "../log.js"
+import {back, entriesIn, front, whole} from "./entries.js"
+import {epochIn, forgetEpochs, newEpoch, noteEpoch} from "./epochs.js"
 import {Notes, syncFolder} from "./notes.js"
 
 /** Where the schema and the first document are noted. */
@@ -20,19 +23,24 @@ const sizeOf = file => fs.stat(file).then(it => it.size, error => {
   throw error
 })
 
+const sinceLine = version => `{"op":"since","version":${version}}`
+
 class FolderDocument {
   #live
   #notes
   #events
   // The entries of the last submission that was accepted, since they are asked for at once.
   #newest = null
+  #noteEpoch
   #isClosed = false
 
-  constructor(live, version, notes, events) {
+  constructor({live, version, notes, epoch, noteEpoch}, events) {
     this.#live = live
     this.#notes = notes
+    this.#noteEpoch = noteEpoch
     this.#events = events
     this.version = version
+    this.epoch = epoch
     const made = notes.notes.get(MADE)
     this.schemaName = made.schemaName
     this.schema = made.schema
@@ -45,18 +53,19 @@ class FolderDocument {
   /** The number of the engine's process. */
   get pid() { return this.#live.pid }
 
-  async #ask(...messages) {
+  async #tell(...lines) {
     try {
-      return await this.#live.ask(...messages)
+      return await this.#live.tell(...lines)
     } catch (error) {
       throw storeFails(error)
     }
   }
 
   async submit({version, clientID, steps}) {
-    const [answer, entries] = await this.#ask({op: "submit", version, clientID, steps}, {op: "since", version: this.version})
+    const line = JSON.stringify({op: "submit", version, clientID, steps})
     // (where the disk took no line, that was the last answer, and there is none to the second)
-    if (answer.accepted && entries.steps) this.#newest = entries
+    const [text, entries] = await this.#tell(line, sinceLine(this.version)), answer = JSON.parse(text)
+    if (answer.accepted) this.#newest = entries.startsWith('{"fault":') ? null : entriesIn(entries)
     if (answer.accepted) this.#grow(answer.accepted.from + answer.accepted.count)
     return answer
   }
@@ -69,13 +78,12 @@ class FolderDocument {
 
   async since(version, bytes) {
     const entries = this.#newest?.version == this.version ? back(this.#newest, version) : null
-    return front(entries ?? whole((await this.#ask({op: "since", version}))[0]), bytes)
+    return front(entries ?? entriesIn((await this.#tell(sinceLine(version)))[0]), bytes)
   }
 
   async doc(isFirst = false) {
     if (isFirst) return {doc: this.#notes.notes.get(MADE).doc, version: 0}
-    const [answer] = await this.#ask({op: "doc"})
-    return whole(answer)
+    return whole(JSON.parse((await this.#tell('{"op":"doc"}'))[0]))
   }
 
   async note(id, value, isFleeting = false) {
@@ -90,6 +98,7 @@ class FolderDocument {
   async close() {
     this.#isClosed = true
     await this.#live.close()
+    await this.#noteEpoch(this.version)
   }
 }
 
@@ -120,28 +129,30 @@ export class FolderStore {
       const isThere = await sizeOf(log) > 0
       if (!isThere && !first) return null
       const notes = await Notes.open(this.#file(name, "notes"))
-      return await (isThere ? this.#open(log, notes, events) : this.#make(log, notes, first, events))
+      const {live, version} = await (isThere ? this.#open(log, notes) : this.#make(log, notes, first))
+      return new FolderDocument({live, version, notes, ...await this.#epoch(name, isThere, version)}, events)
     } catch (error) {
       throw error.code === "store" ? error : storeFails(error)
     }
   }
 
   // What is noted is on the disk before the log is there. Without a log it says nothing.
-  async #make(log, notes, {schemaName, schema, doc}, events) {
+  async #make(log, notes, {schemaName, schema, doc}) {
     const first = await firstDocument(schema, doc, {engines: this.#engines, program: this.#program})
     await notes.set(MADE, {schemaName, schema, doc: first})
     const live = new Live([...this.#program, "new", log])
-    const opened = await this.#first(live, [JSON.stringify(schema), JSON.stringify(first)])
+    const {version} = await this.#first(live, [JSON.stringify(schema), JSON.stringify(first)])
     await syncFolder(this.#folder)
-    return new FolderDocument(live, opened.version, notes, events)
+    return {live, version}
   }
 
-  async #open(log, notes, events) {
+  async #open(log, notes) {
     if (!notes.notes.has(MADE)) throw new Error(`the notes of ${path.basename(log)} do not say its schema`)
     for (const end = Date.now() + BUSY; ;) {
       const live = new Live([...this.#program, "open", log])
       try {
-        return new FolderDocument(live, (await this.#first(live)).version, notes, events)
+        const {version} = await this.#first(live)
+        return {live, version}
       } catch (error) {
         if ((await live.ended).status != IS_BUSY || Date.now() > end) throw error
         await wait(100)
@@ -155,6 +166,17 @@ export class FolderStore {
     await live.close()
     throw new Error(`pm live has the fault ${opened.fault} of line ${opened.line}`)
   }
+
+  // The epoch of a log, and how it is noted. That it can't be noted is no fault: it may be another one the next time.
+  async #epoch(name, isThere, version) {
+    const file = this.#file(name, "epoch"), epoch = isThere ? await epochIn(file, version) : newEpoch()
+    const unnoted = error => this.#log.warn("epoch-unnoted", {document: name, ...said(error)})
+    const note = at => noteEpoch(file, epoch, at).catch(unnoted)
+    await note(version)
+    return {epoch, noteEpoch: note}
+  }
+
+  async renew() { await forgetEpochs(this.#folder) }
 
   // A file is written and read again.
   async check() {

@@ -2,6 +2,7 @@
 
 import {firstDocument} from "../engine.js"
 import {front, whole} from "./entries.js"
+import {newEpoch} from "./epochs.js"
 import {valueOf} from "./notes.js"
 
 class MemoryDocument {
@@ -12,6 +13,7 @@ class MemoryDocument {
     this.authority = authority
     this.schemaName = schemaName
     this.schema = schema
+    this.epoch = newEpoch()
     this.notes = new Map()
     this.#first = doc
   }
@@ -29,7 +31,7 @@ class MemoryDocument {
     return answer
   }
 
-  async since(version, bytes) { return front(whole(this.authority.since(version)), bytes) }
+  async since(version, bytes) { return front(this.authority.since(version), bytes) }
 
   async doc(isFirst = false) { return isFirst ? {doc: this.#first, version: 0} : whole(this.authority.doc()) }
 
@@ -68,6 +70,8 @@ export class MemoryStore {
   }
 
   async check() {}
+
+  async renew() {}
 
   async end() {
     for (const {authority} of this.#documents.values()) authority.close()

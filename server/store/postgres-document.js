@@ -29,6 +29,7 @@ export class PostgresDocument {
     this.#events = events
     this.schemaName = row.schema_name
     this.schema = JSON.parse(row.schema)
+    this.epoch = row.epoch
     this.notes = new Map()
   }
 
@@ -118,9 +119,8 @@ export class PostgresDocument {
   async #add(from, clientID) {
     const {steps} = this.#asked(() => this.#authority.since(from))
     try {
-      if (!steps) throw storeFails(new Error("there is no memory for the entries"))
       const notice = this.#store.notice(this.#name, {version: from + steps.length})
-      await this.#store.query(ADD, [this.#name, from, clientID, steps.map(it => JSON.stringify(it)), notice])
+      await this.#store.query(ADD, [this.#name, from, clientID, steps, notice])
       return true
     } catch (error) {
       this.#drop()
@@ -149,9 +149,9 @@ export class PostgresDocument {
     // Who knows of more than this server does has it of another one.
     if (version > this.#length) await this.#order.do(async () => (this.#authority ? this.#read() : this.#ready()))
     const authority = this.#authority
-    if (authority && version >= authority.base && authority.version == this.#length) return front(whole(authority.since(version)), bytes)
+    if (authority && version >= authority.base && authority.version == this.#length) return front(authority.since(version), bytes)
     const rows = (await this.#rows(version)).filter(it => Number(it.version) < this.#length)
-    const clientIDs = rows.map(it => it.client), steps = rows.map(it => JSON.parse(it.step))
+    const clientIDs = rows.map(it => JSON.stringify(it.client)), steps = rows.map(it => it.step)
     return front({clientIDs, steps, version: Math.min(version, this.#length) + rows.length}, bytes)
   }
 

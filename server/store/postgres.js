@@ -5,10 +5,11 @@ import {randomUUID} from "node:crypto"
 import {setTimeout as wait} from "node:timers/promises"
 import {packageOf} from "../packages.js"
 import {said} from "../log.js"
-import {storeFails} from "../errors.js"
+import {Refusal, storeFails} from "../errors.js"
 import {firstDocument} from "../engine.js"
 import {PostgresDocument} from "./postgres-document.js"
-import {CHANNEL, DOCUMENT, LENGTHS, MAKE, TABLES, TELL} from "./tables.js"
+import {newEpoch} from "./epochs.js"
+import {CHANNEL, DOCUMENT, FORGET_EPOCHS, KEEPS, LENGTHS, MAKE, RENEW, TABLES, TELL, TRY} from "./tables.js"
 
 /** The bytes that one notice may have, those of the server's ID not counted, and the pause between what is told that nothing keeps. */
 const MOST_TOLD = 7_800
@@ -41,6 +42,7 @@ export class PostgresStore {
   #fleeting = new Map()
   #tellTimer = null
   #isOver = false
+  #isRefused = false
   #timer
 
   constructor(settings, {engines, log}) {
@@ -83,6 +85,7 @@ export class PostgresStore {
       return (await this.#pool.query(text, values)).rows
     } catch (error) {
       if (error.code == "23505") throw error
+      if (KEEPS.has(text)) this.#isRefused = true
       this.#log.warn("database-fails", said(error))
       throw storeFails(error)
     }
@@ -180,13 +183,10 @@ export class PostgresStore {
   async open(name, first, events) {
     let [row] = await this.query(DOCUMENT, [name])
     if (!row && !first) return null
-    if (!row) {
-      const {schemaName, schema} = first
-      const doc = await firstDocument(schema, first.doc, {engines: this.#engines, program: this.#settings.program})
-      await this.query(MAKE, [name, schemaName, JSON.stringify(schema), JSON.stringify(doc)]);
-      // Another server may have been first.
-      [row] = await this.query(DOCUMENT, [name])
-    }
+    if (!row) await this.#make(name, first)
+    else if (!row.is_marked) await this.query(RENEW, [name, newEpoch()])
+    // Another server may have been first.
+    if (!row?.is_marked) [row] = await this.query(DOCUMENT, [name])
     const document = new PostgresDocument(this, name, row, events)
     // Notices that come from now on are heard.
     this.#held.set(name, document)
@@ -199,11 +199,36 @@ export class PostgresStore {
     return document
   }
 
+  async #make(name, {schemaName, schema, doc}) {
+    const first = await firstDocument(schema, doc, {engines: this.#engines, program: this.#settings.program})
+    await this.query(MAKE, [name, schemaName, JSON.stringify(schema), JSON.stringify(first), newEpoch()])
+  }
+
   letGo(name, document) {
     if (this.#held.get(name) === document) this.#held.delete(name)
   }
 
-  async check() { await this.query("SELECT 1") }
+  async renew() { await this.query(FORGET_EPOCHS) }
+
+  // Where something could not be kept, it is tried whether it can be by now.
+  async check() {
+    await this.query("SELECT 1")
+    if (!this.#isRefused) return
+    await this.#try()
+    this.#isRefused = false
+  }
+
+  async #try() {
+    const client = await this.#pool.connect()
+    try {
+      await client.query("BEGIN")
+      await client.query(TRY)
+    } catch (error) {
+      throw new Refusal("store", "the store refuses what is to be kept", {cause: error})
+    } finally {
+      await client.query("ROLLBACK").then(() => client.release(), error => client.release(error))
+    }
+  }
 
   async end() {
     this.#isOver = true

@@ -17,10 +17,11 @@ import {PostgresStore} from "./postgres.js"
  * @property {string} schemaName
  * @property {object} schema
  * @property {number} version the number of steps in the log
+ * @property {string} epoch a random value, the same as long as the log only grows
  * @property {Map<string, any>} notes what is kept beside the document
  * @property {(message: {version: number, clientID: string, steps: object[]}) => Promise<object>} submit
  *   the engine's answer. `accepted` comes once the steps are kept for good. Where it fails, it is not known whether they are
- * @property {(version: number, bytes: number) => Promise<{clientIDs: string[], steps: object[], version: number}>} since
+ * @property {(version: number, bytes: number) => Promise<import("./entries.js").Entries>} since
  *   the log's entries from a version on, as many as so many bytes hold, one at least where there is one; `version` is that of their end
  * @property {(isFirst?: boolean) => Promise<{doc: object, version: number}>} doc the document as it is, or the first one
  * @property {(id: string, value: any, isFleeting?: boolean) => Promise<any>} note
@@ -40,6 +41,7 @@ import {PostgresStore} from "./postgres.js"
  * @property {(name: string, first: First | null, events: Events) => Promise<Held | null>} open
  *   holds a document. Where it is not there it is made of `first`; null where there is no `first` either
  * @property {() => Promise<void>} check throws where documents can't be kept at present
+ * @property {() => Promise<void>} renew has each document have another epoch, when it is opened next
  * @property {() => Promise<void>} end
  */
 

@@ -13,12 +13,27 @@ CREATE TABLE IF NOT EXISTS gezhufet_snapshots (
   document text NOT NULL REFERENCES gezhufet_documents, version bigint NOT NULL, doc text NOT NULL, PRIMARY KEY (document, version));
 CREATE TABLE IF NOT EXISTS gezhufet_notes (
   document text NOT NULL REFERENCES gezhufet_documents, id text NOT NULL, value text NOT NULL, PRIMARY KEY (document, id));
+ALTER TABLE gezhufet_documents ADD COLUMN IF NOT EXISTS epoch text NOT NULL DEFAULT '', ADD COLUMN IF NOT EXISTS mark text;
 `
 
-export const MAKE = `
-INSERT INTO gezhufet_documents (name, schema_name, schema, doc) VALUES ($1, $2, $3, $4) ON CONFLICT DO NOTHING`
+/** Where the tables are: the cluster, how often it went on from an older state, the database, and which table of it this is. What was
+ * restored is elsewhere. */
+const MARK = `(
+SELECT concat_ws('.', system_identifier, timeline_id, pg_database.oid, 'gezhufet_entries'::regclass::oid)
+FROM pg_control_system(), pg_control_checkpoint(), pg_database WHERE datname = current_database())`
 
-export const DOCUMENT = "SELECT schema_name, schema, doc FROM gezhufet_documents WHERE name = $1"
+export const MAKE = `
+INSERT INTO gezhufet_documents (name, schema_name, schema, doc, epoch, mark)
+VALUES ($1, $2, $3, $4, $5, ${MARK}) ON CONFLICT DO NOTHING`
+
+export const DOCUMENT = `
+SELECT schema_name, schema, doc, epoch, mark IS NOT DISTINCT FROM ${MARK} AS is_marked FROM gezhufet_documents WHERE name = $1`
+
+/** Gives a document another epoch where it was made elsewhere: of two servers one alone does. */
+export const RENEW = `
+UPDATE gezhufet_documents SET epoch = $2, mark = ${MARK} WHERE name = $1 AND mark IS DISTINCT FROM ${MARK}`
+
+export const FORGET_EPOCHS = "UPDATE gezhufet_documents SET mark = NULL"
 
 /** The newest document that is kept: a snapshot, or none. */
 export const SNAPSHOT = `
@@ -67,3 +82,13 @@ WITH gone AS (DELETE FROM gezhufet_notes WHERE document = $1 AND id = $2 RETURNI
 SELECT pg_notify('${CHANNEL}', $3) FROM (SELECT count(*) FROM gone) AS counted`
 
 export const TELL = `SELECT pg_notify('${CHANNEL}', $1)`
+
+/** What adds rows: where one is refused, documents can't be kept. */
+export const KEEPS = new Set([MAKE, ADD, KEEP, SET_NOTE])
+
+/** Adds a document, and entries of more bytes than a page has: to be taken back. */
+export const TRY = `
+WITH made AS (INSERT INTO gezhufet_documents (name, schema_name, schema, doc) VALUES ('', '', '', '') RETURNING name)
+INSERT INTO gezhufet_entries (document, version, client, step)
+SELECT name, place, '', (SELECT string_agg(md5(place::text || part), '') FROM generate_series(1, 60) AS part)
+FROM made, generate_series(1, 5) AS place`

@@ -3,21 +3,11 @@
 
 import {setTimeout as wait} from "node:timers/promises"
 import {openEngine} from "../../bindings/js/src/index.js"
+import {random} from "./random.js"
 import {Talker, tokenFor} from "./talker.js"
 import {until, within} from "./waiting.js"
 
 const engine = await openEngine()
-
-/** Numbers from 0 to below 1, the same for one seed. */
-export function random(seed) {
-  let state = seed >>> 0 || 1
-  return () => {
-    state ^= state << 13
-    state ^= state >>> 17
-    state ^= state << 5
-    return (state >>> 0) / 2 ** 32
-  }
-}
 
 export class Editor {
   #addresses
@@ -39,6 +29,7 @@ export class Editor {
     this.user = user
     this.client = null
     this.ticket = null
+    this.epoch = null
     this.clientID = null
     /** The texts that it put in, in their order. */
     this.texts = []
@@ -85,8 +76,9 @@ export class Editor {
     const talker = new Talker(this.#addresses[this.#at % this.#addresses.length], this.document, {token: tokenFor(this.user)})
     this.#newest = talker
     const version = this.client ? this.version : null
-    const welcome = await within(talker.hello({version, ticket: this.ticket}), "the welcome")
+    const welcome = await within(talker.hello({version, epoch: this.epoch, ticket: this.ticket}), "the welcome")
     this.ticket = welcome.ticket
+    this.epoch = welcome.epoch
     this.clientID ??= welcome.clientID
     if (welcome.clientID != this.clientID) throw new Error("the ID is another one")
     if (!this.client)

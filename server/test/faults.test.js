@@ -48,6 +48,8 @@ const ENTRIES = [
   ["a ticket of another user", {first: {op: "hello", version: 0, ticket: "eve"}}, "ticket", 4401],
   ["a ticket of another document", {first: {op: "hello", version: 0, ticket: "other"}}, "ticket", 4401],
   ["a version past the log", {first: {op: "hello", version: 1000}}, "version", 4410],
+  ["a version without its epoch", {first: {op: "hello", version: 0}}, "epoch", 4410],
+  ["an epoch of another log", {first: {op: "hello", version: 0, epoch: "x".repeat(12)}}, "epoch", 4410],
 ]
 
 for (const [what, {token = tokenFor("ann"), document = "faulty", query, first = {op: "hello"}}, code, closes] of ENTRIES)

@@ -16,19 +16,27 @@ after(async () => {
   disk?.end()
 })
 
+const healthOf = async server => {
+  const response = await fetch(`${server.address}/health`)
+  return [response.status, (await response.json()).status]
+}
+
 async function fullAndFree(name, database, {fill, free}) {
   const server = await serve({store: "postgres", database, ...many}), ann = await join(server.address, "full", "ann")
   const editors = await editorsAt([server.address], "full", 3)
+  assert.deepEqual(await healthOf(server), [200, "ok"])
   await Promise.all(editors.map(it => it.typeOn(5, 20)))
   await Promise.all(editors.map(it => it.settled()))
   fill()
   await Promise.all(editors.map(it => it.typeOn(100, 2)))
   await until(() => server.lines.some(it => it.event == "refused" && it.code == "store"), "the full disk is told")
+  assert.deepEqual(await healthOf(server), [503, "the store refuses what is to be kept"])
   // What is there is read as before.
   const {version} = await ann.ask({op: "since", version: 0}), rows = "SELECT step FROM gezhufet_entries ORDER BY version"
   assert.equal((await postgres.rows(name, rows)).length >= version, true)
   assert.ok(editors.some(it => it.pending > 0))
   free()
+  assert.deepEqual(await healthOf(server), [200, "ok"])
   const {steps} = await finish([server.address], "full", editors)
   assert.deepEqual((await postgres.rows(name, rows)).map(it => JSON.parse(it.step)), steps)
   assert.ok(editors.every(it => it.moves == 0))

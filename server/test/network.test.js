@@ -3,7 +3,7 @@
 import assert from "node:assert/strict"
 import {test} from "node:test"
 import {setTimeout as wait} from "node:timers/promises"
-import {random} from "./editor.js"
+import {random} from "./random.js"
 import {relayTo} from "./network.js"
 import {serve} from "./servers.js"
 import {editorsAt, finish, many} from "./together.js"

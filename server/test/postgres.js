@@ -72,6 +72,13 @@ export async function startPostgres() {
       return address(name)
     },
     run(name, statement) { psql(statement, name) },
+    /** What pg_dump says of a database, and a database that is made of that anew. */
+    dump: name => run([path.join(bin, "pg_dump"), "-h", folder, "-p", String(port), "-U", "postgres", name], {cwd: folder}),
+    restore(name, dumped) {
+      psql(`DROP DATABASE ${name}`)
+      psql(`CREATE DATABASE ${name}`)
+      run([...client, "-d", name], {cwd: folder, input: dumped, stdio: ["pipe", "pipe", "pipe"]})
+    },
     /** The rows of a statement. */
     async rows(name, text, values) {
       const {Client} = packageOf("pg"), client = new Client({connectionString: address(name)})

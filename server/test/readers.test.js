@@ -30,7 +30,7 @@ test("one who has read is told the rest, in order", async () => {
   const server = await serve({slowBytes: 2_000, messageBytes: 3_000, entriesAtHand: 50, messageBurst: 10_000})
   const ann = await join(server.address, "slowly", "ann")
   for (let version = 0; version < 150; version++) await ann.submit(version, "x".repeat(100))
-  const carl = await join(server.address, "slowly", "carl", {hello: {version: 0}})
+  const carl = await join(server.address, "slowly", "carl", {hello: {version: 0, epoch: ann.welcome.epoch}})
   await carl.heard(it => it.op == "entries" && it.entries.version == 150, "all entries")
   const parts = carl.told.filter(it => it.op == "entries").map(it => it.entries)
   parts.reduce((at, it) => (assert.equal(it.version - it.steps.length, at), it.version), 0)

@@ -45,18 +45,18 @@ test("who connects again goes on from its version under its ID", async () => {
   await ann.submit(0, "a")
   ann.kill()
   await bob.submit(1, "b", 2)
-  const {ticket, clientID} = ann.welcome
-  const back = await join(server.address, "again", "ann", {hello: {version: 0, ticket}})
+  const {ticket, epoch, clientID} = ann.welcome
+  const back = await join(server.address, "again", "ann", {hello: {version: 0, epoch, ticket}})
   assert.equal(back.welcome.clientID, clientID)
   assert.equal(back.welcome.doc, undefined)
   const {entries} = await back.heard(it => it.op == "entries")
   assert.deepEqual(entries.clientIDs, [clientID, bob.welcome.clientID])
   const late = new Talker(server.address, "again", {token: tokenFor("ann")})
   await late.opened
-  late.send({op: "hello", version: 7, ticket})
+  late.send({op: "hello", version: 7, epoch, ticket})
   assert.equal((await late.closed).code, 4410)
   // The newer connection of one client ends the older one.
-  const newer = await join(server.address, "again", "ann", {hello: {version: 2, ticket}})
+  const newer = await join(server.address, "again", "ann", {hello: {version: 2, epoch, ticket}})
   assert.equal((await back.closed).code, 4409)
   await Promise.all([newer, bob].map(it => it.close()))
 })
@@ -105,7 +105,7 @@ test("many entries come in parts, and the oldest from the store", async () => {
   const small = await serve({messageBytes: 3_000, entriesAtHand: 20, messageBurst: 2_000})
   const ann = await join(small.address, "parts", "ann")
   for (let version = 0; version < 100; version++) await ann.submit(version, "x".repeat(100))
-  const bob = await join(small.address, "parts", "bob", {hello: {version: 0}})
+  const bob = await join(small.address, "parts", "bob", {hello: {version: 0, epoch: ann.welcome.epoch}})
   await bob.heard(it => it.op == "entries" && it.entries.version == 100)
   const pushed = bob.told.filter(it => it.op == "entries").map(it => it.entries)
   assert.equal(pushed.reduce((sum, it) => sum + it.steps.length, 0), 100)

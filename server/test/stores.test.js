@@ -21,6 +21,12 @@ const silent = {grown() {}, noted() {}, ended() {}}
 
 const submission = (version, text, clientID = "ann~1") => ({version, clientID, steps: [inserted(text)]})
 
+// Entries as values: a store has them as the texts that the engine wrote.
+const entriesOf = async (held, from, bytes) => {
+  const {clientIDs, steps, version} = await held.since(from, bytes)
+  return {clientIDs: clientIDs.map(it => JSON.parse(it)), steps: steps.map(it => JSON.parse(it)), version}
+}
+
 const textOf = ({doc}) => doc.content.map(it => it.content?.[0]?.text ?? "").join("|")
 
 /** How stores are opened: `make` gives settings, `isKept` says whether documents outlive the store. */
@@ -71,15 +77,15 @@ function suite(name, {make, isKept, skip}) {
     test("gives the entries from any version on, in parts", async () => {
       const held = await store.open("entries", first, silent)
       for (let version = 0; version < 35; version++) await held.submit(submission(version, String(version % 10), `u~${version}`))
-      const all = await held.since(0, 1_000_000)
+      const all = await entriesOf(held, 0, 1_000_000)
       assert.deepEqual(all.clientIDs, [...Array(35).keys()].map(it => `u~${it}`))
       assert.equal(all.version, 35)
       for (const from of [0, 7, 20, 34]) {
-        const part = await held.since(from, 300)
+        const part = await entriesOf(held, from, 300)
         assert.ok(part.steps.length >= 1 && part.version == from + part.steps.length && part.version <= 35)
         assert.deepEqual(part.steps, all.steps.slice(from, part.version))
       }
-      assert.deepEqual(await held.since(35, 1_000), {clientIDs: [], steps: [], version: 35})
+      assert.deepEqual(await entriesOf(held, 35, 1_000), {clientIDs: [], steps: [], version: 35})
       await held.close()
     })
 
@@ -109,12 +115,12 @@ function suite(name, {make, isKept, skip}) {
       const held = await store.open("kept", first, silent)
       for (let version = 0; version < 25; version++) await held.submit(submission(version, "abc"[version % 3]))
       await held.note("comment", {text: "kept"})
-      const before = [await held.doc(), await held.since(0, 1_000_000)]
+      const before = [await held.doc(), await entriesOf(held, 0, 1_000_000)]
       await held.close()
       await store.end()
       store = await start()
       const again = await store.open("kept", null, silent)
-      assert.deepEqual([await again.doc(), await again.since(0, 1_000_000)], before)
+      assert.deepEqual([await again.doc(), await entriesOf(again, 0, 1_000_000)], before)
       assert.deepEqual([...again.notes], [["comment", {text: "kept"}]])
       assert.deepEqual(await again.submit(submission(24, "z")), {version: 25})
       assert.deepEqual(await again.submit(submission(25, "z")), {accepted: {count: 1, from: 25}})
@@ -125,7 +131,7 @@ function suite(name, {make, isKept, skip}) {
       const held = await store.open("texts", first, silent)
       const texts = ["\u0000", "\"\\", "\ud83d\ude00", "\u2028", "ſ", "e\u0301", "\u007f", "</script>"]
       for (const [version, text] of texts.entries()) assert.ok((await held.submit(submission(version, text))).accepted)
-      const {steps} = await held.since(0, 1_000_000)
+      const {steps} = await entriesOf(held, 0, 1_000_000)
       assert.deepEqual(steps.map(it => it.slice.content[0].text), texts)
       await held.close()
     })

@@ -35,6 +35,8 @@ static void renew(word size, word most) {
   if (mprotect(test_memory, ROOM, PROT_NONE)) abort();
   memset(lists, 0, sizeof lists);
   memset(filled, 0, sizeof filled);
+  memset(kept, 0, sizeof kept);
+  memset(counts, 0, sizeof counts);
   used = limit = test_size = 0;
   last = 0;
   test_most = most;
@@ -71,6 +73,20 @@ static int count_listed(void) {
   return count;
 }
 
+// The bytes of the blocks that are kept, which are marked as in use.
+static word size_of_kept(void) {
+  word size = 0;
+  for (word k = 0; k < KEPT_BELOW / ALIGN; k++) {
+    unsigned count = 0;
+    for (Block *b = kept[k]; b; b = b->next, count++) {
+      if (!(b->head & USED) || size_of(b) != k * ALIGN) return ~(word)0;
+      size += size_of(b);
+    }
+    if (count != counts[k] || count > KEPT_MOST) return ~(word)0;
+  }
+  return size;
+}
+
 // Whether the blocks lie without gaps, no two free ones beside each other, with right marks, and the free ones in their lists. Gives
 // how many are free and the size of the largest.
 static int is_whole(int *frees, word *largest) {
@@ -89,7 +105,7 @@ static int is_whole(int *frees, word *largest) {
     }
     was_used = b->head & USED ? AFTER_USED : 0;
   }
-  return b == last && last->head == (USED | was_used) && in_use == used && count_listed() == *frees
+  return b == last && last->head == (USED | was_used) && in_use == used + size_of_kept() && count_listed() == *frees
     && (byte *)last + HEAD == test_memory + test_size;
 }
 
@@ -155,6 +171,7 @@ static void release_all(void) {
 static int is_empty(void) {
   int frees;
   word largest;
+  release_kept();
   return is_whole(&frees, &largest) && used == 0 && frees == 1;
 }
 

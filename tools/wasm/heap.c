@@ -1,6 +1,7 @@
 // malloc for a WebAssembly module: a heap in one memory that grows and never shrinks. A block that is freed is joined with the free
-// blocks beside it, so that what was given back serves blocks of any size. Free blocks lie in lists by size. Nothing proves this
-// file; heap-test.c tests it.
+// blocks beside it, so that what was given back serves blocks of any size. Free blocks lie in lists by size. Some small blocks that
+// were freed last stay as they are, and serve the next of their size at once; before memory grows they are joined as all others.
+// Nothing proves this file; heap-test.c tests it.
 //
 // A block is a head of one word and its bytes; blocks lie one after another without gaps, from the first byte after the module's
 // data to a last head, of size 0, at the end of memory. A size counts the head and is a multiple of 16. The bytes of a block in use
@@ -16,9 +17,13 @@ typedef struct Block {
 
 enum { USED = 1, AFTER_USED = 2, MARKS = 15, LEAST = 32, ALIGN = 16, HEAD = sizeof(word) };
 enum { SMALL = 1024, EACH = 8, LISTS = SMALL / ALIGN + EACH * 24 };
+// Blocks of a size below this stay as they are when they are freed, of each size so many.
+enum { KEPT_BELOW = 512, KEPT_MOST = 32 };
 
 static Block *lists[LISTS];
 static word filled[(LISTS + 63) / 64];  // which lists are not empty
+static Block *kept[KEPT_BELOW / ALIGN]; // blocks that were freed and are marked as in use, by size
+static unsigned counts[KEPT_BELOW / ALIGN];
 static word used, limit;
 static Block *last;                     // the head at the end of memory; none before the first call
 
@@ -109,6 +114,40 @@ static void occupy(Block *b) {
   after(b)->head |= AFTER_USED;
 }
 
+// ---- blocks that stay as they are
+
+// Keeps a block that is freed. False where it is to be released.
+static int keep(Block *b, word size) {
+  word k = size / ALIGN;
+  if (size >= KEPT_BELOW || counts[k] == KEPT_MOST) return 0;
+  b->next = kept[k];
+  kept[k] = b;
+  counts[k]++;
+  return 1;
+}
+
+// A block of this size that was kept, or none.
+static Block *kept_of(word size) {
+  word k = size / ALIGN;
+  if (size >= KEPT_BELOW || !kept[k]) return 0;
+  Block *b = kept[k];
+  kept[k] = b->next;
+  counts[k]--;
+  return b;
+}
+
+// Releases all that is kept.
+static void release_kept(void) {
+  for (word k = 0; k < KEPT_BELOW / ALIGN; k++) {
+    for (Block *b = kept[k], *next; b; b = next) {
+      next = b->next;
+      release(b, size_of(b), b->head & AFTER_USED);
+    }
+    kept[k] = 0;
+    counts[k] = 0;
+  }
+}
+
 // ---- memory
 
 // Makes what lies after the module's data one free block. False where that is too little, and no more is given.
@@ -149,12 +188,25 @@ static word size_for(word n) {
 
 // ---- what programs call
 
+// A free block of at least so many bytes, or none where memory is refused.
+static Block *found(word size) {
+  if (!last && !begin()) return 0;
+  Block *b = find(size);
+  if (b) return b;
+  release_kept();
+  b = find(size);
+  return b || !grow(size) ? b : find(size);
+}
+
 void *malloc(word n) {
   word size = size_for(n);
   if (!size) return 0;
-  if (!last && !begin()) return 0;
-  Block *b = find(size);
-  if (!b) b = grow(size) ? find(size) : 0;
+  Block *b = kept_of(size);
+  if (b) {
+    used += size;
+    return bytes_of(b);
+  }
+  b = found(size);
   if (!b) return 0;
   take(b);
   occupy(b);
@@ -173,8 +225,9 @@ void *calloc(word count, word n) {
 void free(void *p) {
   if (!p) return;
   Block *b = block_of(p);
-  used -= size_of(b);
-  release(b, size_of(b), b->head & AFTER_USED);
+  word size = size_of(b);
+  used -= size;
+  if (!keep(b, size)) release(b, size, b->head & AFTER_USED);
 }
 
 // Joins a block in use with the free one after it, where both have `size` bytes. At the end of memory, memory is asked for.

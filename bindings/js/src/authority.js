@@ -30,9 +30,10 @@ export class Authority {
     return {accepted: answer.accepted !== undefined, version: this.#version}
   }
 
-  /// The log's entries from `version` on: their steps, the ID of the client that made each, and the log's version.
-  since(version = 0) {
-    const {steps, clientIDs, version: now} = judged(this.ask({op: "since", version}))
+  /// The log's entries from `version` on: their steps, the ID of the client that made each, and the log's version. With `most` at
+  /// most so many, and the version after the last of them.
+  since(version = 0, most) {
+    const {steps, clientIDs, version: now} = judged(this.ask({op: "since", version, most}))
     return {steps: this.#Step && this.#schema ? steps.map(it => this.#Step.fromJSON(this.#schema, it)) : steps, clientIDs, version: now}
   }
 

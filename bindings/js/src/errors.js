@@ -17,7 +17,7 @@ const CODES = {
   15: "a side of a slice that is deeper than its content, or too many tokens",
   16: "the document is not valid or not of the top type, or the top type can't be filled",
   18: "no room for one more cursor",
-  19: "no room for one more client",
+  19: "a client's ID that is too long, or no room for one more client",
 }
 const REASONS = {
   1: "its positions are not in order within the document",

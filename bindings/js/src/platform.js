@@ -18,3 +18,13 @@ export async function requireFile(url) {
   if (!fs || url.protocol != "file:" || !fs.existsSync(url)) return null
   return module.createRequire(url)(fileURLToPath(url))
 }
+
+// node reads a text of bytes faster by its Buffer.
+const isNode = typeof process != "undefined" && Boolean(process.versions?.node) && typeof Buffer != "undefined"
+const decoder = new TextDecoder()
+
+/// So many bytes of a buffer, for `textOf`.
+export const viewOf = (buffer, at, length) => (isNode ? Buffer.from(buffer, at, length) : new Uint8Array(buffer, at, length))
+
+/// The first bytes of a view, which are UTF-8, as a text.
+export const textOf = (view, length) => (isNode ? view.utf8Slice(0, length) : decoder.decode(view.subarray(0, length)))

@@ -2,7 +2,7 @@
 // comes out by one buffer in its memory.
 
 import {EndedError, MemoryError} from "./errors.js"
-import {readFile} from "./platform.js"
+import {readFile, textOf, viewOf} from "./platform.js"
 
 // The bytes of a line that the engine reads, its LF not counted. Of a longer one, which has a fault, one byte more is told.
 const LINE_LIMIT = 1048576
@@ -13,7 +13,6 @@ const SHORT = 1365
 
 const OWN_MODULE = new URL("../gezhufet.wasm", import.meta.url)
 const encoder = new TextEncoder()
-const decoder = new TextDecoder()
 const compiled = new Map()
 
 const bytesOf = line => encoder.encode(line).subarray(0, LINE_LIMIT + 1)
@@ -46,11 +45,13 @@ export async function openWasm({module, memory} = {}) {
 
 class WasmEngine {
   #exports
+  #ask
   #fault = null
   #least = null
 
   constructor({exports}, memory) {
     this.#exports = exports
+    this.#ask = exports.ask
     if (memory !== undefined) this.#call("limit", Math.max(Math.floor(memory / PAGE), 1) * PAGE)
   }
 
@@ -58,13 +59,21 @@ class WasmEngine {
 
   // Calls an export. After an exception memory may be half written, so the instance is never called again.
   #call(name, first, second, third) {
-    if (this.#fault) throw new EndedError("the engine has stopped by a fault", {cause: this.#fault})
+    this.#ensure()
     try {
       return this.#exports[name](first, second, third) >>> 0
     } catch (fault) {
-      this.#fault = fault
-      throw new EndedError(`the engine has stopped by a fault: ${fault.message}`, {cause: fault})
+      throw this.#stopped(fault)
     }
+  }
+
+  #ensure() {
+    if (this.#fault) throw new EndedError("the engine has stopped by a fault", {cause: this.#fault})
+  }
+
+  #stopped(fault) {
+    this.#fault = fault
+    return new EndedError(`the engine has stopped by a fault: ${fault.message}`, {cause: fault})
   }
 
   /// An authority's talk by its two lines, which is a number, and the answer to both.
@@ -83,8 +92,18 @@ class WasmEngine {
 
   /// The answer to a line, without its LF.
   tell(talk, line) {
-    const length = this.#call("ask", talk, this.#put(line))
-    return length <= LEAST ? this.#text(this.#first(), length) : this.#answer(talk, length)
+    const bytes = this.#put(line), length = this.#asked(talk, bytes)
+    return length <= LEAST ? textOf(this.#first(), length - 1) : this.#answer(talk, length)
+  }
+
+  // The same as #call("ask", ..), by a function that is not looked for.
+  #asked(talk, bytes) {
+    this.#ensure()
+    try {
+      return this.#ask(talk, bytes) >>> 0
+    } catch (fault) {
+      throw this.#stopped(fault)
+    }
   }
 
   /// Lets a talk go. A stopped engine has let all go.
@@ -120,9 +139,10 @@ class WasmEngine {
     }
   }
 
-  // The first bytes of the buffer. They are looked for again where it may have moved, or the memory has grown.
+  // The first bytes of the buffer. They are looked for again where it may have moved, or the memory has grown: then a view of the memory
+  // as it was has no bytes.
   #first() {
-    if (this.#least?.buffer !== this.#exports.memory.buffer) this.#least = this.#bytes(this.#room(LEAST), LEAST)
+    if (!this.#least?.length) this.#least = this.#bytes(this.#room(LEAST), LEAST)
     return this.#least
   }
 
@@ -131,11 +151,8 @@ class WasmEngine {
     this.#least = null
     const at = this.#call("answer", talk)
     if (at == 0) throw new MemoryError()
-    return this.#text(this.#bytes(at, length), length)
+    return textOf(this.#bytes(at, length), length - 1)
   }
 
-  // The text of an answer without its LF, of which all bytes are there.
-  #text(bytes, length) { return decoder.decode(bytes.subarray(0, length - 1)) }
-
-  #bytes(at, length) { return new Uint8Array(this.#exports.memory.buffer, at, length) }
+  #bytes(at, length) { return viewOf(this.#exports.memory.buffer, at, length) }
 }

@@ -19,6 +19,8 @@ for (const kind of engines) describe(`the authority over ${kind}`, () => {
     const {steps, clientIDs, version} = authority.since()
     assert.deepEqual([steps, clientIDs, version], [[{...insertion(1, "x"), stepType: "replace"}], ["ann"], 1])
     assert.deepEqual(authority.since(1), {steps: [], clientIDs: [], version: 1})
+    assert.deepEqual(authority.since(0, 0), {steps: [], clientIDs: [], version: 0})
+    assert.equal(authority.since(0, 1).version, 1)
     assert.deepEqual(authority.doc(), {
       doc: {type: "doc", content: [{type: "paragraph", content: [{type: "text", text: "xab"}]}]},
       version: 1,
@@ -46,7 +48,9 @@ for (const kind of engines) describe(`the authority over ${kind}`, () => {
       assert.throws(call, error => error instanceof FaultError && error.code == code && error.line == line)
     fails(() => authority.submit({version: 0, steps: [{stepType: "nothing"}], clientID: 1}), 7)
     fails(() => authority.submit({version: 0.5, steps: [], clientID: 1}), 6)
+    fails(() => authority.submit({version: 0, steps: [], clientID: "x".repeat(1023)}), 19)
     fails(() => authority.since(-1), 6)
+    fails(() => authority.since(0, -1), 6)
     assert.deepEqual(authority.ask({op: "nothing"}), {fault: 7})
     assert.equal(authority.tell("no JSON"), '{"fault":5}')
     assert.equal(authority.tell(""), '{"fault":5}')

@@ -1,7 +1,7 @@
 """One document and the log of its steps."""
 
 from dataclasses import dataclass
-from typing import List, Sequence
+from typing import List, Optional, Sequence
 
 from .conversation import ClientID, Conversation, Json, raise_if_wrong
 from .errors import WrongVersion
@@ -52,9 +52,12 @@ class Authority(Conversation):
             raise WrongVersion(answer["version"])
         return Accepted(answer["accepted"]["from"], answer["accepted"]["count"])
 
-    def since(self, version: int) -> Entries:
-        """The log from the version on; no steps where it is no longer than that. Raises `Fault` and `OutOfMemory`."""
-        answer = self.tell({"op": "since", "version": version})
+    def since(self, version: int, most: Optional[int] = None) -> Entries:
+        """The log from the version on; no steps where it is no longer than that.
+
+        With `most` at most so many entries, and the version after the last of them. Raises `Fault` and `OutOfMemory`.
+        """
+        answer = self.tell({"op": "since", "version": version, "most": most})
         raise_if_wrong(answer)
         return Entries(answer["steps"], answer["clientIDs"], answer["version"])
 

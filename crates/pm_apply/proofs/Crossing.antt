@@ -8,11 +8,12 @@ use Rattle.pm_value.proofs.value.Fields.TheLaws.TheKnot as Values
 use Rattle.pm_marks.proofs.set.MarkSet.TheSendSync as MarkSet
 use Rattle.pm_marks.proofs.rules.MarkRules.TheSendSync as MarkRules
 use Rattle.pm_auto.proofs.expr.Expr.TheLaws.TheKnot as Exprs
-use Rattle.pm_auto.proofs.auto.Auto.TheSendSync as Auto
 use Rattle.pm_schema.proofs.names.Names.TheSendSync as Names
 use Rattle.pm_units.proofs.units.Units.TheSendSync as Units
 use Rattle.pm_node.proofs.node.Fragment.TheLaws.TheKnot as Nodes
 use Rattle.pm_attrs.specs.contracts.attrs.Attrs as attrs
+use Rattle.pm_auto.specs.contracts.states.States as states
+use Rattle.pm_auto.specs.contracts.auto.Auto as auto
 use Rattle.pm_schema.specs.contracts.spec.AttrSpec as attr_spec
 use Rattle.pm_schema.specs.contracts.declared.AttrSpecs as attr_specs
 use Rattle.pm_schema.specs.contracts.spec.NodeSpec as node_spec
@@ -80,11 +81,23 @@ spec_send = search (sendable, Listed.the_send, node_spec_send, mark_spec_send, T
 pub spec_sync : IsSync spec.the_row
 spec_sync = search (sendable, Listed.the_sync, node_spec_sync, mark_spec_sync, Text.the_sync) depth 20
 
+pub states_send : IsSend states.the_row
+states_send = search (sendable, Listed.the_send, crosses, Exprs.crosses) depth 20
+
+pub states_sync : IsSync states.the_row
+states_sync = search (sendable, Listed.the_sync, crosses, Exprs.crosses) depth 20
+
+pub auto_send : IsSend auto.the_row
+auto_send = search (sendable, Listed.the_send, states_send) depth 20
+
+pub auto_sync : IsSync auto.the_row
+auto_sync = search (sendable, Listed.the_sync, states_sync) depth 20
+
 pub schema_send : IsSend schema.the_row
-schema_send = declared_send schema.the_type (spec_send, (Names.the_send, (Names.the_send, (search sendable, (search sendable, (search (sendable, Listed.the_send, Auto.the_send) depth 20, (search (sendable, Listed.the_send) depth 20, (search (sendable, MarkRules.the_send), (search (sendable, Listed.the_send) depth 20, (search (sendable, Listed.the_send) depth 20, tt))))))))))
+schema_send = declared_send schema.the_type (spec_send, (Names.the_send, (Names.the_send, (search sendable, (search sendable, (search (sendable, Listed.the_send, auto_send) depth 20, (search (sendable, Listed.the_send) depth 20, (search (sendable, MarkRules.the_send), (search (sendable, Listed.the_send) depth 20, (search (sendable, Listed.the_send) depth 20, tt))))))))))
 
 pub schema_sync : IsSync schema.the_row
-schema_sync = declared_sync schema.the_type (spec_sync, (Names.the_sync, (Names.the_sync, (search sendable, (search sendable, (search (sendable, Listed.the_sync, Auto.the_sync) depth 20, (search (sendable, Listed.the_sync) depth 20, (search (sendable, MarkRules.the_sync), (search (sendable, Listed.the_sync) depth 20, (search (sendable, Listed.the_sync) depth 20, tt))))))))))
+schema_sync = declared_sync schema.the_type (spec_sync, (Names.the_sync, (Names.the_sync, (search sendable, (search sendable, (search (sendable, Listed.the_sync, auto_sync) depth 20, (search (sendable, Listed.the_sync) depth 20, (search (sendable, MarkRules.the_sync), (search (sendable, Listed.the_sync) depth 20, (search (sendable, Listed.the_sync) depth 20, tt))))))))))
 
 pub slice_send : IsSend slice.the_row
 slice_send = search (sendable, fragment_send) depth 20

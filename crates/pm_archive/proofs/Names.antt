@@ -1,5 +1,5 @@
 -- What a line leaves of a document: its name, and that it is valid.
-use Rattle.std.proofs.Common.{◌≡◌, ◌+◌, ℕ, Bool, true, false, List, refl, Result, Ok, Err}
+use Rattle.std.proofs.Common.{◌≡◌, ◌∙◌, ◌+◌, ◌++◌, ℕ, Bool, true, false, List, [], ◌∷◌, refl, ap, sym, append-nil, Result, Ok, Err}
 use Rattle.std.specs.Prelude.{◌==◌, length, if◌then◌else◌}
 use Rattle.serde_json.specs.Data.{Data}
 use Rattle.pm_tokens.specs.Tokens.{Doc as Document}
@@ -21,7 +21,7 @@ use Rattle.pm_authority.specs.Kept.{IsKept}
 use Rattle.pm_authority.proofs.RunFolds.{kept-append}
 use Rattle.pm_talk.specs.Ids.{number_of, has_room, with_id}
 use Rattle.pm_talk.specs.Texts.{fault_text}
-use Rattle.pm_talk.specs.Live.{LiveAuthority, LiveAnswer, named, is_accepted}
+use Rattle.pm_talk.specs.Live.{LiveAuthority, LiveAnswer, named, some_steps, is_accepted}
 use Rattle.pm_order.specs.declared.word.DocWord.{DocWord}
 use Rattle.pm_order.specs.declared.wish.Wish.{Wish}
 use Rattle.pm_order.specs.declared.wish.Wish.TheVariants.{Submit, Since, Doc}
@@ -50,18 +50,25 @@ presented-kept a version steps kept = from (version == version_of a)
     from true = ran (run meaning a.schema a.doc 0 steps) refl
     from false = kept
 
--- no answer but Accepted changes it
+-- where no step was accepted, nothing changes
 pub unaccepted : (a : Archive) (version : ℕ) (steps : List (Named Step)) → is_accepted (presented_at a version steps).0 ≡ false
     → (presented_at a version steps).1 ≡ authority_of a
 unaccepted a version steps e = from (version == version_of a) e
   where
-    ran : (r : Result Document (Refusal Reason)) → is_accepted (tried meaning a.schema (authority_of a) steps r).0 ≡ false
+    none : (d : Document) (xs : List (Named Step)) → run meaning a.schema a.doc 0 xs ≡ Ok d → some_steps (length xs) ≡ false
+        → record { first = a.first; doc = d; log = a.log ++ xs } ≡ authority_of a
+    none d [] q e =
+        let same : a.doc ≡ d = cc in
+        ap (λ x. record { first = a.first; doc = x; log = a.log ++ [] }) (sym same) ∙ ap (λ xs. record { first = a.first; doc = a.doc; log = xs }) (append-nil a.log)
+    none d (x ∷ xs) q e = absurd (cc)
+
+    ran : (r : Result Document (Refusal Reason)) → run meaning a.schema a.doc 0 steps ≡ r → is_accepted (tried meaning a.schema (authority_of a) steps r).0 ≡ false
         → (tried meaning a.schema (authority_of a) steps r).1 ≡ authority_of a
-    ran (Ok d) e = absurd (cc)
-    ran (Err x) e = refl
+    ran (Ok d) q e = none d steps q e
+    ran (Err x) q e = refl
 
     from : (b : Bool) → is_accepted (chosen a steps b).0 ≡ false → (chosen a steps b).1 ≡ authority_of a
-    from true e = ran (run meaning a.schema a.doc 0 steps) e
+    from true e = ran (run meaning a.schema a.doc 0 steps) refl e
     from false e = refl
 
 -- ---- names

@@ -42,7 +42,7 @@ answer_text from (WrongVersion size) = version_text (from + size)
 answer_text from (StepRefused index reason) = refused_text index reason
 answer_text from (Entries since entries) = []
 
--- Accepted is the one answer that changes anything: the document and its log are those after it, and the client's ID is among the IDs.
+-- Only steps that were accepted change anything: the document and its log are those after it, and the client's ID is among the IDs.
 abbrev pub told : Archive → List ℕ → LiveAnswer × LiveAuthority → List ℕ × Archive
 told a id given = (
   answer_text a.from given.0,

@@ -3,7 +3,7 @@ ghost use Rattle.std.specs.Prelude.{◌≡◌, ◌+◌, ◌<◌, ◌≤◌, ◌^
 ghost use Rattle.std.specs.List.{list_any};
 ghost use Rattle.std.specs.Str.{bytes_eq};
 ghost use Rattle.pm_schema.specs.Names.{place_of};
-ghost use Rattle.pm_talk.specs.Live.{named};
+ghost use Rattle.pm_talk.specs.Live.{named, some_steps};
 ghost use Rattle.pm_archive.specs.declared.presenting.TheConstants.{MAX_IDS};
 ghost use Rattle.pm_archive.specs.Archives.{IsArchive, with_authority};
 ghost use Rattle.pm_archive.specs.Answers.{presented_at, submitted};
@@ -27,7 +27,7 @@ const MAX_IDS: usize = 4_294_967_295;
 pub(crate) struct Told {
     /// The answer's line.
     pub text: String,
-    /// Whether the steps were accepted.
+    /// Whether a step was accepted.
     pub accepted: bool,
 }
 
@@ -59,7 +59,7 @@ impl Archive {
         }
     }
 
-    /// The answer to a submission of a client whose ID is not there yet. It is taken up where the submission is accepted.
+    /// The answer to a submission of a client whose ID is not there yet. It is taken up where a step is accepted.
     fn submit_first(
         &mut self,
         alloc: Global,
@@ -115,12 +115,10 @@ impl Archive {
         match apply_all(alloc, self.schema.get(), &self.doc, all.as_slice()) {
             Ok(doc) => {
                 let text = accepted_text(alloc, own, all.len() as u64)?;
+                let accepted = some_steps(all.len() as u64);
                 self.log.append(all)?;
                 self.doc = doc;
-                Ok(Told {
-                    text,
-                    accepted: true,
-                })
+                Ok(Told { text, accepted })
             }
             Err(Failed::Reason(Refusal { index, reason })) => Ok(Told {
                 text: refused_text(alloc, index, &reason)?,
@@ -129,6 +127,13 @@ impl Archive {
             Err(Failed::NoMemory) => Err(AllocError),
         }
     }
+}
+
+/// Whether that is any step.
+fn some_steps(count: u64) -> bool
+    ensures { result ≡ some_steps count }
+{
+    count > 0
 }
 
 /// Lets all IDs but the first `count` go, unless the last is kept.

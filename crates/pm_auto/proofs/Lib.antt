@@ -23,6 +23,7 @@ mod KnownLaws
 mod PrintLaws
 mod TypeLaws
 pub mod TreeLaws
+mod WayLaws
 pub mod AcceptLaws
 mod FewLaws
 pub mod TwinLaws

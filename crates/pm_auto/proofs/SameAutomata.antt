@@ -59,7 +59,7 @@ module _ (rs ss : List Row) (h : Alike_rows rs ss) where
       ∙ ap (λ z. (eqb (look ss n).kind k && z) || end_rows rs k ns) l.ends
       ∙ ap (λ z. (eqb (look ss n).kind k && (look ss n).ends) || z) (end-alike k ns)
 
-  step-alike : (k : ℕ) (s : PlaceSet) → step rs k s ≡ step ss k s
+  pub step-alike : (k : ℕ) (s : PlaceSet) → step rs k s ≡ step ss k s
   step-alike k s =
       ap (λ (z : List ℕ). set_of z (end_rows rs k s.places)) (order-from (next_rows rs k s.places) (next_rows ss k s.places) 0 rs ss (next-alike k s.places) h)
       ∙ ap (set_of (in_order (next_rows ss k s.places) 0 ss)) (end-alike k s.places)
@@ -104,13 +104,13 @@ module _ (rs ss : List Row) (h : Alike_rows rs ss) where
 
 -- the automaton of the table that was laid out is that of the expression
 module _ (x : Expr) (p : Part) (rs : List Row) (fs ps : List ℕ) (h : Alike p (part 0 (trimmed x))) (er : rs ≡ p.rows) (ef : fs ≡ p.first) (ep : ps ≡ in_order fs 0 rs) where
-  rows-are : Alike_rows rs (rows 0 (trimmed x))
+  pub rows-are : Alike_rows rs (rows 0 (trimmed x))
   rows-are = subst (λ (z : List Row). Alike_rows z (rows 0 (trimmed x))) (sym er) h.rows
 
   abbrev start : PlaceSet
   start = set_of ps p.may_be_empty
 
-  start-is : start ≡ start_of (trimmed x)
+  pub start-is : start ≡ start_of (trimmed x)
   start-is =
       ap (λ (z : List ℕ). set_of z p.may_be_empty) (ep ∙ order-alike fs (firsts 0 (trimmed x)) rs (rows 0 (trimmed x)) (ef ∙ h.first) rows-are)
       ∙ ap (set_of (in_order (firsts 0 (trimmed x)) 0 (rows 0 (trimmed x)))) h.may_be_empty

@@ -7,6 +7,7 @@ pub mod Table
 pub mod Numbers
 pub mod Runs
 pub mod States
+pub mod Ways
 pub mod Members
 pub mod Bits
 pub mod Alike

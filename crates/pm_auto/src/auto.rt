@@ -3,7 +3,7 @@ ghost use Rattle.std.specs.Prelude.{◌≡◌, ◌<◌, ◌↔◌, ℕ, List, tr
 ghost use Rattle.pm_auto.specs.Graph.{Is_graph};
 ghost use Rattle.pm_auto.specs.GraphProps.{graph-prop};
 
-use crate::copies::{copy_edges, copy_sets};
+use crate::copies::copy_edges;
 use crate::edges::{has_edge, links_of, may_end_at, share_type, target_of};
 use crate::error::AutoError;
 use crate::explore::explore;
@@ -13,6 +13,7 @@ use crate::layout::lay_out;
 use crate::mixed::has_type;
 use crate::search::{reaching, search};
 use crate::sets::{PlaceSet, in_order};
+use crate::states::States;
 use crate::width::width;
 use crate::wraps::{hold_first, keep_wrappers, links_within};
 use pm_list::Listed;
@@ -36,7 +37,7 @@ pub struct Edge {
 /// ProseMirror: `ContentMatch`.
 #[derive(Drop, Debug)]
 pub struct Auto {
-    pub(crate) sets: Listed<PlaceSet>,
+    pub(crate) sets: States,
     pub(crate) edges: Listed<Listed<Edge>>,
     ghost some: { 0 < length sets },
     ghost full: { length edges ≡ length sets },
@@ -91,14 +92,14 @@ impl Auto {
             places,
             ends: part.may_be_empty,
         };
-        explore(alloc, rows, start)
+        explore(alloc, expr, rows, start)
     }
 
     /// An automaton equal to this one.
     pub fn copy(&self, alloc: Global) -> Result<Auto, AllocError>
         ensures { IfOk result (λ a. a ≡ self.now) }
     {
-        let sets = copy_sets(alloc, self.sets.as_slice())?;
+        let sets = self.sets.copy(alloc)?;
         let edges = copy_edges(alloc, self.edges.as_slice())?;
         Ok(Auto { sets, edges })
     }
@@ -128,7 +129,7 @@ impl Auto {
         requires { state < length self.now.sets }
         ensures { result ≡ ends_at self.now.sets state }
     {
-        may_end_at(self.sets.as_slice(), state)
+        may_end_at(&self.sets, state)
     }
 
     /// The edges of the state, one for each type that may come next, in the order of their first places.
@@ -195,14 +196,7 @@ impl Auto {
     {
         let count = autos.len();
         let mut links = links_within(alloc, autos, may_wrap)?;
-        let first = keep_wrappers(
-            alloc,
-            may_wrap,
-            count,
-            false,
-            self.sets.as_slice(),
-            self.edges(state),
-        )?;
+        let first = keep_wrappers(alloc, may_wrap, count, false, &self.sets, self.edges(state))?;
         links.push(first)?;
         let mut goals = hold_first(alloc, target, autos)?;
         goals.push(has_edge(self.edges(state), target))?;

@@ -4,7 +4,6 @@ ghost use Rattle.pm_auto.specs.Tree.{tree};
 
 use crate::auto::Edge;
 use crate::expr::Expr;
-use crate::sets::PlaceSet;
 use pm_list::Listed;
 use std::alloc::{AllocError, Global};
 
@@ -62,21 +61,6 @@ pub fn copy_plain<T: Copy + Drop>(alloc: Global, items: &[T]) -> Result<Listed<T
     let mut copies = Listed::from_vec(Vec::with_capacity(alloc, items.len())?);
     for item in items {
         copies.push(*item)?;
-    }
-    Ok(copies)
-}
-
-/// States equal to these, in the same order.
-pub fn copy_sets(alloc: Global, sets: &[PlaceSet]) -> Result<Listed<PlaceSet>, AllocError>
-    ensures { IfOk result (λ l. l ≡ sets.now) }
-{
-    let mut copies = Listed::new(alloc);
-    for set in sets {
-        let places = copy_plain(alloc, set.places.as_slice())?;
-        copies.push(PlaceSet {
-            places,
-            ends: set.ends,
-        })?;
     }
     Ok(copies)
 }

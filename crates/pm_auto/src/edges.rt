@@ -5,7 +5,7 @@ ghost use Rattle.pm_auto.specs.Walks.{target, edges_at, ends_at};
 
 use crate::auto::{Edge, State};
 use crate::expr::TypeId;
-use crate::sets::PlaceSet;
+use crate::states::States;
 use pm_list::Listed;
 
 /// The links of a node.
@@ -44,11 +44,12 @@ pub fn has_edge(edges: &[Edge], kind: TypeId) -> bool
 }
 
 /// Whether the content may end in the state.
-pub fn may_end_at(sets: &[PlaceSet], state: State) -> bool
+pub fn may_end_at(sets: &States, state: State) -> bool
     ensures { result ≡ ends_at sets.now state }
 {
-    if state < sets.len() {
-        sets[state].ends
+    let ends = sets.ends();
+    if state < ends.len() {
+        ends[state]
     } else {
         false
     }

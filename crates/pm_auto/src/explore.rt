@@ -1,19 +1,25 @@
 //! The states that can be reached, and their edges.
 ghost use Rattle.std.specs.Prelude.{◌≡◌, ◌<◌, ◌*◌, Bool, true, false, length, IfOk, IfErr, OnOk, MatchOption};
-ghost use Rattle.pm_auto.specs.States.{Below, Apart, Edges_of, Too_many, set_at};
+ghost use Rattle.pm_auto.specs.States.{Below, Apart, Edges_of, Too_many, set_at, start_of};
 ghost use Rattle.pm_auto.specs.Automata.{Is_automaton};
 ghost use Rattle.pm_auto.specs.Bits.{as_set};
 ghost use Rattle.pm_auto.specs.Groups.{Are_twins};
 ghost use Rattle.pm_auto.specs.Known.{All_known};
 ghost use Rattle.pm_auto.specs.Prints.{print_of, Are_prints};
 ghost use Rattle.pm_auto.specs.Found.{Found, Grows, Placed, Only_wide};
+ghost use Rattle.pm_auto.specs.Alike.{Alike_rows};
+ghost use Rattle.pm_auto.specs.Trim.{trimmed};
+ghost use Rattle.pm_auto.specs.Table.{rows as table};
+ghost use Rattle.pm_auto.specs.Ways.{Are_ways};
 
 use crate::auto::{Auto, Edge, State};
 use crate::error::AutoError;
+use crate::expr::Expr;
 use crate::groups::{group, list_at, twins};
 use crate::known::{Known, KnownStates, no_states, print, print_of_list, recall, remember};
 use crate::places::Row;
 use crate::sets::{BitSet, PlaceSet, after, as_list};
+use crate::states::{States, Way, add_way};
 use pm_list::Listed;
 use std::alloc::Global;
 
@@ -109,7 +115,7 @@ fn reach(
 }
 
 /// The edges of a state, one for each type at hand, in the order of their first places. The states that they lead to are put
-/// at the end where they are new.
+/// at the end where they are new, and so are the ways to them.
 fn edges_of(
     alloc: Global,
     rows: &[Row],
@@ -117,23 +123,26 @@ fn edges_of(
     sets: &mut Listed<PlaceSet>,
     prints: &mut Listed<u64>,
     known: &mut KnownStates,
+    ways: &mut Listed<Way>,
     at: State,
 ) -> Result<Listed<Edge>, AutoError>
     requires twins { Are_twins rows.now twins.now }
     requires found { Found rows.now sets.old }
     requires prints { Are_prints sets.old prints.old }
     requires known { All_known rows.now sets.old known.old.states }
+    requires ways { Are_ways rows.now sets.old ways.old }
     requires within { at < length sets.old }
     ensures edges { IfOk result (λ es. Edges_of rows.now sets.new (set_at sets.old at) es) }
     ensures grows { OnOk result (Grows sets.old sets.new) }
     ensures found { OnOk result (Found rows.now sets.new) }
     ensures prints { OnOk result (Are_prints sets.new prints.new) }
     ensures known { OnOk result (All_known rows.now sets.new known.new.states) }
+    ensures ways { OnOk result (Are_ways rows.now sets.new ways.new) }
     ensures err { IfErr result (λ e. Only_wide (Too_many rows.now (set_at sets.old 0)) e) }
 {
     let places = sets.as_slice()[at].places.as_slice();
     let groups = group(alloc, rows, twins, places)?;
-    let mut edges = Listed::new(alloc);
+    let mut edges = Listed::from_vec(Vec::with_capacity(alloc, groups.heads.len())?);
     for head in groups.heads.as_slice() {
         let row = &rows[*head];
         let kind = row.kind;
@@ -143,14 +152,18 @@ fn edges_of(
             Ok(to) => to,
             Err(error) => return Err(error),
         };
+        add_way(ways, to, Way { from: at, kind })?;
         edges.push(Edge { kind, to })?;
     }
     Ok(edges)
 }
 
-/// The automaton of these places and this start. `TooWide` where more than 1,000 states can be reached.
-pub fn explore(alloc: Global, rows: &[Row], start: PlaceSet) -> Result<Auto, AutoError>
-    requires { Below (length rows.now) start.places }
+/// The automaton of these places and this start, which are those of the expression. `TooWide` where more than 1,000 states can be
+/// reached.
+pub fn explore(alloc: Global, expr: &Expr, rows: &[Row], start: PlaceSet) -> Result<Auto, AutoError>
+    requires below { Below (length rows.now) start.places }
+    requires rows { Alike_rows rows.now (table 0 (trimmed expr.now)) }
+    requires start { start ≡ start_of (trimmed expr.now) }
     ensures ok { IfOk result (λ a. Is_automaton rows.now start a) }
     ensures err { IfErr result (λ e. Only_wide (Too_many rows.now start) e) }
 {
@@ -160,6 +173,7 @@ pub fn explore(alloc: Global, rows: &[Row], start: PlaceSet) -> Result<Auto, Aut
     let mut sets = Listed::new(alloc);
     sets.push(start)?;
     let mut known = no_states(alloc, rows.len())?;
+    let mut ways = Listed::new(alloc);
     let mut edges: Listed<Listed<Edge>> = Listed::new(alloc);
     'states: while edges.len() < sets.len() {
         let at = edges.len();
@@ -170,9 +184,11 @@ pub fn explore(alloc: Global, rows: &[Row], start: PlaceSet) -> Result<Auto, Aut
             &mut sets,
             &mut prints,
             &mut known,
+            &mut ways,
             at,
         )?;
         edges.push(next)?;
     }
+    let sets = States::of(alloc, expr, ways, sets.as_slice())?;
     Ok(Auto { sets, edges })
 }

@@ -6,7 +6,7 @@ use crate::auto::{Auto, Edge, State};
 use crate::edges::{links_of, may_end_at, target_of};
 use crate::expr::TypeId;
 use crate::search::is_marked;
-use crate::sets::PlaceSet;
+use crate::states::States;
 use pm_list::Listed;
 use std::alloc::{AllocError, Global};
 
@@ -40,13 +40,7 @@ pub fn keep_all(
 }
 
 /// Whether these types fit from the state on, and after them the content may end where that is asked.
-fn fits(
-    sets: &[PlaceSet],
-    edges: &[Listed<Edge>],
-    state: State,
-    after: &[TypeId],
-    to_end: bool,
-) -> bool
+fn fits(sets: &States, edges: &[Listed<Edge>], state: State, after: &[TypeId], to_end: bool) -> bool
     ensures { result ≡ fits_on sets.now edges.now to_end state after.now }
 {
     let mut now = state;
@@ -68,11 +62,10 @@ pub fn ends_of(
 ) -> Result<Listed<bool>, AllocError>
     ensures { IfOk result (λ l. l ≡ filled auto.now to_end after.now) }
 {
-    let sets = auto.sets.as_slice();
     let edges = auto.edges.as_slice();
     let mut list = Listed::new(alloc);
-    for (state, _set) in sets.iter().enumerate() {
-        list.push(fits(sets, edges, state, after, to_end))?;
+    for (state, _ends) in auto.sets.ends().iter().enumerate() {
+        list.push(fits(&auto.sets, edges, state, after, to_end))?;
     }
     Ok(list)
 }

@@ -27,6 +27,7 @@ pub mod numbers;
 pub mod places;
 mod search;
 pub mod sets;
+pub mod states;
 mod width;
 mod wraps;
 

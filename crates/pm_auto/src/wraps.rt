@@ -6,7 +6,7 @@ use crate::auto::{Auto, Edge};
 use crate::edges::{has_edge, may_end_at};
 use crate::expr::TypeId;
 use crate::search::is_marked;
-use crate::sets::PlaceSet;
+use crate::states::States;
 use pm_list::Listed;
 use std::alloc::{AllocError, Global};
 
@@ -17,7 +17,7 @@ pub fn keep_wrappers(
     may_wrap: &[bool],
     count: usize,
     to_end: bool,
-    sets: &[PlaceSet],
+    sets: &States,
     edges: &[Edge],
 ) -> Result<Listed<Edge>, AllocError>
     ensures { IfOk result (λ l. l ≡ wrappers may_wrap.now count to_end sets.now edges.now) }
@@ -51,7 +51,7 @@ pub fn links_within(
             may_wrap,
             autos.len(),
             true,
-            auto.sets.as_slice(),
+            &auto.sets,
             auto.edges(0),
         )?;
         list.push(some)?;

@@ -34,7 +34,7 @@ fn build_code(error: SchemaError) -> Option<Code>
 }
 
 /// The code of a value that is no schema; `None` when out of memory.
-pub(crate) fn schema_code(error: SchemaReadError) -> Option<Code>
+pub fn schema_code(error: SchemaReadError) -> Option<Code>
     ensures { result ≡ code_of_schema error }
 {
     match error {
@@ -64,7 +64,7 @@ pub fn node_code(error: DocReadError) -> Option<Code>
 }
 
 /// The code of a type that can't be filled; `None` when out of memory.
-pub(crate) fn fill_code(error: FillError) -> Option<Code>
+pub fn fill_code(error: FillError) -> Option<Code>
     ensures { result ≡ code_of_fill error }
 {
     match error {

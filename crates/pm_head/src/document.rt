@@ -63,7 +63,8 @@ fn doc_of_tree(
     }
 }
 
-fn doc_of<J: JsonRef>(alloc: Global, schema: &Schema, json: J) -> Result<Document, LineError>
+/// The document that a value is, where it is valid and of the top type, or the code of its first fault.
+pub fn doc_of<J: JsonRef>(alloc: Global, schema: &Schema, json: J) -> Result<Document, LineError>
     ensures read { Finds (DocIs schema.now (J.seen json)) result }
     ensures valid { IfOk result (Valid (documents_of schema.now.spec)) }
 {

@@ -1,7 +1,8 @@
 //! The first three lines of a session file: the schema, the first document and the clients. And the line that lists the
 //! rooms of a file of many.
 //!
-//! The main calls are `read_head` and `rooms_line`; `schema_line`, `doc_line` and `json_line` read one line each.
+//! The main calls are `read_head` and `rooms_line`; `schema_line`, `doc_line` and `json_line` read one line each, and
+//! `tree_line` reads one as a tree.
 //!
 //! Proved: the three lines are this schema, this document and these clients, or the least faulty of them has this code.
 //! The document is valid, and the lines after the three are given back. A head and a fault exclude each other, and two
@@ -25,13 +26,13 @@ mod schema;
 
 pub use clients::{ClientEntry, raw_flags};
 pub use code::Code;
-pub use codes::node_code;
-pub use document::doc_line;
+pub use codes::{fill_code, node_code, schema_code};
+pub use document::{doc_line, doc_of};
 pub use fault::{LineError, Refusal, SessionError};
 pub use form::Form;
 pub use laws::{head_means_one, schema_means_one};
-pub use lines::{first_line, json_line, json_of};
+pub use lines::{first_line, json_line, json_of, tree_line};
 pub use names::is_name;
 pub use reading::{Head, read_head};
 pub use rooms::rooms_line;
-pub use schema::schema_line;
+pub use schema::{schema_line, schema_of};

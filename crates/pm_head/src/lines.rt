@@ -69,8 +69,8 @@ pub fn json_line(alloc: Global, line: &[u8]) -> Result<Value, LineError>
     }
 }
 
-/// The tree that the line writes, where it is read without a value of the whole line.
-pub(crate) fn tree_line<'a>(
+/// The tree that the line writes, where it is read without a value of the whole line; `None` says nothing of the line.
+pub fn tree_line<'a>(
     alloc: Global,
     line: &'a [u8],
     scratch: &'a mut Scratch,

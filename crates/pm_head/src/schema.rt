@@ -50,7 +50,8 @@ fn schema_of_tree(alloc: Global, tree: &Tree<'_>) -> Option<Result<Schema, LineE
     }
 }
 
-fn schema_of<J: JsonRef>(alloc: Global, json: J) -> Result<Schema, LineError>
+/// The schema that a value is, or the code of its first fault.
+pub fn schema_of<J: JsonRef>(alloc: Global, json: J) -> Result<Schema, LineError>
     ensures { Finds (SchemaIs (J.seen json)) result }
 {
     match read_schema(alloc, json) {

@@ -29,9 +29,8 @@ put_event false number (e ∷ es) ns = extended (e ∷ es) ns
 
 -- whether an edit has this number
 abbrev pub is_number : Option ℕ → Option ℕ → Bool
-is_number None o = false
-is_number (Some k) None = false
 is_number (Some k) (Some j) = k == j
+is_number _ _ = false
 
 abbrev pub last_number : List Event → Option ℕ
 last_number [] = None

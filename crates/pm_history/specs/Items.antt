@@ -11,9 +11,8 @@ same_name a b = (a.client == b.client) && (a.serial == b.serial)
 
 -- whether these are names of one step; a foreign step has no name here
 abbrev pub one_step : Option Name → Option Name → Bool
-one_step None b = false
-one_step (Some a) None = false
 one_step (Some a) (Some b) = same_name a b
+one_step _ _ = false
 
 -- the item of a foreign step
 abbrev pub foreign_item : {C : Type 0} → List Span → Item C

@@ -34,9 +34,8 @@ module _ {C : Type 0} where
   -- the same of each item of a list
   abbrev pub StandFor : List Name → List (Item C) → List (Item C) → Type 0
   StandFor live [] [] = Unit {0}
-  StandFor live [] (j ∷ js) = ⊥
-  StandFor live (i ∷ is) [] = ⊥
   StandFor live (i ∷ is) (j ∷ js) = StandsFor live i j × StandFor live is js
+  StandFor live _ _ = ⊥
 
 module _ {Rules Doc Reason C : Type 0} (m : Meaning Rules Doc Reason C) (rules : Rules) where
   -- The items stand for the last steps of a timeline from the document `first` on, among which are all own steps with a live

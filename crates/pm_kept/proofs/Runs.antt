@@ -22,8 +22,8 @@ use Rattle.pm_journal.specs.Lines.{IsLine, records}
 use Rattle.pm_talk.specs.Talk.{last_text}
 use Rattle.pm_kept.specs.declared.kept.Kept.{Kept}
 use Rattle.pm_kept.specs.Behind.{Keeps}
-use Rattle.pm_kept.specs.Kept.{disk_fault, accepted, Leaves, Went, Lost}
-use Rattle.pm_kept.specs.Runs.{Hears, HearsSome, CameWhole, last_line, CameSome, FrontAdded, IsKept, IsLost, Quiet, OverBy, SoFar, GroupServed, KeptRun, GroupLost, AnswersAll, SaysFault}
+use Rattle.pm_kept.specs.Kept.{accepted, Leaves, Went, Lost}
+use Rattle.pm_kept.specs.Runs.{Hears, HearsSome, CameWhole, last_line, CameSome, ToSay, IsKept, IsLost, Quiet, OverBy, SoFar, GroupServed, KeptRun, GroupLost, AnswersAll, SaysFault}
 use Rattle.pm_kept.proofs.Heard.{hears_append, all_heard}
 
 -- ---- what came is lines
@@ -86,18 +86,6 @@ came_last left rest before there after line lines came some split =
     let none = none_waiting lines after (sym came.none_left ∙ split) in
     (at_end left rest before there after line came none.1, ap (λ (ls : List (List ℕ)). line ∷ map kept ls) none.0 ∙ sym (last_is line some))
 
--- ---- what is written
-
-all_added : (text : List ℕ) (old new : Option (List ℕ)) → Adds old new text → FrontAdded text old new
-all_added text old new added = record { front = text; rest = []; split = sym (append-nil text); added = added }
-
-front_added : (text : List ℕ) (old new : Option (List ℕ)) → FrontWritten text old new → FrontAdded text old new
-front_added text old new f = record { front = take f.count text; rest = drop f.count text; split = sym (take-append-drop f.count text); added = f.front }
-
-front_before : (text more : List ℕ) (old new : Option (List ℕ)) → FrontAdded text old new → FrontAdded (text ++ more) old new
-front_before text more old new f =
-    record { front = f.front; rest = f.rest ++ more; split = ap (λ (t : List ℕ). t ++ more) f.split ∙ append_assoc f.front f.rest more; added = f.added }
-
 module _ {D : Type 0} (seen : D → List ℕ) (may_leave : D → List ℕ → Type 0) (is_clean : D → Bool) (faults : D → ℕ) where
   -- ---- what is in the file
 
@@ -136,17 +124,16 @@ module _ {D : Type 0} (seen : D → List ℕ) (may_leave : D → List ℕ → Ty
   shut k t left rest before after out heard some old new came hears went added =
       inr (inr (inl record { is = refl; heard = heard; came = came; out = out; some = some; hears = hears; added = added; is_kept = went_kept k t some went }))
 
-  broken : (k t : Kept D) (left rest : Option (List ℕ)) (before after out : List ℕ) (heard some : List (List ℕ)) (more : Bool) (old new : Option (List ℕ)) → CameSome left rest before after heard
-      → HearsSome k.talk heard out some more t.talk ⊎ Hears k.talk heard out some t.talk → Went seen may_leave is_clean faults k t some → FrontAdded (out ++ last_text t.talk) old new
-      → IsOver WriteFault k t left rest before after old new
-  broken k t left rest before after out heard some more old new came hears went front =
-      inr (inr (inr (inl record { is = refl; heard = heard; came = came; out = out; some = some; more = more; hears = hears; front = front; is_kept = went_kept k t some went })))
+  broken : (k t : Kept D) (left rest : Option (List ℕ)) (before after text : List ℕ) (some : List (List ℕ)) (old new : Option (List ℕ)) → ToSay k.talk t.talk left rest before after some text
+      → Went seen may_leave is_clean faults k t some → FrontWritten text old new → IsOver WriteFault k t left rest before after old new
+  broken k t left rest before after text some old new to_say went front =
+      inr (inr (inr (inl record { is = refl; text = text; some = some; to_say = to_say; front = front; is_kept = went_kept k t some went })))
 
   failed : (served : Served) (k t : Kept D) (left rest : Option (List ℕ)) (before after out : List ℕ) (heard some : List (List ℕ)) (more : Bool) (old new : Option (List ℕ))
-      → (served ≡ Closed) ⊎ (served ≡ WriteFault) → CameSome left rest before after heard → HearsSome k.talk heard out some more t.talk → Lost seen may_leave is_clean faults k t some
-      → FrontAdded disk_fault old new → IsOver served k t left rest before after old new
-  failed served k t left rest before after out heard some more old new is came hears lost front =
-      inr (inr (inr (inr record { is = is; heard = heard; came = came; out = out; some = some; more = more; hears = hears; front = front; is_lost = lost_kept k t some lost })))
+      → CameSome left rest before after heard → HearsSome k.talk heard out some more t.talk → Lost seen may_leave is_clean faults k t some
+      → SaysFault served old new → IsOver served k t left rest before after old new
+  failed served k t left rest before after out heard some more old new came hears lost says =
+      inr (inr (inr (inr record { heard = heard; came = came; out = out; some = some; more = more; hears = hears; says = says; is_lost = lost_kept k t some lost })))
 
   -- a group of lines, and then it is over
   pub group_over : (served : Served) (k t : Kept D) (left rest : Option (List ℕ)) (before first there after : List ℕ) (old new : Option (List ℕ))
@@ -157,15 +144,12 @@ module _ {D : Type 0} (seen : D → List ℕ) (may_leave : D → List ℕ → Ty
   group_over Closed k t left rest before first there after old new (inl h) came =
       shut k t left rest before after h.0 (first ∷ map kept h.1.lines) h.1.some old new (came h.1.lines h.1.split h.1.each) h.1.hears h.1.went h.2
   group_over Closed k t left rest before first there after old new (inr h) came =
-      failed Closed k t left rest before after h.0.out (first ∷ map kept h.0.lines) h.0.some h.0.more old new (inl refl) (came h.0.lines h.0.split h.0.each) h.0.hears h.0.lost
-      (all_added disk_fault old new h.1)
+      failed Closed k t left rest before after h.0.out (first ∷ map kept h.0.lines) h.0.some h.0.more old new (came h.0.lines h.0.split h.0.each) h.0.hears h.0.lost h.1
   group_over ReadFault k t left rest before first there after old new all came = absurd all
   group_over WriteFault k t left rest before first there after old new (inl h) came =
-      broken k t left rest before after h.0 (first ∷ map kept h.2.lines) h.2.some h.1 old new (came h.2.lines h.2.split h.2.each) (inl h.2.hears) h.2.went
-      (front_before h.0 (last_text t.talk) old new (front_added h.0 old new h.3))
+      broken k t left rest before after h.0 h.2.some old new (inl (first ∷ map kept h.2.lines, h.1, came h.2.lines h.2.split h.2.each, h.2.hears)) h.2.went h.3
   group_over WriteFault k t left rest before first there after old new (inr h) came =
-      failed WriteFault k t left rest before after h.0.out (first ∷ map kept h.0.lines) h.0.some h.0.more old new (inr refl) (came h.0.lines h.0.split h.0.each) h.0.hears h.0.lost
-      (front_added disk_fault old new h.1)
+      failed WriteFault k t left rest before after h.0.out (first ∷ map kept h.0.lines) h.0.some h.0.more old new (came h.0.lines h.0.split h.0.each) h.0.hears h.0.lost h.1
   group_over Spent k t left rest before first there after old new all came = absurd all
 
   abbrev HeardSo : Kept D → Kept D → List ℕ → List ℕ → List ℕ → Option (List ℕ) → Option (List ℕ) → Type 0
@@ -221,8 +205,9 @@ module _ {D : Type 0} (seen : D → List ℕ) (may_leave : D → List ℕ → Ty
   last_said WriteFault k t left rest before line there after old mean new came some all says =
       let h = all.1 in
       let last = came_last left rest before there after line h.lines came some h.split in
-      broken k t left rest before after all.0 (line ∷ map kept h.lines) h.some true old new (inr (line, last.0, last.1)) (inl h.hears) h.went
-      (front_added (all.0 ++ last_text t.talk) old new (front-behind old mean new all.0 (last_text t.talk) all.2 says))
+      let hears = subst (λ (ls : List (List ℕ)). Hears k.talk ls all.0 h.some t.talk) last.1 (all_heard k.talk (line ∷ map kept h.lines) all.0 h.some t.talk h.hears) in
+      broken k t left rest before after (all.0 ++ last_text t.talk) h.some old new (inr (line, all.0, last.0, hears, refl)) h.went
+      (front-behind old mean new all.0 (last_text t.talk) all.2 says)
   last_said Spent k t left rest before line there after old mean new came some all says = absurd says
 
   -- the end of input, where there are no such bytes
@@ -242,8 +227,8 @@ module _ {D : Type 0} (seen : D → List ℕ) (may_leave : D → List ℕ → Ty
   end_said Closed k left rest before line after old new came none leaves says = absurd says
   end_said ReadFault k left rest before line after old new came none leaves says = absurd says
   end_said WriteFault k left rest before line after old new came none leaves says =
-      broken k k left rest before after [] [] [] true old new (inr (line, came, sym (ap last_line none))) (inr (refl, refl, refl)) (stayed k leaves)
-      (front_added (last_text k.talk) old new says)
+      let hears : Hears k.talk (last_line line) [] [] k.talk = subst (λ (l : List ℕ). Hears k.talk (last_line l) [] [] k.talk) (sym none) (refl, refl, refl) in
+      broken k k left rest before after (last_text k.talk) [] old new (inr (line, [], came, hears, refl)) (stayed k leaves) says
   end_said Spent k left rest before line after old new came none leaves says = absurd says
 
   quiet : (served : Served) (count : ℕ) (k : Kept D) (left rest : Option (List ℕ)) (before after taken : List ℕ) (old : Option (List ℕ))
@@ -365,9 +350,9 @@ module _ {D : Type 0} (seen : D → List ℕ) (may_leave : D → List ℕ → Ty
   over_since served k t end count some left rest before after old new went (inr (inr (inl o))) =
       inr (inr (inl record { is = o.is; heard = o.heard; came = o.came; out = o.out; some = o.some; hears = o.hears; added = o.added; is_kept = kept_since k t end some o.some went o.is_kept }))
   over_since served k t end count some left rest before after old new went (inr (inr (inr (inl o)))) =
-      inr (inr (inr (inl record { is = o.is; heard = o.heard; came = o.came; out = o.out; some = o.some; more = o.more; hears = o.hears; front = o.front; is_kept = kept_since k t end some o.some went o.is_kept })))
+      inr (inr (inr (inl record { is = o.is; text = o.text; some = o.some; to_say = o.to_say; front = o.front; is_kept = kept_since k t end some o.some went o.is_kept })))
   over_since served k t end count some left rest before after old new went (inr (inr (inr (inr o)))) =
-      inr (inr (inr (inr record { is = o.is; heard = o.heard; came = o.came; out = o.out; some = o.some; more = o.more; hears = o.hears; front = o.front; is_lost = lost_since k t end some o.some went o.is_lost })))
+      inr (inr (inr (inr record { heard = o.heard; came = o.came; out = o.out; some = o.some; more = o.more; hears = o.hears; says = o.says; is_lost = lost_since k t end some o.some went o.is_lost })))
 
   pub over_behind : (served : Served) (k t end : Kept D) (left then rest : Option (List ℕ)) (before now after : List ℕ) (old mean new : Option (List ℕ))
       → SoFar seen may_leave is_clean faults k t left then before now old mean → GroupServed seen may_leave is_clean faults (Over served) t end then rest now after mean new

@@ -68,12 +68,20 @@ CameSome left rest before after heard =
     ((lines : List (List ℕ)) × CameWhole left rest before after lines × (heard ≡ map kept lines))
     ⊎ ((line : List ℕ) × EndCame left rest before after line × (heard ≡ last_line line))
 
--- a front of this text was written, or all of it
-pub record FrontAdded (text : List ℕ) (old new : Option (List ℕ)) : Type 0 where
-  pub front : List ℕ
-  pub rest : List ℕ
-  pub split : text ≡ front ++ rest
-  pub added : Adds old new front
+-- What was to be said: the answers to lines that came; or, at the end of input, those to the bytes after the last LF, and what is
+-- said at the end.
+abbrev pub ToSay : Talk → Talk → Option (List ℕ) → Option (List ℕ) → List ℕ → List ℕ → List (List ℕ) → List ℕ → Type 0
+ToSay was now left rest before after some text =
+    ((heard : List (List ℕ)) × (more : Bool) × CameSome left rest before after heard × HearsSome was heard text some more now)
+    ⊎ ((line : List ℕ) × (out : List ℕ) × EndCame left rest before after line × Hears was (last_line line) out some now × (text ≡ out ++ last_text now))
+
+-- what is said where a call of the disk failed, written whole or in part
+abbrev pub SaysFault : Served → Option (List ℕ) → Option (List ℕ) → Type 0
+SaysFault End old new = ⊥
+SaysFault Closed old new = Adds old new disk_fault
+SaysFault ReadFault old new = ⊥
+SaysFault WriteFault old new = FrontWritten disk_fault old new
+SaysFault Spent old new = ⊥
 
 -- ---- how it was over
 
@@ -124,30 +132,25 @@ module _ {D : Type 0} (may_leave : D → List ℕ → Type 0) (is_clean : D → 
     pub added : Adds old new out
     pub is_kept : IsKept (lines ++ some) begin end
 
-  -- Lines or the end of input came. Those that were accepted are in the file; of the answers, and of what is said at the end of
-  -- input, a front was written.
+  -- Lines or the end of input came. Those that were accepted are in the file; of what was to be said a front was written, and not all.
   pub record Broken (served : Served) (was : Talk) (lines : List (List ℕ)) (begin end : Kept D) (left rest : Option (List ℕ)) (before after : List ℕ) (old new : Option (List ℕ)) : Type 0 where
     pub is : served ≡ WriteFault
-    pub heard : List (List ℕ)
-    pub came : CameSome left rest before after heard
-    pub out : List ℕ
+    pub text : List ℕ
     pub some : List (List ℕ)
-    pub more : Bool
-    pub hears : HearsSome was heard out some more end.talk ⊎ Hears was heard out some end.talk
-    pub front : FrontAdded (out ++ last_text end.talk) old new
+    pub to_say : ToSay was end.talk left rest before after some text
+    pub front : FrontWritten text old new
     pub is_kept : IsKept (lines ++ some) begin end
 
-  -- Lines came, and a call of the disk failed: those of them that were accepted are in the file, all or none. Of the words for that a
-  -- front was written, and nothing of the answers.
+  -- Lines came, and a call of the disk failed: those of them that were accepted are in the file, all or none. The words for that were
+  -- written, or a front of them, and nothing of the answers.
   pub record Failed (served : Served) (was : Talk) (lines : List (List ℕ)) (begin end : Kept D) (left rest : Option (List ℕ)) (before after : List ℕ) (old new : Option (List ℕ)) : Type 0 where
-    pub is : (served ≡ Closed) ⊎ (served ≡ WriteFault)
     pub heard : List (List ℕ)
     pub came : CameSome left rest before after heard
     pub out : List ℕ
     pub some : List (List ℕ)
     pub more : Bool
     pub hears : HearsSome was heard out some more end.talk
-    pub front : FrontAdded disk_fault old new
+    pub says : SaysFault served old new
     pub is_lost : IsLost was lines some begin end
 
   -- how it was over after so many lines, when this was the talk and these lines had been accepted
@@ -210,14 +213,6 @@ pub record HearsAll (was now : Talk) (first before after : List ℕ) (old new : 
 abbrev pub TakesFurther : Bool → List ℕ → List ℕ → List ℕ → Type 0
 TakesFurther true before after line = WasWaiting before after line
 TakesFurther false before after line = after ≡ before
-
--- what is said where a call of the disk failed, written whole or in part
-abbrev pub SaysFault : Served → Option (List ℕ) → Option (List ℕ) → Type 0
-SaysFault End old new = ⊥
-SaysFault Closed old new = Adds old new disk_fault
-SaysFault ReadFault old new = ⊥
-SaysFault WriteFault old new = FrontWritten disk_fault old new
-SaysFault Spent old new = ⊥
 
 -- the sink's faults rose where a write failed, and not else
 abbrev pub WroteFaults : Next → ℕ → ℕ → Type 0

@@ -9,6 +9,9 @@ use pm_io::{Sink, WriteFault, write_all};
 use pm_talk::no_memory;
 use std::alloc::Global;
 
+/// Where answers have this many bytes they are written before a further line is taken.
+const MANY: usize = 65_536;
+
 /// What a line is answered.
 #[derive(Drop)]
 pub(crate) enum Answer {
@@ -64,6 +67,11 @@ impl Answers {
         }
         self.last = Answer::None;
         true
+    }
+
+    /// Whether they are so short that a further line may be taken before they are written.
+    pub fn are_few(&self) -> bool {
+        self.text.len() < MANY
     }
 
     /// Puts an answer behind the others.

@@ -77,7 +77,7 @@ fn take_further(held: &Option<Group>, lines: &mut LineReader, answers: &mut Answ
     ensures said { said answers.new ≡ said answers.old }
     ensures last { result ≡ true → answers.new.last ≡ Answer.None }
 {
-    !is_enough(held) && answers.join() && lines.take_waiting()
+    !is_enough(held) && answers.join() && answers.are_few() && lines.take_waiting()
 }
 
 /// Whether so much is held that no further line is taken.

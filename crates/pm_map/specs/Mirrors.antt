@@ -11,9 +11,8 @@ AreMirrors earlier later = (0 < length earlier) × SameShape earlier later
 -- the same as a test, first of the shapes alone
 abbrev pub has_shape : List Span → List Span → Bool
 has_shape [] [] = true
-has_shape [] (s ∷ ss) = false
-has_shape (r ∷ rs) [] = false
 has_shape (r ∷ rs) (s ∷ ss) = (s.new_size == r.old_size) && has_shape rs ss
+has_shape _ _ = false
 
 abbrev pub may_mirror : List Span → List Span → Bool
 may_mirror [] ss = false

@@ -60,16 +60,14 @@ at_pos so p = record { pos = p; deleted = so.deleted; across = so.across; after 
 
 -- After a jump the mapping goes on after the mirror.
 abbrev pub skipped : Option ℕ → Option Recover → ℕ
-skipped None r = 0
-skipped (Some gap) None = 0
 skipped (Some gap) (Some r) = suc gap
+skipped _ _ = 0
 
 -- After a map that moved the position to m, with the maps es after it. Where the position can be recovered and the map has
 -- a mirror, it jumps to the same offset in the same range of the mirror's result.
 abbrev pub stepped : Moved → Moved → Option ℕ → Option Recover → List Mirrored → Moved
-stepped so m None r es = joined so m
-stepped so m (Some gap) None es = joined so m
 stepped so m (Some gap) (Some r) es = at_pos so (result_start (partner es gap) r.range + r.offset)
+stepped so m _ _ es = joined so m
 
 -- Over the maps in order, but not over the first `skip`: a jump passed them.
 abbrev pub through_from : List Mirrored → ℕ → Bool → Moved → Moved

@@ -13,9 +13,8 @@ module _ {A : Type 0} (equal : A → A → Bool) where
   -- two lists have the same marks in the same order
   abbrev pub same_marks : List (Mark A) → List (Mark A) → Bool
   same_marks [] [] = true
-  same_marks [] (n ∷ ns) = false
-  same_marks (m ∷ ms) [] = false
   same_marks (m ∷ ms) (n ∷ ns) = same_mark m n && same_marks ms ns
+  same_marks _ _ = false
 
   -- the same mark is in the set
   abbrev pub has : List (Mark A) → Mark A → Bool

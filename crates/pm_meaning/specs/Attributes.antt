@@ -31,18 +31,14 @@ value_at values (Some i) = slice_index_or values i null
 
 -- the type of the node at the head, and the values of its attributes
 abbrev pub node_kind : List Token → ℕ
-node_kind [] = 0
 node_kind (Open k a m ∷ ts) = k
-node_kind (Close ∷ ts) = 0
 node_kind (Leaf k a m ∷ ts) = k
-node_kind (CodeUnit u m ∷ ts) = 0
+node_kind _ = 0
 
 abbrev pub node_values : List Token → Attrs
-node_values [] = []
 node_values (Open k a m ∷ ts) = a
-node_values (Close ∷ ts) = []
 node_values (Leaf k a m ∷ ts) = a
-node_values (CodeUnit u m ∷ ts) = []
+node_values _ = []
 
 -- the node at the head with another value at a place of its attributes
 abbrev pub with_node_value : ℕ → Plain → List Token → List Token

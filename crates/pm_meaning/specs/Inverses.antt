@@ -42,9 +42,8 @@ same_token a b = false
 
 abbrev pub same_tokens : List Token → List Token → Bool
 same_tokens [] [] = true
-same_tokens [] (y ∷ ys) = false
-same_tokens (x ∷ xs) [] = false
 same_tokens (x ∷ xs) (y ∷ ys) = same_token x y && same_tokens xs ys
+same_tokens _ _ = false
 
 -- the outcome is a document with these tokens
 abbrev pub gives : Result Doc Reason → List Token → Bool

@@ -2,7 +2,7 @@
 use Rattle.std.specs.Prelude.{Bool, true, false, ◌&&◌, not, ◌==◌, take}
 use Rattle.std.specs.List.{list_all}
 use Rattle.pm_marks.specs.declared.mark.Mark.{Mark}
-use Rattle.pm_tokens.specs.Tokens.{Attrs, Token, Open, Close, Leaf, CodeUnit}
+use Rattle.pm_tokens.specs.Tokens.{Attrs, Token, Open}
 use Rattle.pm_tokens.specs.Marks.{is_set, have_attrs}
 use Rattle.pm_tokens.specs.Schemas.{Schema, node_attrs, mark_attrs}
 use Rattle.pm_tokens.specs.Slices.{Slice}
@@ -16,9 +16,7 @@ knows_mark s m = mark_attrs s m.kind m.attrs
 -- each is of the schema.
 abbrev pub knows_open : Schema → Token → Bool
 knows_open s (Open k a m) = node_attrs s k a && (not (k == s.text) && not (s.is_leaf k)) && (have_attrs s m && is_set s m)
-knows_open s Close = false
-knows_open s (Leaf k a m) = false
-knows_open s (CodeUnit u m) = false
+knows_open s _ = false
 
 -- The nodes that are open at the slice's start, whose opens are not among its own tokens, so that no document shows them.
 abbrev pub knows_slice : Schema → Slice → Bool

@@ -18,12 +18,7 @@ abbrev pub step_map : Step → List Span
 step_map (Replace from to sl structure) = span from (to - from) (slice_size sl) ∷ []
 step_map (ReplaceAround from to gap_from gap_to sl insert structure) =
     span from (gap_from - from) insert ∷ span gap_to (to - gap_to) (slice_size sl - insert) ∷ []
-step_map (AddMark from to mark) = []
-step_map (RemoveMark from to mark) = []
-step_map (AddNodeMark p mark) = []
-step_map (RemoveNodeMark p mark) = []
-step_map (Attr p name value) = []
-step_map (DocAttr name value) = []
+step_map _ = []
 
 -- a position over a mapping by `After`, and by `Before`
 abbrev pub ahead : List Mirrored → ℕ → Moved

@@ -54,11 +54,9 @@ marked f from to d =
 
 -- a node stands at the head
 abbrev pub starts_node : List Token → Bool
-starts_node [] = false
 starts_node (Open k a m ∷ ts) = true
-starts_node (Close ∷ ts) = false
 starts_node (Leaf k a m ∷ ts) = true
-starts_node (CodeUnit u m ∷ ts) = false
+starts_node _ = false
 
 -- the node at the head with other marks
 abbrev pub with_node_marks : (Marks → Marks) → List Token → List Token

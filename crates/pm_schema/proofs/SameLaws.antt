@@ -3,10 +3,8 @@ use Rattle.std.proofs.Common.{◌≡◌, ◌⊎◌, ℕ, suc, ◌+◌, ◌<◌, 
 use Rattle.pm_auto.specs.declared.expr.Expr.{Expr, Empty, One, Choice', Seq', Plus', Star', Opt', Range', Row_of-Expr, end_of-Expr, more_of-Expr}
 use Rattle.pm_auto.specs.Tree as tree
 use Rattle.pm_auto.specs.Tree.{Tree, Trees, tree, trees}
-use Rattle.pm_auto.specs.Core as core
-use Rattle.pm_auto.specs.Core.{Core, Never, Loop}
+use Rattle.pm_auto.specs.Core.{Core}
 use Rattle.pm_auto.specs.Trim.{trim}
-use Rattle.pm_auto.specs.Expand.{optional, in_turn, one_of, range, expand, expand_all}
 use Rattle.pm_auto.specs.Types.{types, types_of_all, one_is, Is_mixed}
 use Rattle.pm_auto.specs.Table.{width, rows}
 use Rattle.pm_auto.specs.States.{start_of, Too_many}
@@ -20,25 +18,11 @@ use Rattle.pm_schema.specs.Types.{node_at}
 use Rattle.pm_schema.specs.Generated.{nth, IsAutoOf, AutosOf}
 use Rattle.pm_schema.specs.Refusals.{inline_table, HasAutomaton}
 use Rattle.pm_schema.specs.Shared.{HasNoFault}
+use Rattle.pm_auto.proofs.TreeLaws.{same-expand}
 use Rattle.pm_schema.proofs.Orders.{le_or_lt}
 use Rattle.pm_schema.proofs.Tables.{nth-is, autos-more}
 
--- the expansion, and the types, of what an expression says
-abbrev mutual
-  spread : Tree → Core
-  spread tree.empty = core.Empty
-  spread (tree.one t) = core.One t
-  spread (tree.choice es) = one_of Never (spread_all es)
-  spread (tree.seq es) = in_turn core.Empty (spread_all es)
-  spread (tree.plus e) = Loop (spread e)
-  spread (tree.star e) = optional (Loop (spread e))
-  spread (tree.opt e) = optional (spread e)
-  spread (tree.range e n m) = range (spread e) n m
-
-  spread_all : Trees → List Core
-  spread_all tree.none = []
-  spread_all (tree.more e es) = spread e ∷ spread_all es
-
+-- the types of what an expression says
 abbrev mutual
   kinds_in : Tree → List ℕ
   kinds_in tree.empty = []
@@ -55,21 +39,6 @@ abbrev mutual
   kinds_in_all (tree.more e es) = kinds_in e ++ kinds_in_all es
 
 mutual
-  expand-tree : (e : Expr) → expand e ≡ spread (tree e)
-  expand-tree Empty = refl
-  expand-tree (One t) = refl
-  expand-tree (Choice' n es) = ap (one_of Never) (expand-trees _ es)
-  expand-tree (Seq' n es) = ap (in_turn core.Empty) (expand-trees _ es)
-  expand-tree (Plus' p e) = ap Loop (expand-tree e)
-  expand-tree (Star' p e) = ap (λ c. optional (Loop c)) (expand-tree e)
-  expand-tree (Opt' p e) = ap optional (expand-tree e)
-  expand-tree (Range' p e n m) = ap (λ c. range c n m) (expand-tree e)
-
-  expand-trees : (n : _) (es : Row_of-Expr n) → expand_all es ≡ spread_all (trees es)
-  expand-trees n end_of-Expr = refl
-  expand-trees n (more_of-Expr e es) = ap (λ c. c ∷ expand_all es) (expand-tree e) ∙ ap (λ cs. spread (tree e) ∷ cs) (expand-trees _ es)
-
-mutual
   types-tree : (e : Expr) → types e ≡ kinds_in (tree e)
   types-tree Empty = refl
   types-tree (One t) = refl
@@ -83,9 +52,6 @@ mutual
   types-trees : (n : _) (es : Row_of-Expr n) → types_of_all es ≡ kinds_in_all (trees es)
   types-trees n end_of-Expr = refl
   types-trees n (more_of-Expr e es) = ap (λ c. c ++ types_of_all es) (types-tree e) ∙ ap (λ cs. kinds_in (tree e) ++ cs) (types-trees _ es)
-
-pub same-expand : (d e : Expr) → tree d ≡ tree e → expand d ≡ expand e
-same-expand d e h = expand-tree d ∙ ap spread h ∙ sym (expand-tree e)
 
 pub same-types : (d e : Expr) → tree d ≡ tree e → types d ≡ types e
 same-types d e h = types-tree d ∙ ap kinds_in h ∙ sym (types-tree e)

@@ -18,7 +18,7 @@ use Rattle.pm_schema.specs.Types.{no_mark, node_at, mark_at, is_leaf, is_inline,
 use Rattle.pm_schema.specs.Contents.{starts}
 use Rattle.pm_schema.specs.MarkTexts.{words, is_type, is_all, means, names, named_row, excluded_by, excluded_rows, first_is_inline, allowed_by, allowed_row}
 use Rattle.pm_schema.specs.Documents.{documents_of}
-use Rattle.pm_schema.proofs.SameLaws.{same-expand}
+use Rattle.pm_auto.proofs.TreeLaws.{same-expand}
 use Rattle.pm_schemajson.specs.Types.{Attribute}
 use Rattle.pm_schemajson.specs.Views.{attribute, node_type, node_types, mark_type, mark_types, types_of_spec}
 use Rattle.pm_schemajson.proofs.SameTypes.{map-alike, long-alike, any-alike, names-alike, node-alike, empty-is, no_tree}

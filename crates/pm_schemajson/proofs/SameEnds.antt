@@ -10,6 +10,7 @@ use Rattle.pm_auto.specs.Trim.{trim, trimmed}
 use Rattle.pm_auto.specs.Table.{rows}
 use Rattle.pm_auto.specs.Runs.{accepts_rows}
 use Rattle.pm_auto.specs.States.{start_of}
+use Rattle.pm_auto.proofs.TreeLaws.{same-expand}
 use Rattle.pm_auto.proofs.TwinLaws.{twin-finishes}
 use Rattle.pm_value.specs.Views.{plain}
 use Rattle.pm_schema.specs.declared.spec.AttrSpec.{AttrSpec}
@@ -21,7 +22,7 @@ use Rattle.pm_schema.specs.Made.{needs_attrs, can_be_made}
 use Rattle.pm_schema.specs.Generated.{Has, IsMade, IsClosed, IsAutoOf, FirstDeadEnd}
 use Rattle.pm_schema.specs.Built.{IsBuilt}
 use Rattle.pm_schema.proofs.Rounds.{all_can-more}
-use Rattle.pm_schema.proofs.SameLaws.{same-expand, same-auto}
+use Rattle.pm_schema.proofs.SameLaws.{same-auto}
 use Rattle.pm_schemajson.specs.Views.{attribute, node_type, types_of_spec}
 use Rattle.pm_schemajson.proofs.SameTypes.{any-alike, long-alike, node-alike}
 

@@ -12,7 +12,7 @@ use Rattle.pm_client.specs.declared.taken.MessageKind.TheVariants.{Submit as Sub
 use Rattle.pm_client.specs.declared.taken.Taken.{Taken}
 use Rattle.pm_client.specs.Clients.{named, message_of, message_at}
 use Rattle.pm_session.specs.declared.line.Act.{Act}
-use Rattle.pm_session.specs.declared.line.Act.TheVariants.{Edit, Undo, Redo, UndoEvent, Cursor, Submit, Ask, Present, Take, Push, Pull, Forge, Enter}
+use Rattle.pm_session.specs.declared.line.Act.TheVariants.{Present, Push, Pull, Forge}
 use Rattle.pm_session.specs.declared.member.Member.{Member}
 use Rattle.pm_session.specs.declared.member.Member.TheVariants.{Editor, Raw}
 use Rattle.pm_session.specs.declared.line.Line.{Line}
@@ -45,16 +45,7 @@ module _ {Rules Doc Reason C : Type 0} (m : Meaning Rules Doc Reason C) (rules :
       (answer : Answer C Rules Doc Reason) × (taken : Option Taken) × Gets a (message_of c Submission) answer new × (o ≡ Exchanged (told answer) taken)
   AnsweredBy (Pull lost) a c o new =
       (answer : Answer C Rules Doc Reason) × (taken : Option Taken) × Gets a (message_of c Asking) answer new × (o ≡ Exchanged (told answer) taken)
-  AnsweredBy (Edit op event) a c o new = new ≡ a
-  AnsweredBy Undo a c o new = new ≡ a
-  AnsweredBy Redo a c o new = new ≡ a
-  AnsweredBy (UndoEvent number) a c o new = new ≡ a
-  AnsweredBy (Cursor p side) a c o new = new ≡ a
-  AnsweredBy Submit a c o new = new ≡ a
-  AnsweredBy Ask a c o new = new ≡ a
-  AnsweredBy (Take n) a c o new = new ≡ a
-  AnsweredBy (Forge version steps) a c o new = new ≡ a
-  AnsweredBy Enter a c o new = new ≡ a
+  AnsweredBy _ a c o new = new ≡ a
 
   -- A line of this act by a raw client of this name that has drawn so many serials. What it forges is a submission at the
   -- line's version, whose steps have the client's name and its next serials. The submission gets an answer, which may refuse
@@ -62,18 +53,7 @@ module _ {Rules Doc Reason C : Type 0} (m : Meaning Rules Doc Reason C) (rules :
   abbrev pub AnsweredByRaw : {Op : Type 0} → Act Op C → Authority C Rules Doc Reason → ℕ → ℕ → Outcome C Rules Doc Reason → Authority C Rules Doc Reason → Type 0
   AnsweredByRaw (Forge version steps) a name serial o new =
       (answer : Answer C Rules Doc Reason) × Gets a (SubmitMessage version (named name (serial + 1) steps)) answer new × (o ≡ Answered (told answer))
-  AnsweredByRaw (Edit op event) a name serial o new = new ≡ a
-  AnsweredByRaw Undo a name serial o new = new ≡ a
-  AnsweredByRaw Enter a name serial o new = new ≡ a
-  AnsweredByRaw Redo a name serial o new = new ≡ a
-  AnsweredByRaw (UndoEvent number) a name serial o new = new ≡ a
-  AnsweredByRaw (Cursor p side) a name serial o new = new ≡ a
-  AnsweredByRaw Submit a name serial o new = new ≡ a
-  AnsweredByRaw Ask a name serial o new = new ≡ a
-  AnsweredByRaw (Present j) a name serial o new = new ≡ a
-  AnsweredByRaw (Take n) a name serial o new = new ≡ a
-  AnsweredByRaw (Push lost) a name serial o new = new ≡ a
-  AnsweredByRaw (Pull lost) a name serial o new = new ≡ a
+  AnsweredByRaw _ a name serial o new = new ≡ a
 
   -- so it is with a line by a member
   abbrev pub MemberAnswered : {Op : Type 0} → Act Op C → Authority C Rules Doc Reason → Member C Rules Doc Reason → Outcome C Rules Doc Reason → Authority C Rules Doc Reason → Type 0

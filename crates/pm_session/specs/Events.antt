@@ -31,18 +31,7 @@ module _ {C : Type 0} where
   -- steps at its version, named by the client and its next serials. No other act presents one.
   abbrev pub asked_by_raw : {Op : Type 0} → Act Op C → ℕ → ℕ → Option (Message C)
   asked_by_raw (Forge version steps) name serial = Some (SubmitMessage version (named name (serial + 1) steps))
-  asked_by_raw (Edit op event) name serial = None
-  asked_by_raw Undo name serial = None
-  asked_by_raw Enter name serial = None
-  asked_by_raw Redo name serial = None
-  asked_by_raw (UndoEvent number) name serial = None
-  asked_by_raw (Cursor p side) name serial = None
-  asked_by_raw Submit name serial = None
-  asked_by_raw Ask name serial = None
-  asked_by_raw (Present j) name serial = None
-  asked_by_raw (Take n) name serial = None
-  asked_by_raw (Push lost) name serial = None
-  asked_by_raw (Pull lost) name serial = None
+  asked_by_raw _ name serial = None
 
 -- A room, without where its members lie in memory: the authority, and member i at place i.
 pub record State (C Rules Doc Reason : Type 0) : Type 0 where
@@ -84,16 +73,7 @@ module _ {Rules Doc Reason C : Type 0} where
   asked_by_editor (Present j) c = message_at c j
   asked_by_editor (Push lost) c = Some (message_of c Submission)
   asked_by_editor (Pull lost) c = Some (message_of c Asking)
-  asked_by_editor (Edit op event) c = None
-  asked_by_editor Undo c = None
-  asked_by_editor Redo c = None
-  asked_by_editor (UndoEvent number) c = None
-  asked_by_editor (Cursor p side) c = None
-  asked_by_editor Submit c = None
-  asked_by_editor Ask c = None
-  asked_by_editor (Take n) c = None
-  asked_by_editor (Forge version steps) c = None
-  asked_by_editor Enter c = None
+  asked_by_editor _ c = None
 
   -- the message that a member presents to the authority by this act, if any
   abbrev pub asked : {Op : Type 0} → Act Op C → Member C Rules Doc Reason → Option (Message C)
@@ -129,18 +109,7 @@ module _ {Rules Doc Reason C : Type 0} where
   -- what a raw client makes of an act and of the answer that came; it does nothing but forge
   abbrev pub finished_by_raw : {Op : Type 0} → Act Op C → ℕ → ℕ → Option (Answer C Rules Doc Reason) → Outcome C Rules Doc Reason × Member C Rules Doc Reason
   finished_by_raw (Forge version steps) name serial answer = draws name serial (length steps) answer
-  finished_by_raw (Edit op event) name serial answer = (NoneMade NotThere, Raw name serial)
-  finished_by_raw Undo name serial answer = (NoneMade NotThere, Raw name serial)
-  finished_by_raw Enter name serial answer = (NoneMade NotThere, Raw name serial)
-  finished_by_raw Redo name serial answer = (NoneMade NotThere, Raw name serial)
-  finished_by_raw (UndoEvent number) name serial answer = (NoneMade NotThere, Raw name serial)
-  finished_by_raw (Cursor p side) name serial answer = (NoneMade NotThere, Raw name serial)
-  finished_by_raw Submit name serial answer = (NoneMade NotThere, Raw name serial)
-  finished_by_raw Ask name serial answer = (NoneMade NotThere, Raw name serial)
-  finished_by_raw (Present j) name serial answer = (NoneMade NotThere, Raw name serial)
-  finished_by_raw (Take n) name serial answer = (NoneMade NotThere, Raw name serial)
-  finished_by_raw (Push lost) name serial answer = (NoneMade NotThere, Raw name serial)
-  finished_by_raw (Pull lost) name serial answer = (NoneMade NotThere, Raw name serial)
+  finished_by_raw _ name serial answer = (NoneMade NotThere, Raw name serial)
 
   -- an editor is a member
   abbrev pub as_member : Outcome C Rules Doc Reason × Client C Rules Doc Reason → Outcome C Rules Doc Reason × Member C Rules Doc Reason

@@ -3,16 +3,16 @@ use Rattle.std.specs.Prelude.{◌≡◌, ℕ, false, List, slice_get, Some}
 use Rattle.pm_change.specs.Changes.{Meaning}
 use Rattle.pm_authority.specs.declared.message.Message.{Message}
 use Rattle.pm_authority.specs.declared.message.Answer.{Answer}
-use Rattle.pm_authority.specs.declared.message.Answer.TheVariants.{Accepted, WrongVersion, StepRefused, Entries}
+use Rattle.pm_authority.specs.declared.message.Answer.TheVariants.{StepRefused}
 use Rattle.pm_authority.specs.Presents.{presented}
 use Rattle.pm_client.specs.declared.client.Client.{Client}
 use Rattle.pm_client.specs.Clients.{message_at}
 use Rattle.pm_session.specs.declared.line.Act.{Act}
 use Rattle.pm_session.specs.declared.line.Line.{Line}
 use Rattle.pm_session.specs.declared.outcome.AnswerSummary.{AnswerSummary}
-use Rattle.pm_session.specs.declared.outcome.AnswerSummary.TheVariants.{Accepted as ToldAccepted, Version, Refused as ToldRefused, Entries as ToldEntries}
+use Rattle.pm_session.specs.declared.outcome.AnswerSummary.TheVariants.{Refused as ToldRefused}
 use Rattle.pm_session.specs.declared.outcome.Outcome.{Outcome}
-use Rattle.pm_session.specs.declared.outcome.Outcome.TheVariants.{Made, Nothing, NoStep, Refused, CursorAt, Composed, Answered, Took, Exchanged, Entered}
+use Rattle.pm_session.specs.declared.outcome.Outcome.TheVariants.{Answered, Exchanged}
 use Rattle.pm_session.specs.declared.member.Member.TheVariants.{Editor}
 use Rattle.pm_session.specs.Events.{State}
 use Rattle.pm_session.specs.Suits.{is_forge}
@@ -20,31 +20,20 @@ use Rattle.pm_session.specs.Suits.{is_forge}
 module _ {Rules Doc Reason C : Type 0} where
   -- the answer refuses no step
   abbrev pub RefusesNoStep : Answer C Rules Doc Reason → Type 0
-  RefusesNoStep (Accepted from count) = Unit {0}
-  RefusesNoStep (WrongVersion n) = Unit {0}
   RefusesNoStep (StepRefused index reason) = ⊥
-  RefusesNoStep (Entries since entries) = Unit {0}
+  RefusesNoStep _ = Unit {0}
 
   -- what is told of an answer tells of no refused step
   abbrev pub TellsNoRefusal : AnswerSummary C Rules Doc Reason → Type 0
-  TellsNoRefusal (ToldAccepted from count) = Unit {0}
-  TellsNoRefusal (Version n) = Unit {0}
   TellsNoRefusal (ToldRefused index reason) = ⊥
-  TellsNoRefusal (ToldEntries since count) = Unit {0}
+  TellsNoRefusal _ = Unit {0}
 
   -- What became of a line by an editor: where it presented a message, the answer refused no step. An op whose own steps
   -- do not apply presents none.
   abbrev pub GetsNoRefusal : Outcome C Rules Doc Reason → Type 0
   GetsNoRefusal (Answered told) = TellsNoRefusal told
   GetsNoRefusal (Exchanged told taken) = TellsNoRefusal told
-  GetsNoRefusal (Made count) = Unit {0}
-  GetsNoRefusal Nothing = Unit {0}
-  GetsNoRefusal (NoStep reason) = Unit {0}
-  GetsNoRefusal (Refused index reason) = Unit {0}
-  GetsNoRefusal (CursorAt p) = Unit {0}
-  GetsNoRefusal (Composed n) = Unit {0}
-  GetsNoRefusal (Took taken) = Unit {0}
-  GetsNoRefusal (Entered version) = Unit {0}
+  GetsNoRefusal _ = Unit {0}
 
   -- An act and what became of it. Where a member that doesn't forge, and so is an editor, did it, its answer refused no step.
   -- What a raw client forges may be refused.

@@ -8,7 +8,7 @@ use Rattle.pm_client.specs.declared.client.Client.{Client}
 use Rattle.pm_client.specs.Kins.{Kin}
 use Rattle.pm_client.specs.Undoings.{GivesBack}
 use Rattle.pm_session.specs.declared.line.Act.{Act}
-use Rattle.pm_session.specs.declared.line.Act.TheVariants.{Edit, Undo, Redo, UndoEvent, Cursor, Submit, Ask, Present, Take, Push, Pull, Forge, Enter}
+use Rattle.pm_session.specs.declared.line.Act.TheVariants.{Undo, Redo, UndoEvent}
 use Rattle.pm_session.specs.declared.line.Line.{Line}
 use Rattle.pm_session.specs.declared.member.Member.TheVariants.{Editor}
 use Rattle.pm_session.specs.Events.{State}
@@ -26,16 +26,7 @@ module _ {Rules Doc Reason C : Type 0} (m : Meaning Rules Doc Reason C) (rules :
   RestoredBy Undo a c d = Restored turn.Undo a c d
   RestoredBy Redo a c d = Restored turn.Redo a c d
   RestoredBy (UndoEvent number) a c d = Restored (turn.UndoEvent number) a c d
-  RestoredBy (Edit op event) a c d = Unit {0}
-  RestoredBy (Cursor p side) a c d = Unit {0}
-  RestoredBy Submit a c d = Unit {0}
-  RestoredBy Ask a c d = Unit {0}
-  RestoredBy (Present j) a c d = Unit {0}
-  RestoredBy (Take n) a c d = Unit {0}
-  RestoredBy (Push lost) a c d = Unit {0}
-  RestoredBy (Pull lost) a c d = Unit {0}
-  RestoredBy (Forge version steps) a c d = Unit {0}
-  RestoredBy Enter a c d = Unit {0}
+  RestoredBy _ a c d = Unit {0}
 
   -- One room comes after another by this line: so it is with the line's editor.
   abbrev pub Restores : {Op : Type 0} → State C Rules Doc Reason → Line Op C → State C Rules Doc Reason → Type 0

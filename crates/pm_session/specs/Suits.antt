@@ -16,95 +16,36 @@ module _ {Op C : Type 0} where
   composes_one Ask = true
   composes_one (Push lost) = true
   composes_one (Pull lost) = true
-  composes_one (Edit op event) = false
-  composes_one Undo = false
-  composes_one Redo = false
-  composes_one (UndoEvent number) = false
-  composes_one (Cursor p side) = false
-  composes_one (Present j) = false
-  composes_one (Take n) = false
-  composes_one (Forge version steps) = false
-  composes_one Enter = false
+  composes_one _ = false
 
   -- an act that gets one answer, which is kept
   abbrev pub gets_one : Act Op C → Bool
   gets_one (Present j) = true
   gets_one (Push lost) = true
   gets_one (Pull lost) = true
-  gets_one Submit = false
-  gets_one Ask = false
-  gets_one (Edit op event) = false
-  gets_one Undo = false
-  gets_one Redo = false
-  gets_one (UndoEvent number) = false
-  gets_one (Cursor p side) = false
-  gets_one (Take n) = false
-  gets_one (Forge version steps) = false
-  gets_one Enter = false
+  gets_one _ = false
 
   -- an act that forges
   abbrev pub is_forge : Act Op C → Bool
   is_forge (Forge version steps) = true
-  is_forge (Edit op event) = false
-  is_forge Undo = false
-  is_forge Enter = false
-  is_forge Redo = false
-  is_forge (UndoEvent number) = false
-  is_forge (Cursor p side) = false
-  is_forge Submit = false
-  is_forge Ask = false
-  is_forge (Present j) = false
-  is_forge (Take n) = false
-  is_forge (Push lost) = false
-  is_forge (Pull lost) = false
+  is_forge _ = false
 
   -- an act that sets a cursor
   abbrev pub sets_one : Act Op C → Bool
   sets_one (Cursor p side) = true
-  sets_one (Edit op event) = false
-  sets_one Undo = false
-  sets_one Redo = false
-  sets_one (UndoEvent number) = false
-  sets_one Submit = false
-  sets_one Ask = false
-  sets_one (Present j) = false
-  sets_one (Take n) = false
-  sets_one (Push lost) = false
-  sets_one (Pull lost) = false
-  sets_one (Forge version steps) = false
-  sets_one Enter = false
+  sets_one _ = false
 
   -- an act by which a client comes late
   abbrev pub enters : Act Op C → Bool
-  enters (Cursor p side) = false
-  enters (Edit op event) = false
-  enters Undo = false
-  enters Redo = false
-  enters (UndoEvent number) = false
-  enters Submit = false
-  enters Ask = false
-  enters (Present j) = false
-  enters (Take n) = false
-  enters (Push lost) = false
-  enters (Pull lost) = false
-  enters (Forge version steps) = false
   enters Enter = true
+  enters _ = false
 
   -- An act that names a message or an answer names one of so many. `Enter` suits no member, whatever there is.
   abbrev pub names_one : ℕ → ℕ → Act Op C → Bool
   names_one messages answers (Present j) = nat_lt 0 j && nat_le j messages
   names_one messages answers (Take n) = nat_lt 0 n && nat_le n answers
-  names_one messages answers (Edit op event) = true
-  names_one messages answers Undo = true
-  names_one messages answers Redo = true
-  names_one messages answers (UndoEvent number) = true
-  names_one messages answers (Cursor p side) = true
-  names_one messages answers Submit = true
-  names_one messages answers Ask = true
-  names_one messages answers (Push lost) = true
-  names_one messages answers (Pull lost) = true
-  names_one messages answers (Forge version steps) = true
   names_one messages answers Enter = false
+  names_one messages answers _ = true
 
   -- how many of these lines are the client's and do this
   abbrev pub done_by : (Act Op C → Bool) → ℕ → List (Line Op C) → ℕ

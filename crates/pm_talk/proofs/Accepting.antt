@@ -120,6 +120,6 @@ faults-change-nothing live line code faulty = from (asked_line live.schema.spec 
         by-room true room is = absurd (cc)
         by-room false room is =
             no-room live line version id steps asks room ∙ ap (λ (c : Code). (fault_text c, live)) (some-same BadClients code is)
-    from (Ok (Since version)) asks is = absurd (cc)
+    from (Ok (Since version most)) asks is = absurd (cc)
     from (Ok Doc) asks is = absurd (cc)
     from (Err own) asks is = ap (answer live) asks ∙ ap (λ (c : Code). (fault_text c, live)) (some-same own code is)

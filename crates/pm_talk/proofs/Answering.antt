@@ -1,5 +1,5 @@
 -- What lines do to an authority: the messages in them are presented to it, and nothing else changes it.
-use Rattle.std.proofs.Common.{◌≡◌, ◌∙◌, ◌+◌, ◌++◌, ℕ, Bool, true, false, List, [], ◌∷◌, length, refl, ap, sym, subst, Result, Ok, Err}
+use Rattle.std.proofs.Common.{◌≡◌, ◌∙◌, ◌+◌, ◌++◌, ℕ, Bool, true, false, List, [], ◌∷◌, length, refl, ap, sym, subst, append-nil, Result, Ok, Err}
 use Rattle.std.specs.Prelude.{◌==◌, if◌then◌else◌}
 use Rattle.pm_tokens.specs.Tokens.{Doc as Document}
 use Rattle.pm_schema.specs.declared.schema.Schema.{Schema}
@@ -9,6 +9,7 @@ use Rattle.pm_apply.specs.Changes.{meaning}
 use Rattle.pm_apply.specs.Laws.{laws}
 use Rattle.pm_head.specs.declared.code.Code.{Code}
 use Rattle.pm_head.specs.declared.code.Code.TheVariants.{BadClients}
+use Rattle.pm_authority.specs.declared.named.Named.{Named}
 use Rattle.pm_authority.specs.declared.running.Refusal.{Refusal}
 use Rattle.pm_authority.specs.declared.message.Message.{Message}
 use Rattle.pm_authority.specs.declared.message.Message.TheVariants as message
@@ -23,7 +24,7 @@ use Rattle.pm_talk.specs.declared.live.Live.{Live}
 use Rattle.pm_talk.specs.Ids.{has_room, with_id}
 use Rattle.pm_talk.specs.Texts.{fault_text, no_memory}
 use Rattle.pm_talk.specs.Asked.{asked_line}
-use Rattle.pm_talk.specs.Live.{LiveAuthority, LiveAnswer, message_of, is_accepted, told, answer, answered}
+use Rattle.pm_talk.specs.Live.{LiveAuthority, LiveAnswer, message_of, some_steps, is_accepted, told, answer, answered}
 use Rattle.pm_talk.specs.Lines.{Line, after_line, after, message_in, messages, presents}
 
 -- ---- one message
@@ -41,19 +42,25 @@ presented-kept s a (message.Submit version steps) kept = from (version == length
     from false = kept
 presented-kept s a (message.Ask version) kept = kept
 
--- no answer but Accepted changes it
+-- where no step was accepted, nothing changes
 pub unaccepted : (s : Schema) (a : LiveAuthority) (m : Message Step) → is_accepted (presented meaning s a m).0 ≡ false → (presented meaning s a m).1 ≡ a
 unaccepted s a (message.Submit version steps) e = from (version == length a.log) e
   where
-    ran : (r : Result Document (Refusal Reason)) → is_accepted (tried meaning s a steps r).0 ≡ false → (tried meaning s a steps r).1 ≡ a
-    ran (Ok d) e = absurd (cc)
-    ran (Err x) e = refl
+    none : (d : Document) (xs : List (Named Step)) → run meaning s a.doc 0 xs ≡ Ok d → some_steps (length xs) ≡ false → record { first = a.first; doc = d; log = a.log ++ xs } ≡ a
+    none d [] q e =
+        let same : a.doc ≡ d = cc in
+        ap (λ x. record { first = a.first; doc = x; log = a.log ++ [] }) (sym same) ∙ ap (λ xs. record { first = a.first; doc = a.doc; log = xs }) (append-nil a.log)
+    none d (x ∷ xs) q e = absurd (cc)
+
+    ran : (r : Result Document (Refusal Reason)) → run meaning s a.doc 0 steps ≡ r → is_accepted (tried meaning s a steps r).0 ≡ false → (tried meaning s a steps r).1 ≡ a
+    ran (Ok d) q e = none d steps q e
+    ran (Err x) q e = refl
 
     chosen : Bool → LiveAnswer × LiveAuthority
     chosen b = if b then tried meaning s a steps (run meaning s a.doc 0 steps) else (WrongVersion (length a.log), a)
 
     from : (b : Bool) → is_accepted (chosen b).0 ≡ false → (chosen b).1 ≡ a
-    from true e = ran (run meaning s a.doc 0 steps) e
+    from true e = ran (run meaning s a.doc 0 steps) refl e
     from false e = refl
 unaccepted s a (message.Ask version) e = refl
 
@@ -87,13 +94,13 @@ submitted-schema live version id steps false = refl
 
 answer-authority : (live : Live) (r : Result Asked Code) → (answer live r).1.authority ≡ presents live.schema live.authority (message_in live r)
 answer-authority live (Ok (Submit version id steps)) = submitted-authority live version id steps (has_room live.ids id)
-answer-authority live (Ok (Since version)) = refl
+answer-authority live (Ok (Since version most)) = refl
 answer-authority live (Ok Doc) = refl
 answer-authority live (Err code) = refl
 
 answer-schema : (live : Live) (r : Result Asked Code) → (answer live r).1.schema ≡ live.schema
 answer-schema live (Ok (Submit version id steps)) = submitted-schema live version id steps (has_room live.ids id)
-answer-schema live (Ok (Since version)) = refl
+answer-schema live (Ok (Since version most)) = refl
 answer-schema live (Ok Doc) = refl
 answer-schema live (Err code) = refl
 

@@ -4,7 +4,9 @@ use Rattle.serde_json.specs.Data.{Data}
 use Rattle.pm_list.specs.Readings.{◌>>=◌, or_fault}
 use Rattle.pm_schema.specs.declared.spec.SchemaSpec.{SchemaSpec}
 use Rattle.pm_head.specs.declared.code.Code.{Code}
-use Rattle.pm_head.specs.declared.code.Code.TheVariants.{UnknownName}
+use Rattle.pm_docjson.specs.Fields.{field}
+use Rattle.pm_slicejson.specs.Numbers.{as_count}
+use Rattle.pm_head.specs.declared.code.Code.TheVariants.{WrongShape, UnknownName}
 use Rattle.pm_head.specs.Lines.{json_line}
 use Rattle.pm_talk.specs.declared.asked.Asked.{Asked}
 use Rattle.pm_talk.specs.declared.asked.Asked.TheVariants.{Submit, Since, Doc}
@@ -26,11 +28,20 @@ word_named text =
 abbrev pub word_in : Data → Result Word Code
 word_in d = text_in (codes "op") d >>= (λ text. or_fault UnknownName (word_named text))
 
--- `since`: a version
+-- how many entries are asked for at most; all where nothing is said
+abbrev pub most_of : Option Data → Result (Option ℕ) Code
+most_of None = Ok None
+most_of (Some d) = or_fault WrongShape (as_count d) >>= (λ n. Ok (Some n))
+
+abbrev pub most_in : Data → Result (Option ℕ) Code
+most_in d = most_of (field (codes "most") d)
+
+-- `since`: a version, and how many entries at most
 unfoldable pub since_in : Data → Result Asked Code
 since_in d = do
   version ← number_in (codes "version") d
-  Ok (Since version)
+  most ← most_in d
+  Ok (Since version most)
 
 module _ (s : SchemaSpec) where
   -- `submit`: a version, the client's ID, and the steps

@@ -46,7 +46,7 @@ after live (line ∷ lines) = after (after_line live line).1 lines
 -- the message that a line is which asks this: a submission, unless its ID is one too many
 abbrev pub message_in : Live → Result Asked Code → List (Message Step)
 message_in live (Ok (Submit version id steps)) = if has_room live.ids id then message_of live version id steps ∷ [] else []
-message_in live (Ok (Since version)) = []
+message_in live (Ok (Since version most)) = []
 message_in live (Ok Doc) = []
 message_in live (Err code) = []
 
@@ -99,7 +99,7 @@ AcceptsExactly =
 -- the fault of a line, which asks this: its own, or that there is no room for its client's ID
 abbrev pub fault_in : List (List ℕ) → Result Asked Code → Option Code
 fault_in ids (Ok (Submit version id steps)) = if has_room ids id then None else Some BadClients
-fault_in ids (Ok (Since version)) = None
+fault_in ids (Ok (Since version most)) = None
 fault_in ids (Ok Doc) = None
 fault_in ids (Err code) = Some code
 

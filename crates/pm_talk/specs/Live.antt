@@ -1,5 +1,5 @@
 -- An authority that answers lines: what a line is answered, and what the authority is then.
-use Rattle.std.specs.Prelude.{ℕ, ◌+◌, Bool, true, false, List, [], ◌∷◌, ◌++◌, length, drop, codes, decimal, Result, Ok, Err, if◌then◌else◌}
+use Rattle.std.specs.Prelude.{ℕ, zero, suc, ◌+◌, Bool, true, false, List, [], ◌∷◌, ◌++◌, length, take, drop, codes, decimal, Option, None, Some, Result, Ok, Err, if◌then◌else◌}
 use Rattle.serde_json.specs.Written.{comma_if, compact_text}
 use Rattle.pm_tokens.specs.Tokens.{Doc as Document}
 use Rattle.pm_schema.specs.declared.schema.Schema.{Schema}
@@ -63,6 +63,11 @@ since_text s ids log version =
     codes "{\"clientIDs\":[" ++ (id_items false ids (drop version log)
     ++ (codes ",\"steps\":[" ++ (step_items false s (drop version log) ++ version_end (length log))))
 
+-- the log up to so many entries after the version, or all of it
+abbrev pub front : ℕ → Option ℕ → List (Named Step) → List (Named Step)
+front version None log = log
+front version (Some most) log = take (version + most) log
+
 -- the document
 abbrev pub doc_text : SchemaSpec → LiveAuthority → List ℕ
 doc_text s a = codes "{\"doc\":" ++ (compact_text (doc_written s a.doc) ++ version_end (length a.log))
@@ -76,13 +81,19 @@ answer_text (WrongVersion size) = version_text size
 answer_text (StepRefused index reason) = refused_text index reason
 answer_text (Entries since entries) = []
 
+-- whether that is any step
+abbrev pub some_steps : ℕ → Bool
+some_steps zero = false
+some_steps (suc n) = true
+
+-- whether a step was accepted
 abbrev pub is_accepted : LiveAnswer → Bool
-is_accepted (Accepted from count) = true
+is_accepted (Accepted from count) = some_steps count
 is_accepted (WrongVersion size) = false
 is_accepted (StepRefused index reason) = false
 is_accepted (Entries since entries) = false
 
--- Accepted is the one answer that changes anything: the authority is the one after it, and the client's ID is among the IDs.
+-- Only steps that were accepted change anything: the authority is the one after them, and the client's ID is among the IDs.
 abbrev pub told : Live → List ℕ → LiveAnswer × LiveAuthority → List ℕ × Live
 told live id given = (
   answer_text given.0,
@@ -100,7 +111,7 @@ submitted live version id steps =
 -- what a line that asks this is answered, or one with this fault, and what the authority is then; a fault changes nothing
 abbrev pub answer : Live → Result Asked Code → List ℕ × Live
 answer live (Ok (Submit version id steps)) = submitted live version id steps
-answer live (Ok (Since version)) = (since_text live.schema.spec live.ids live.authority.log version, live)
+answer live (Ok (Since version most)) = (since_text live.schema.spec live.ids (front version most live.authority.log) version, live)
 answer live (Ok Doc) = (doc_text live.schema.spec live.authority, live)
 answer live (Err code) = (fault_text code, live)
 

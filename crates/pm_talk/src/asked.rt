@@ -2,15 +2,18 @@
 ghost use Rattle.std.specs.Prelude.{◌≡◌};
 ghost use Rattle.serde_json.specs.View.{view};
 ghost use Rattle.pm_head.specs.Answers.{Gives};
-ghost use Rattle.pm_talk.specs.Asked.{submit_in, since_in, asked_of, asked_line, word_in, word_named};
+ghost use Rattle.pm_talk.specs.Asked.{submit_in, since_in, most_in, asked_of, asked_line, word_in, word_named};
 
 use crate::at_once::asked_at_once;
 use crate::fields::id_in;
 use pm_apply::DocChange;
+use pm_docjson::field;
 use pm_head::{Code, LineError, json_line};
+use pm_json::JsonRef;
 use pm_list::Listed;
 use pm_opjson::{count_in, steps_in, text_in};
 use pm_schema::Schema;
+use pm_slicejson::as_count;
 use pm_value::Text;
 use serde_json::Value;
 use std::alloc::Global;
@@ -24,9 +27,10 @@ pub enum Asked {
         id: Text,
         steps: Listed<DocChange>,
     },
-    /// For the log from the version on.
+    /// For the log from the version on, or at most so many of its entries.
     Since {
         version: u32,
+        most: Option<u32>,
     },
     /// For the document.
     Doc,
@@ -106,5 +110,19 @@ fn since_in(json: &Value) -> Result<Asked, LineError>
     ensures { Gives (λ a. a) result (since_in (view json.now)) }
 {
     let version = count_in(json, "version")?;
-    Ok(Asked::Since { version })
+    let most = most_in(json)?;
+    Ok(Asked::Since { version, most })
+}
+
+/// How many entries are asked for at most: a whole number from 0 to 4,294,967,295, or nothing where it is absent or null.
+pub(crate) fn most_in<J: JsonRef>(json: J) -> Result<Option<u32>, LineError>
+    ensures { Gives (λ n. n) result (most_in (J.seen json)) }
+{
+    match field(json, "most") {
+        None => Ok(None),
+        Some(value) => match as_count(value) {
+            Some(number) => Ok(Some(number as u32)),
+            None => Err(LineError::Code(Code::WrongShape)),
+        },
+    }
 }

@@ -3,9 +3,8 @@
 ghost use Rattle.std.specs.Prelude.{◌≡◌, codes, map, Ok, Some, IfOk, IfSome};
 ghost use Rattle.json.specs.Value.{value_view};
 ghost use Rattle.serde_json.specs.Data.{Data};
-ghost use Rattle.serde_json.specs.Read.{of_json, read};
+ghost use Rattle.serde_json.specs.Read.{of_json};
 ghost use Rattle.serde_json.specs.View.{view, items_of};
-ghost use Rattle.pm_head.specs.Lines.{json_line};
 ghost use Rattle.pm_opjson.specs.Codes.{coded};
 ghost use Rattle.pm_opjson.specs.Fields.{number_in};
 ghost use Rattle.pm_opjson.specs.Parts.{steps_in, step_list};
@@ -13,12 +12,12 @@ ghost use Rattle.pm_stepjson.specs.Reading.{step_read};
 ghost use Rattle.pm_talk.specs.Asked.{asked_line, asked_of, submit_in, since_in, word_in};
 ghost use Rattle.pm_talk.specs.Fields.{id_in, id_from};
 
-use crate::asked::{Asked, Word, word_named};
+use crate::asked::{Asked, Word, most_in, word_named};
 use crate::fields::id_from;
 use json::{Scratch, Value as Tree};
 use pm_apply::DocChange;
-use pm_head::LineError;
-use pm_json::{JsonRef, TreeRef, tree_in};
+use pm_head::{LineError, tree_line};
+use pm_json::{JsonRef, TreeRef};
 use pm_list::Listed;
 use pm_opjson::step_fault;
 use pm_schema::Schema;
@@ -26,11 +25,7 @@ use pm_slicejson::as_count;
 use pm_stepjson::read_step;
 use pm_value::Text;
 use serde_json::Value;
-use simdutf8::compat::from_utf8;
 use std::alloc::{AllocError, Global};
-
-/// The greatest number of bytes of a line, its LF not counted.
-const MAX_LINE: usize = 1_048_576;
 
 /// What the line asks, where it is read without a value of it; `None` says nothing of the line.
 #[tactic(auto, unfolding(crate::specs::Asked::asked_line))]
@@ -41,38 +36,10 @@ pub(crate) fn asked_at_once(
 ) -> Result<Option<Asked>, AllocError>
     ensures { IfOk result (λ o. IfSome o (λ a. asked_line schema.now.spec line.now ≡ Ok a)) }
 {
-    let Some(text) = line_text(line) else {
-        return Ok(None);
-    };
     let mut scratch = Scratch::new(alloc);
-    asked_of_text(alloc, schema, text, &mut scratch)
-}
-
-/// What a text asks.
-fn asked_of_text(
-    alloc: Global,
-    schema: &Schema,
-    text: &str,
-    scratch: &mut Scratch,
-) -> Result<Option<Asked>, AllocError>
-    ensures { IfOk result (λ o. IfSome o (λ a. (d : Data) × (read text.now ≡ Some d) × (asked_of schema.now.spec d ≡ Ok a))) }
-{
-    match tree_in(alloc, text, scratch)? {
+    match tree_line(alloc, line, &mut scratch)? {
         Some(tree) => asked_of_tree(alloc, schema, &tree),
         None => Ok(None),
-    }
-}
-
-/// The text of a line that is short enough and UTF-8. A value that the text writes is the line's.
-fn line_text(line: &[u8]) -> Option<&str>
-    ensures { IfSome result (λ t. (d : Data) → read t.now ≡ Some d → json_line line.now ≡ Ok d) }
-{
-    if line.len() > MAX_LINE {
-        return None;
-    }
-    match from_utf8(line) {
-        Ok(text) => Some(text),
-        Err(_) => None,
     }
 }
 
@@ -122,7 +89,10 @@ fn since_at<J: JsonRef>(json: J) -> Option<Asked>
     ensures { IfSome result (λ a. since_in (J.seen json) ≡ Ok a) }
 {
     let version = version_at(json)?;
-    Some(Asked::Since { version })
+    match most_in(json) {
+        Ok(most) => Some(Asked::Since { version, most }),
+        Err(_) => None,
+    }
 }
 
 /// The version.

@@ -9,7 +9,11 @@ use pm_value::Text;
 use serde_json::Value;
 use std::alloc::Global;
 
-/// The ID of a client at `clientID`, a text or a whole number, as its JSON text. `WrongShape` comes where it is absent or neither.
+/// The greatest number of bytes of an ID, as its JSON text.
+pub(crate) const MAX_ID: usize = 1_024;
+
+/// The ID of a client at `clientID`, a text or a whole number, as its JSON text. `WrongShape` comes where it is absent or neither, and
+/// `BadClients` where it has more than 1,024 bytes.
 pub fn id_in(alloc: Global, json: &Value) -> Result<Text, LineError>
     ensures { Gives (λ t. t) result (id_in (view json.now)) }
 {
@@ -19,7 +23,8 @@ pub fn id_in(alloc: Global, json: &Value) -> Result<Text, LineError>
     }
 }
 
-/// The value as an ID: a text or a whole number, as its JSON text. `WrongShape` comes where it is neither.
+/// The value as an ID: a text or a whole number, as its JSON text. `WrongShape` comes where it is neither, and `BadClients` where it
+/// has more than 1,024 bytes.
 pub fn id_from(alloc: Global, json: &Value) -> Result<Text, LineError>
     ensures { Gives (λ t. t) result (id_from (view json.now)) }
 {
@@ -27,6 +32,9 @@ pub fn id_from(alloc: Global, json: &Value) -> Result<Text, LineError>
         return Err(LineError::Code(Code::WrongShape));
     }
     let text = json.to_string(alloc)?;
+    if text.len() > MAX_ID {
+        return Err(LineError::Code(Code::BadClients));
+    }
     Ok(Text::from_str(alloc, text.as_str())?)
 }
 

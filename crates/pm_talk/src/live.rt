@@ -12,14 +12,14 @@ use crate::asked::{Asked, asked_line};
 use crate::ids::{ClientIds, MAX_IDS};
 use crate::presenting::{Told, present};
 use crate::texts::fault_text;
-use crate::writing::{doc_text, since_text};
+use crate::writing::{doc_text, front, since_text};
 use pm_apply::DocChange;
 use pm_authority::Authority;
 use pm_head::{Code, LineError};
 use pm_schema::Schema;
 use std::alloc::{AllocError, Global};
 
-/// An authority that answers lines: the schema, the authority, and the IDs of the clients whose submissions were accepted.
+/// An authority that answers lines: the schema, the authority, and the IDs of the clients of whom a step was accepted.
 #[derive(Drop)]
 pub struct Live {
     pub schema: Schema,
@@ -28,7 +28,7 @@ pub struct Live {
 }
 
 impl Live {
-    /// The answer to a line. Only an accepted submission changes anything, and out of memory does not.
+    /// The answer to a line. Only an accepted step changes anything, and out of memory does not.
     pub fn answer(&mut self, alloc: Global, line: &[u8]) -> Result<String, AllocError>
         requires { IsKept meaning self.old.schema self.old.authority }
         ensures text { IfOk result (λ s. string_bytes s ≡ (answered self.old line.now).0) }
@@ -40,14 +40,9 @@ impl Live {
             Ok(Asked::Submit { version, id, steps }) => {
                 self.submit(alloc, version, id.as_str(), steps.as_slice())
             }
-            Ok(Asked::Since { version }) => {
-                since_text(
-                    alloc,
-                    &self.schema,
-                    &self.ids,
-                    self.authority.log(),
-                    version,
-                )
+            Ok(Asked::Since { version, most }) => {
+                let log = front(self.authority.log(), version, most);
+                since_text(alloc, &self.schema, &self.ids, log, version)
             }
             Ok(Asked::Doc) => doc_text(alloc, &self.schema, &self.authority),
             Err(LineError::Code(code)) => fault_text(alloc, code),
@@ -89,7 +84,7 @@ impl Live {
         }
     }
 
-    /// The answer to a submission of a client whose ID is not there yet. It is taken up where the submission is accepted.
+    /// The answer to a submission of a client whose ID is not there yet. It is taken up where a step is accepted.
     fn submit_first(
         &mut self,
         alloc: Global,

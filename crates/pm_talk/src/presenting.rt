@@ -4,7 +4,7 @@ ghost use Rattle.pm_apply.specs.Changes.{meaning};
 ghost use Rattle.pm_authority.specs.Kept.{IsKept};
 ghost use Rattle.pm_authority.specs.declared.message.Message.TheVariants.{Submit};
 ghost use Rattle.pm_authority.specs.Presents.{presented};
-ghost use Rattle.pm_talk.specs.Live.{named};
+ghost use Rattle.pm_talk.specs.Live.{named, some_steps};
 ghost use Rattle.pm_talk.specs.Presenting.{Tells};
 
 use crate::texts::{accepted_text, refused_text, version_text};
@@ -20,7 +20,7 @@ use std::alloc::{AllocError, Global};
 pub(crate) struct Told {
     /// The answer's line.
     pub text: String,
-    /// Whether the steps were accepted.
+    /// Whether a step was accepted.
     pub accepted: bool,
 }
 
@@ -45,9 +45,9 @@ pub(crate) fn present(
     let accepted = accepted_text(alloc, version, steps.len() as u64)?;
     let message = Message::Submit { version, steps };
     match authority.present(alloc, schema, client, &message)? {
-        Answer::Accepted { from: _, count: _ } => Ok(Told {
+        Answer::Accepted { from: _, count } => Ok(Told {
             text: accepted,
-            accepted: true,
+            accepted: some_steps(count),
         }),
         Answer::WrongVersion { length } => Ok(Told {
             text: version_text(alloc, length)?,
@@ -63,6 +63,13 @@ pub(crate) fn present(
             entries: _,
         } => unreachable!(),
     }
+}
+
+/// Whether that is any step.
+fn some_steps(count: u64) -> bool
+    ensures { result ≡ some_steps count }
+{
+    count > 0
 }
 
 /// The steps with their names: the client's number, and serials from `first` on.

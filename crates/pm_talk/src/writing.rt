@@ -1,9 +1,9 @@
 //! The answers that tell the log and the document.
-ghost use Rattle.std.specs.Prelude.{◌≡◌, ◌++◌, false, drop, codes, decimal, IfOk, OnOk, string_bytes};
+ghost use Rattle.std.specs.Prelude.{◌≡◌, ◌++◌, false, take, drop, codes, decimal, IfOk, OnOk, string_bytes};
 ghost use Rattle.serde_json.specs.Written.{comma_if, compact_text};
 ghost use Rattle.pm_stepjson.specs.Writing.{step_written};
 ghost use Rattle.pm_talk.specs.Ids.{id_at};
-ghost use Rattle.pm_talk.specs.Live.{id_items, step_items, doc_text, since_text};
+ghost use Rattle.pm_talk.specs.Live.{id_items, step_items, doc_text, since_text, front};
 
 use crate::ids::ClientIds;
 use pm_apply::DocChange;
@@ -53,6 +53,31 @@ pub(crate) fn since_text(
     push_steps(alloc, schema, &mut text, entries)?;
     push_version(&mut text, log.len())?;
     Ok(text)
+}
+
+/// The log up to so many entries after the version, or all of it.
+pub(crate) fn front(
+    log: &[Named<DocChange>],
+    version: u32,
+    most: Option<u32>,
+) -> &[Named<DocChange>]
+    ensures { result.now ≡ front version most log.now }
+{
+    match most {
+        Some(most) => up_to(log, version as usize + most as usize),
+        None => log,
+    }
+}
+
+/// The log up to the place, or all of it where it ends before.
+fn up_to(log: &[Named<DocChange>], place: usize) -> &[Named<DocChange>]
+    ensures { result.now ≡ take place log.now }
+{
+    if place < log.len() {
+        &log[..place]
+    } else {
+        log
+    }
 }
 
 /// The log from the place on; nothing beyond its end.

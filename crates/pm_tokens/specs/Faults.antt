@@ -26,32 +26,24 @@ marks_fit s parent t = is_set s (marks_of t) && are_allowed s parent (marks_of t
 -- leaf is of a leaf type that is not text.
 abbrev pub content_fits : Schema → Token → List Token → Bool
 content_fits s (Open k a m) next = not (k == s.text) && not (s.is_leaf k) && s.accepts k (kids s.text 0 None next)
-content_fits s Close next = true
 content_fits s (Leaf k a m) next = not (k == s.text) && s.is_leaf k
-content_fits s (CodeUnit u m) next = true
+content_fits s _ next = true
 
 -- the next token is a low surrogate with these marks
 abbrev pub low_next : Marks → List Token → Bool
-low_next m [] = false
-low_next m (Open k a n ∷ ts) = false
-low_next m (Close ∷ ts) = false
-low_next m (Leaf k a n ∷ ts) = false
 low_next m (CodeUnit u n ∷ ts) = is_low_surrogate u && same_marks same_attrs m n
+low_next m _ = false
 
 -- the marks of a high surrogate
 abbrev pub high_of : Token → Option Marks
-high_of (Open k a m) = None
-high_of Close = None
-high_of (Leaf k a m) = None
 high_of (CodeUnit u m) = cond (is_high_surrogate u) (Some m) None
+high_of _ = None
 
 -- A unit that is no half of a pair, or whose other half stands beside it with equal marks. `high` has the marks of the
 -- token before, if that is a high surrogate.
 abbrev pub pair_fits : Option Marks → Token → List Token → Bool
-pair_fits high (Open k a m) next = true
-pair_fits high Close next = true
-pair_fits high (Leaf k a m) next = true
 pair_fits high (CodeUnit u m) next = cond (is_high_surrogate u) (low_next m next) (cond (is_low_surrogate u) (goes_on high m) true)
+pair_fits high _ next = true
 
 -- the marks of the last token, if that is a high surrogate
 abbrev pub last_high : Option Marks → List Token → Option Marks
@@ -104,8 +96,7 @@ fault_unless attrs marks content at =
 abbrev pub under : List ℕ → Token → List ℕ
 under ps (Open k a m) = k ∷ ps
 under ps Close = tail_of ps
-under ps (Leaf k a m) = ps
-under ps (CodeUnit u m) = ps
+under ps _ = ps
 
 -- the first token with a fault of attributes, marks or content, under the nodes that are open: `at` is the place of the first token
 abbrev pub first_fault : Schema → ℕ → List ℕ → List Token → Option Fault

@@ -45,11 +45,8 @@ kids text (suc d) r (CodeUnit u m ∷ ts) = kids text (suc d) None ts
 
 -- the next token goes on a text with the marks m
 abbrev pub next_goes_on : Marks → List Token → Bool
-next_goes_on m [] = false
-next_goes_on m (Open k a n ∷ ts) = false
-next_goes_on m (Close ∷ ts) = false
-next_goes_on m (Leaf k a n ∷ ts) = false
 next_goes_on m (CodeUnit u n ∷ ts) = same_marks same_attrs m n
+next_goes_on m _ = false
 
 -- a token more at the front of the first part
 abbrev pub with_first : Token → List (List Token) → List (List Token)

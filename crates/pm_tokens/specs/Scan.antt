@@ -21,8 +21,7 @@ abbrev pub unclosed : List ℕ → List Token → List ℕ
 unclosed s [] = s
 unclosed s (Open k a m ∷ ts) = unclosed (k ∷ s) ts
 unclosed s (Close ∷ ts) = unclosed (tail_of s) ts
-unclosed s (Leaf k a m ∷ ts) = unclosed s ts
-unclosed s (CodeUnit u m ∷ ts) = unclosed s ts
+unclosed s (_ ∷ ts) = unclosed s ts
 
 -- how many closes meet no open, where d nodes are open before
 abbrev pub unmet : ℕ → List Token → ℕ
@@ -60,8 +59,7 @@ abbrev pub open_places : ℕ → List ℕ → List Token → List ℕ
 open_places at s [] = s
 open_places at s (Open k a m ∷ ts) = open_places (at + 1) (at ∷ s) ts
 open_places at s (Close ∷ ts) = open_places (at + 1) (tail_of s) ts
-open_places at s (Leaf k a m ∷ ts) = open_places (at + 1) s ts
-open_places at s (CodeUnit u m ∷ ts) = open_places (at + 1) s ts
+open_places at s (_ ∷ ts) = open_places (at + 1) s ts
 
 -- the open tokens before a position whose close is not before it, by their places
 abbrev pub open_at : List Token → ℕ → List ℕ
@@ -77,8 +75,7 @@ deepest d [] = d
 deepest d (Open k a m ∷ ts) = deepest (suc d) ts
 deepest zero (Close ∷ ts) = deepest zero ts
 deepest (suc d) (Close ∷ ts) = max (suc d) (deepest d ts)
-deepest d (Leaf k a m ∷ ts) = deepest d ts
-deepest d (CodeUnit u m ∷ ts) = deepest d ts
+deepest d (_ ∷ ts) = deepest d ts
 
 -- the opens without the innermost one
 abbrev pub rest_of : List Token → List Token
@@ -90,8 +87,7 @@ abbrev pub around : List Token → List Token → List Token
 around s [] = s
 around s (Open k a m ∷ ts) = around (Open k a m ∷ s) ts
 around s (Close ∷ ts) = around (rest_of s) ts
-around s (Leaf k a m ∷ ts) = around s ts
-around s (CodeUnit u m ∷ ts) = around s ts
+around s (_ ∷ ts) = around s ts
 
 -- ---- owners
 
@@ -124,8 +120,7 @@ joins c s [] = true
 joins c s (Opening k a m ∷ ts) = joins c (k ∷ s) ts
 joins c [] (Closing o ∷ ts) = false
 joins c (k ∷ s) (Closing o ∷ ts) = c k o && joins c s ts
-joins c s (Single k a m ∷ ts) = joins c s ts
-joins c s (Piece u m ∷ ts) = joins c s ts
+joins c s (_ ∷ ts) = joins c s ts
 
 -- ---- open sides
 
@@ -133,34 +128,27 @@ joins c s (Piece u m ∷ ts) = joins c s ts
 abbrev pub are_opens : List Token → Bool
 are_opens [] = true
 are_opens (Open k a m ∷ ts) = are_opens ts
-are_opens (Close ∷ ts) = false
-are_opens (Leaf k a m ∷ ts) = false
-are_opens (CodeUnit u m ∷ ts) = false
+are_opens (_ ∷ _) = false
 
 -- all are closes
 abbrev pub are_closes : List Token → Bool
 are_closes [] = true
-are_closes (Open k a m ∷ ts) = false
 are_closes (Close ∷ ts) = are_closes ts
-are_closes (Leaf k a m ∷ ts) = false
-are_closes (CodeUnit u m ∷ ts) = false
+are_closes (_ ∷ _) = false
 
 -- closes alone and then opens alone
 abbrev pub closes_then_opens : List Token → Bool
 closes_then_opens [] = true
 closes_then_opens (Open k a m ∷ ts) = are_opens ts
 closes_then_opens (Close ∷ ts) = closes_then_opens ts
-closes_then_opens (Leaf k a m ∷ ts) = false
-closes_then_opens (CodeUnit u m ∷ ts) = false
+closes_then_opens (_ ∷ _) = false
 
 -- ---- pairs of surrogates
 
 -- a unit that is a high surrogate
 abbrev pub is_high : Token → Bool
-is_high (Open k a m) = false
-is_high Close = false
-is_high (Leaf k a m) = false
 is_high (CodeUnit u m) = is_high_surrogate u
+is_high _ = false
 
 -- the last token is a high surrogate
 abbrev pub ends_high : List Token → Bool
@@ -170,11 +158,8 @@ ends_high (t ∷ t₂ ∷ ts) = ends_high (t₂ ∷ ts)
 
 -- the first token is a low surrogate
 abbrev pub starts_low : List Token → Bool
-starts_low [] = false
-starts_low (Open k a m ∷ ts) = false
-starts_low (Close ∷ ts) = false
-starts_low (Leaf k a m ∷ ts) = false
 starts_low (CodeUnit u m ∷ ts) = is_low_surrogate u
+starts_low _ = false
 
 -- the position parts a pair: the token before it is a high surrogate, and the one after it a low one
 abbrev pub parts_pair : List Token → ℕ → Bool

@@ -39,9 +39,8 @@ takes a v = nat_le (depth v) 4 && is_allowed a.kinds v
 -- the values are one for each attribute, and each takes its value
 abbrev pub fit_declared : List Declared → List Plain → Bool
 fit_declared [] [] = true
-fit_declared [] (v ∷ vs) = false
-fit_declared (a ∷ as') [] = false
 fit_declared (a ∷ as') (v ∷ vs) = takes a v && fit_declared as' vs
+fit_declared _ _ = false
 
 -- there is such a type, and the values are those of its attributes
 abbrev pub fit_type : Option (List Declared) → List Plain → Bool

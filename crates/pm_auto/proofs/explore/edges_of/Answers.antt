@@ -5,6 +5,7 @@ use Rattle.pm_auto.specs.Groups.{Are_groups}
 use Rattle.pm_auto.specs.States.{set_at, Below, once, kinds, step, Apart, Too_many}
 use Rattle.pm_auto.proofs.SetLaws.{below-on}
 use Rattle.pm_auto.proofs.GroupLaws.{heads-below, heads-long, same-below, kind-is, step-is, take-past, take-zero}
+use Rattle.pm_auto.proofs.WayLaws.{ways-placed}
 use Rattle.pm_auto.proofs.StateLaws.{at-is, below-at, grows-at, grows-length, turn, turn-wide, only-map}
 use Rattle.pm_auto.proofs.explore.edges_of.Goals as goal
 
@@ -21,7 +22,8 @@ loop-head-init c =
     let ps : c.as_slice-places.result.now ≡ (set_at c.args.sets.now c.args.at).places = c.as_slice-places.ensures ∙ ap (λ (s : PlaceSet). s.places) (sym c.index-as_slice-at.is ∙ e0) in
     let b : Below (length c.args.rows.now) (set_at c.args.sets.now c.args.at).places = below-at (length c.args.rows.now) c.args.sets.now c.args.at c.requires.within c.requires.found.below in
     let d : Are_groups c.args.rows.now (set_at c.args.sets.now c.args.at).places c.in_ok-groups.groups = subst (λ (ns : List ℕ). Are_groups c.args.rows.now ns c.in_ok-groups.groups) ps c.in_ok-groups.ensures in
-    (c.requires.found, ([], sym (append-nil c.args.sets.now)), rw c.new-edges.ensures tt, rw c.new-edges.ensures (sym (take-zero (once [] (kinds c.args.rows.now (set_at c.args.sets.now c.args.at).places)))), c.requires.known, heads-below c.args.rows.now (set_at c.args.sets.now c.args.at).places b c.in_ok-groups.groups d c.as_slice-head-items.result.now c.as_slice-head-items.ensures, c.requires.prints)
+    let none : c.from_vec-edges.result ≡ [] = grind arith in
+    (c.requires.found, ([], sym (append-nil c.args.sets.now)), rw none tt, rw none (sym (take-zero (once [] (kinds c.args.rows.now (set_at c.args.sets.now c.args.at).places)))), c.requires.known, heads-below c.args.rows.now (set_at c.args.sets.now c.args.at).places b c.in_ok-groups.groups d c.as_slice-head-items.result.now c.as_slice-head-items.ensures, c.requires.prints, c.requires.ways)
 
 pub after-requires : goal.after-requires
 after-requires c =
@@ -61,7 +63,8 @@ loop-head-preserved c =
     step-is c.args.rows.now (set_at c.args.sets.now c.args.at).places b c.in_ok-groups.groups d c.as_slice-head-items.result.now c.as_slice-head-items.ensures c.args.twins.now c.requires.twins c.loop-head.head-index c.loop-head-test.true c.index-rows-head.result c.index-rows-head.is (set_at c.loop-head.sets c.args.at) (ap (λ (s : PlaceSet). s.places) (grows-at c.args.sets.now c.loop-head.sets c.args.at inv.1 c.requires.within)) c.list_at-same.result.now c.as_slice-in-loop-head.result.now c.as_slice-in-loop-head.ensures c.list_at-same.ensures (as_set c.args.rows.now c.in_ok-next.next) c.in_ok-next.ensures.is in
     let t = turn c.args.rows.now c.args.sets.now c.loop-head.sets c.args.at c.loop-head.head-index c.index-rows-head.result.kind (once [] (kinds c.args.rows.now (set_at c.args.sets.now c.args.at).places)) inv.0 inv.1 c.requires.within li refl ek
     c.loop-head.edges c.push.new.self (as_set c.args.rows.now c.in_ok-next.next) c.in-Ok.to c.reach.new.sets inv.2 inv.3 n c.in-Ok.ensures.ok c.in_ok-push.ensures.ok in
-    (t.0, t.1, t.2, t.3, c.in-Ok.ensures.known, below-on c.args.rows.now c.as_slice-head-items.result.now c.loop-head.head-index c.loop-head-test.true inv.5, c.in-Ok.ensures.prints)
+    let w = ways-placed c.args.rows.now c.loop-head.sets c.reach.new.sets c.loop-head.ways c.add_way.new.ways c.args.at c.index-rows-head.result.kind c.in-Ok.to (as_set c.args.rows.now c.in_ok-next.next) inv.0.some inv.7 n c.in-Ok.ensures.ok c.in_ok-add_way.ensures in
+    (t.0, t.1, t.2, t.3, c.in-Ok.ensures.known, below-on c.args.rows.now c.as_slice-head-items.result.now c.loop-head.head-index c.loop-head-test.true inv.5, c.in-Ok.ensures.prints, w)
 
 pub returns-clause-edges : goal.returns-clause-edges
 returns-clause-edges c =

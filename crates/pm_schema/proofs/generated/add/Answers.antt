@@ -1,4 +1,4 @@
-use Rattle.std.proofs.Common.{◌≡◌, ◌<◌, length, subst, true, arith}
+use Rattle.std.proofs.Common.{◌≡◌, ◌<◌, length, subst, arith}
 use Rattle.pm_schema.specs.declared.spec.NodeSpec.{NodeSpec}
 use Rattle.pm_schema.specs.Generated.{nth, IsMade}
 use Rattle.pm_schema.proofs.Tables.{run-at, nth-is}

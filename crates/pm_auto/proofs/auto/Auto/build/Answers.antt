@@ -13,7 +13,7 @@ use Rattle.pm_auto.specs.Walks.{accepted}
 use Rattle.pm_auto.proofs.StateLaws.{order-below}
 use Rattle.pm_auto.proofs.AcceptLaws.{fits-is, accepted-in}
 use Rattle.pm_auto.proofs.FewLaws.{few-states}
-use Rattle.pm_auto.proofs.SameAutomata.{built-automaton, built-fault}
+use Rattle.pm_auto.proofs.SameAutomata.{rows-are, start-is, built-automaton, built-fault}
 use Rattle.pm_auto.proofs.auto.Auto.build.Goals as goal
 
 pub returns-then-has_type-2-clause-decides : goal.returns-then-has_type-2-clause-decides
@@ -31,8 +31,16 @@ returns-in_err-places-clause-decides c = fits-is c.args.expr.now
 pub returns-clause-decides : goal.returns-clause-decides
 returns-clause-decides c = fits-is c.args.expr.now
 
-pub explore-requires : goal.explore-requires
-explore-requires c = subst (Below (length c.as_slice-rows.result.now)) (sym c.in_ok-places.ensures) (order-below c.as_slice.result.now c.as_slice-rows.result.now)
+pub explore-requires-clause-rows : goal.explore-requires-clause-rows
+explore-requires-clause-rows c =
+    rows-are c.args.expr.now c.in_ok-part.part c.as_slice-rows.result.now c.as_slice.result.now c.in_ok-places.places c.in_ok-part.ensures c.as_slice-rows.ensures c.as_slice.ensures c.in_ok-places.ensures
+
+pub explore-requires-clause-start : goal.explore-requires-clause-start
+explore-requires-clause-start c =
+    start-is c.args.expr.now c.in_ok-part.part c.as_slice-rows.result.now c.as_slice.result.now c.in_ok-places.places c.in_ok-part.ensures c.as_slice-rows.ensures c.as_slice.ensures c.in_ok-places.ensures
+
+pub explore-requires-clause-below : goal.explore-requires-clause-below
+explore-requires-clause-below c = subst (Below (length c.as_slice-rows.result.now)) (sym c.in_ok-places.ensures) (order-below c.as_slice.result.now c.as_slice-rows.result.now)
 
 pub returns-clause-automaton : goal.returns-clause-automaton
 returns-clause-automaton c =
