@@ -11,12 +11,12 @@ set -eu
 here=$(cd "$(dirname "$0")" && pwd)
 export NODE_PATH=/usr/share/nodejs
 package=$here/../bindings/js
-parts="check typing clients undos rebases edits long generated threads live embed talk server"
+parts="check typing clients undos rebases edits long generated threads live house embed talk server"
 
 # What each part runs. The sizes are such that all parts take less than twelve minutes.
 part() {
   case $1 in
-  check | undos | edits | long | live | embed | talk) node "$here/$1.js" ;;
+  check | undos | edits | long | live | house | embed | talk) node "$here/$1.js" ;;
   typing) node "$here/typing.js" 1000 10000 100000 ;;
   clients) node "$here/clients.js" 32 3000 ;;
   rebases) node "$here/rebases.js" 500 10 1 2000 10 1 2000 10 100 ;;
@@ -42,7 +42,7 @@ install() {
 # The program, and the library, that a part times.
 need() {
   case $1 in
-  live) [ -n "${PM_LIVE-}" ] || "$here/../pm" build live ;;
+  live | house) [ -n "${PM_LIVE-}" ] || "$here/../pm" build live ;;
   embed)
     need live
     [ -n "${GEZHUFET_PREFIX-}" ] || "$here/../pm" lib

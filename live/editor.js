@@ -65,13 +65,16 @@ class Editor {
   ask() { return new Message({op: "since", version: this.version}) }
 
   /// Takes the authority's answer to a message, and says what came of it: `confirmed`, `received`, `dropped`, `behind` (the log has
-  /// steps that are not known yet), `fault` (it is to be sent again otherwise), `memory` (it is to be sent again later), or
-  /// `stale` where the answer says nothing new.
+  /// steps that are not known yet), `fault` (it is to be sent again otherwise), `memory` (it is to be sent again later), `gone` (a house
+  /// has let go what the editor asked for, which begins anew), `closed` (the house has no such document), or `stale` where the answer
+  /// says nothing new.
   take(message, answer) {
     if (answer.steps) return this.receive(answer)
     if (answer.accepted) return this.confirm(answer.accepted)
     if (answer.refused) return this.drop(message, answer.refused.index, answer)
     if (answer.fault !== undefined) return this.takeFault(message, answer)
+    if (answer.none !== undefined) return "closed"
+    if (answer.from !== undefined) return answer.from > this.version ? "gone" : "stale"
     return this.learn(answer.version)
   }
 

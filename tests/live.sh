@@ -1,7 +1,7 @@
 #!/bin/sh
-# Tests the live authority by lines (tests/live-lines.sh), its client (live/client.js) and its page (live/page): editors of
-# ProseMirror's own libraries work over the built program. What is missing (node, ProseMirror's packages, the program,
-# Chromium) is said, and what needs it is left out.
+# Tests the live authority by lines (tests/live-lines.sh), its client (live/client.js), a house of many documents and the page
+# (live/page): editors of ProseMirror's own libraries work over the built program. What is missing (node, ProseMirror's packages, the
+# program, Chromium) is said, and what needs it is left out.
 # The last line is `N passed, M failed`.
 # usage: tests/live.sh [--install]      with --install Debian's packages are installed where they are missing
 # The variable PM_LIVE names another program than crates/pm_live/out/pm_live.
@@ -64,6 +64,7 @@ if ! command -v ${PM_LIVE%% *} >/dev/null 2>&1; then
   finish
 fi
 part node "$top/live/test.js"
+part node "$top/live/house-test.js"
 
 if have_chromium; then part node "$top/live/page/test.js"; else leave_out "the page is" "chromium is missing"; fi
 finish

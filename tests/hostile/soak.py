@@ -13,6 +13,7 @@ kinds, all where none is named:
   library   sessions through the talks of an authority and of its clients (tests/library/play.py), where ./pm lib has built them:
             the whole report is that of `replay`, and each view comes to its client's document by the steps that it was told
   node      editors over ProseMirror's libraries (live/test.js), where node has them
+  house     such editors of many documents of a house, beside a process for each document (live/house-test.js)
 
 Each worker goes from kind to kind. Each run has a limit of memory, MEMORY in bytes (2,000,000,000 where it is absent; node has none, since
 it reserves more addresses), and one of time. SEED sets the seed, which is printed, JOBS how many workers there are, and FINDS the folder
@@ -283,28 +284,38 @@ def library(draws):
     return {"lines": int(told[1]), "steps": 0}
 
 
-def node(draws):
+def editors(draws, script):
+    """Runs a test of editors in node until a log, or some logs in all, have some number of steps."""
     number, steps = draws.randrange(2**31), draws.randint(100, 1500)
     more = {"PM_LIVE": LIVE, "NODE_PATH": "/usr/share/nodejs"}
     # Node reserves more addresses than the limit has.
     limit, _ = resource.getrlimit(resource.RLIMIT_AS)
     resource.setrlimit(resource.RLIMIT_AS, (resource.RLIM_INFINITY, resource.RLIM_INFINITY))
-    played = play([f"{TOP}/live/test.js", str(steps), str(number)], b"", more, LONG, "node")
+    played = play([f"{TOP}/{script}", str(steps), str(number)], b"", more, LONG, "node")
     resource.setrlimit(resource.RLIMIT_AS, (limit, resource.RLIM_INFINITY))
-    ensure(played.status == 0, f"live/test.js {steps} {number}: {played.status} {played.out[-400:]!r} {played.err[-200:]!r}")
+    ensure(played.status == 0, f"{script} {steps} {number}: {played.status} {played.out[-400:]!r} {played.err[-200:]!r}")
     return {"lines": 0, "steps": steps}
 
 
-KINDS = {"gen": gen, "run": run, "late": late, "runrooms": runrooms, "live": live, "library": library, "node": node}
+def node(draws):
+    return editors(draws, "live/test.js")
+
+
+def house(draws):
+    return editors(draws, "live/house-test.js")
+
+
+KINDS = {"gen": gen, "run": run, "late": late, "runrooms": runrooms, "live": live, "library": library, "node": node, "house": house}
+NODE = ("node", "house")
 
 
 def missing(kind):
     """Why a kind is left out, or None."""
-    if kind in ("live", "node") and not os.access(LIVE.split()[0], os.X_OK):
+    if kind in ("live", *NODE) and not os.access(LIVE.split()[0], os.X_OK):
         return f"there is no program at {LIVE}"
     if kind == "library" and not os.path.exists(f"{PREFIX}/lib/libgezhufet.so"):
         return f"there is no library below {PREFIX}"
-    if kind == "node":
+    if kind in NODE:
         how = {"capture_output": True, "env": {**os.environ, "NODE_PATH": "/usr/share/nodejs"}, "check": False}
         try:
             ran = subprocess.run(["node", "-e", "require('prosemirror-state'); require('prosemirror-schema-list')"], **how)

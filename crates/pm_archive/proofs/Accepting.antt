@@ -1,11 +1,13 @@
 -- When a submission is accepted, and that a fault changes nothing.
 use Rattle.std.proofs.Common.{◌≡◌, ◌∙◌, ◌+◌, ℕ, suc, Bool, true, false, List, [], ◌∷◌, length, get_or, refl, ap, sym, arith, Result, Ok, Err}
-use Rattle.std.specs.Prelude.{Option, None, Some, ◌==◌, if◌then◌else◌}
+use Rattle.std.specs.Prelude.{Option, None, Some, nat_lt, ◌==◌, if◌then◌else◌}
 use Rattle.std.proofs.lemmas.Bool.Decides.{nat_tests}
 use Rattle.serde_json.specs.Data.{Data}
 use Rattle.pm_tokens.specs.Tokens.{Doc as Document}
+use Rattle.pm_schema.specs.declared.spec.SchemaSpec.{SchemaSpec}
 use Rattle.pm_meaning.specs.Steps.{Step}
 use Rattle.pm_meaning.specs.declared.reason.Reason.{Reason}
+use Rattle.pm_change.specs.declared.no_step.NoStep.{NoStep}
 use Rattle.pm_apply.specs.Changes.{meaning}
 use Rattle.pm_head.specs.declared.code.Code.{Code}
 use Rattle.pm_head.specs.declared.code.Code.TheVariants.{BadClients}
@@ -21,12 +23,18 @@ use Rattle.pm_talk.specs.Live.{LiveAnswer, named, is_accepted}
 use Rattle.pm_order.specs.declared.word.DocWord.{DocWord}
 use Rattle.pm_order.specs.declared.word.DocWord.TheVariants as word
 use Rattle.pm_order.specs.declared.wish.Wish.{Wish}
-use Rattle.pm_order.specs.declared.wish.Wish.TheVariants.{Submit, Since, Doc}
+use Rattle.pm_order.specs.declared.wish.Wish.TheVariants.{Submit, Since, Doc, Forget, Map, Revert, Edit, Authors}
 use Rattle.pm_order.specs.Wishes.{wish_in}
+use Rattle.pm_edit.specs.Ops.{steps_of}
 use Rattle.pm_archive.specs.declared.archive.Archive.{Archive}
+use Rattle.pm_archive.specs.declared.reverting.TheConstants.{MAX_VERSION}
 use Rattle.pm_archive.specs.Archives.{authority_of, version_of, with_authority}
-use Rattle.pm_archive.specs.Answers.{presented_at, answer_text, told, answer, answered}
+use Rattle.pm_archive.specs.Texts.{from_text, reverted_text, edited_text}
+use Rattle.pm_archive.specs.Answers.{presented_at, answer_text, told, submitted, forgotten, is_apart, reverted, edited, answer, answered}
 use Rattle.pm_archive.specs.Laws.{IsAccepted, AcceptsExactly, FaultsChangeNothing}
+use Rattle.pm_archive.proofs.Forgotten.{by_tests}
+use Rattle.pm_archive.proofs.Reverted.{each-answer}
+use Rattle.pm_archive.proofs.Edited.{by_last}
 use Rattle.pm_archive.proofs.Names.{Given, chosen}
 
 length-named : (client serial : ℕ) (steps : List Step) → length (named client serial steps) ≡ length steps
@@ -35,13 +43,13 @@ length-named client serial (step ∷ steps) = ap suc (length-named client (seria
 
 -- ---- the texts begin otherwise
 
-v-is-not-a : ◌≡◌ {A = ℕ} 118 97 → ⊥
+pub v-is-not-a : ◌≡◌ {A = ℕ} 118 97 → ⊥
 v-is-not-a e = omega (arith, e)
 
-r-is-not-a : ◌≡◌ {A = ℕ} 114 97 → ⊥
+pub r-is-not-a : ◌≡◌ {A = ℕ} 114 97 → ⊥
 r-is-not-a e = omega (arith, e)
 
-f-is-not-a : ◌≡◌ {A = ℕ} 102 97 → ⊥
+pub f-is-not-a : ◌≡◌ {A = ℕ} 102 97 → ⊥
 f-is-not-a e = omega (arith, e)
 
 version-differs : (n from count : ℕ) → version_text n ≡ accepted_text from count → ⊥
@@ -62,7 +70,7 @@ no-room-is-room b f t = absurd (cc)
 equal-tests : (a b : ℕ) → (a == b) ≡ true → a ≡ b
 equal-tests a b h = grind (arith, nat_tests)
 
-tests-equal : (a b : ℕ) → a ≡ b → (a == b) ≡ true
+pub tests-equal : (a b : ℕ) → a ≡ b → (a == b) ≡ true
 tests-equal a b h = grind (arith, nat_tests)
 
 abbrev Applies : Archive → ℕ → List (Named Step) → Type 0
@@ -90,7 +98,7 @@ applies-accepted a version steps h =
 
 -- ---- submissions
 
-abbrev by_room : Archive → ℕ → List ℕ → List Step → Bool → List ℕ × Archive
+abbrev pub by_room : Archive → ℕ → List ℕ → List Step → Bool → List ℕ × Archive
 by_room a version id steps b =
     if b then told a id (presented_at a version (named (number_of a.ids id) (version + 1) steps)) else (fault_text BadClients, a)
 
@@ -131,8 +139,20 @@ told-fault a next (WrongVersion size) code h = refl
 told-fault a next (StepRefused index reason) code h = refl
 told-fault a next (Entries since entries) code h = refl
 
-answer-fault : (a : Archive) (r : Result Wish Code) (code : Code) → (answer a r).0 ≡ fault_text code → (answer a r).1 ≡ a
-answer-fault a (Ok (Submit version id steps)) code h = from (has_room a.ids id) h
+from-differs : (from : ℕ) (code : Code) → from_text from ≡ fault_text code → ⊥
+from-differs from code h = r-is-not-a (ap (λ xs. get_or xs 3 0) h)
+
+forgotten-fault : (a : Archive) (version : ℕ) (code : Code) → (forgotten a version).0 ≡ fault_text code → (forgotten a version).1 ≡ a
+forgotten-fault a version code h = from (nat_lt version a.from) (nat_lt (version_of a) version) h
+  where
+    from : (below past : Bool) → (by_tests a version below past).0 ≡ fault_text code → (by_tests a version below past).1 ≡ a
+    from true past h = refl
+    from false true h = refl
+    from false false h = absurd (from-differs version code h)
+
+submit-fault : (a : Archive) (version : ℕ) (id : List ℕ) (steps : List Step) (code : Code) → (submitted a version id steps).0 ≡ fault_text code
+    → (submitted a version id steps).1 ≡ a
+submit-fault a version id steps code h = from (has_room a.ids id) h
   where
     given : Given
     given = presented_at a version (named (number_of a.ids id) (version + 1) steps)
@@ -140,8 +160,42 @@ answer-fault a (Ok (Submit version id steps)) code h = from (has_room a.ids id) 
     from : (b : Bool) → (by_room a version id steps b).0 ≡ fault_text code → (by_room a version id steps b).1 ≡ a
     from true h = told-fault a (with_authority a given.1 (with_id a.ids id)) given.0 code h
     from false h = refl
+
+reverted-differs : (s : SchemaSpec) (version : ℕ) (apart : Bool) (steps : List Step) (code : Code) → reverted_text s version apart steps ≡ fault_text code → ⊥
+reverted-differs s version apart steps code h = a-is-not-f (ap (λ xs. get_or xs 2 0) h)
+
+reverted-fault : (a : Archive) (id : List ℕ) (version count : ℕ) (code : Code) → (reverted a id version count).0 ≡ fault_text code → (reverted a id version count).1 ≡ a
+reverted-fault a id version count code =
+    each-answer (λ (p : List ℕ × Archive). p.0 ≡ fault_text code → p.1 ≡ a) a id version count (λ h. refl) (λ h. refl) (λ h. refl) (λ h. refl) (λ e. λ h. refl)
+    (λ before t kept room given comes. λ h. absurd (reverted-differs a.schema.spec (version_of a) (is_apart a version count) t.steps code h))
+
+edited-differs : (s : SchemaSpec) (version : ℕ) (steps : List Step) (code : Code) → edited_text s version steps ≡ fault_text code → ⊥
+edited-differs s version steps code h = a-is-not-f (ap (λ xs. get_or xs 2 0) h)
+
+edited-fault : (a : Archive) (id : List ℕ) (r : Result (List Step) NoStep) (code : Code) → (edited a id r).0 ≡ fault_text code → (edited a id r).1 ≡ a
+edited-fault a id (Err reason) code h = refl
+edited-fault a id (Ok steps) code h = from (nat_lt MAX_VERSION (version_of a)) h
+  where
+    given : List ℕ × Archive
+    given = submitted a (version_of a) id steps
+
+    by : (same : Bool) → (if same then given.0 else edited_text a.schema.spec (version_of a) steps) ≡ fault_text code → given.1 ≡ a
+    by true h = submit-fault a (version_of a) id steps code h
+    by false h = absurd (edited-differs a.schema.spec (version_of a) steps code h)
+
+    from : (last : Bool) → (by_last a id steps last).0 ≡ fault_text code → (by_last a id steps last).1 ≡ a
+    from true h = refl
+    from false h = by (version_of given.1 == version_of a) h
+
+answer-fault : (a : Archive) (r : Result Wish Code) (code : Code) → (answer a r).0 ≡ fault_text code → (answer a r).1 ≡ a
+answer-fault a (Ok (Submit version id steps)) code h = submit-fault a version id steps code h
 answer-fault a (Ok (Since version most)) code h = refl
 answer-fault a (Ok (Doc version)) code h = refl
+answer-fault a (Ok (Forget version)) code h = forgotten-fault a version code h
+answer-fault a (Ok (Map from to anchors)) code h = refl
+answer-fault a (Ok (Revert id version count)) code h = reverted-fault a id version count code h
+answer-fault a (Ok (Edit id op)) code h = edited-fault a id (steps_of a.schema a.doc op) code h
+answer-fault a (Ok (Authors from)) code h = refl
 answer-fault a (Err own) code h = refl
 
 pub faults-change-nothing : FaultsChangeNothing

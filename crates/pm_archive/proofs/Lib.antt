@@ -1,5 +1,12 @@
-pub mod Names
+pub mod Forgotten
 pub mod Fronts
+pub mod Mapped
+pub mod Authored
+pub mod Reverted
+pub mod Edited
+pub mod Names
 pub mod Submitting
 pub mod Accepting
 pub mod Earlier
+pub mod Keeping
+pub mod Leaving

@@ -1,8 +1,8 @@
 //! What a line to a document is answered.
-ghost use Rattle.std.specs.Prelude.{◌≡◌, ◌-◌, ◌≤◌, IfOk, OnOk, OnErr, string_bytes, take, drop};
+ghost use Rattle.std.specs.Prelude.{◌≡◌, ◌-◌, ◌≤◌, Some, IfOk, OnOk, OnErr, string_bytes, take, drop};
 ghost use Rattle.serde_json.specs.View.{view};
 ghost use Rattle.pm_archive.specs.Archives.{IsArchive, version_of};
-ghost use Rattle.pm_archive.specs.Answers.{answered, since_text, entries_from, version_behind, asked_doc_text};
+ghost use Rattle.pm_archive.specs.Answers.{answered, since_text, entries_from, version_behind, doc_at, asked_doc_text};
 
 use crate::archive::Archive;
 use crate::texts::{from_text, version_text};
@@ -11,6 +11,7 @@ use pm_apply::DocChange;
 use pm_authority::{Named, apply_all};
 use pm_change::Failed;
 use pm_head::LineError;
+use pm_node::Document;
 use pm_order::{DocWord, Wish, wish_in};
 use pm_talk::fault_text;
 use serde_json::Value;
@@ -36,6 +37,13 @@ impl Archive {
             }
             Ok(Wish::Since { version, most }) => self.since(alloc, version, most),
             Ok(Wish::Doc { version }) => self.tell_doc(alloc, version),
+            Ok(Wish::Forget { version }) => self.forget(alloc, version),
+            Ok(Wish::Map { from, to, anchors }) => {
+                self.map_positions(alloc, from, to, anchors.as_slice())
+            }
+            Ok(Wish::Revert { id, from, count }) => self.revert(alloc, id.as_str(), from, count),
+            Ok(Wish::Edit { id, op }) => self.edit(alloc, id.as_str(), &op),
+            Ok(Wish::Authors { from }) => self.tell_authors(alloc, from),
             Err(LineError::Code(code)) => fault_text(alloc, code),
             Err(LineError::NoMemory) => Err(AllocError),
         }
@@ -58,7 +66,7 @@ impl Archive {
     }
 
     /// The entries from the version on, at most so many.
-    fn entries_from(&self, version: u32, most: Option<u32>) -> &[Named<DocChange>]
+    pub(crate) fn entries_from(&self, version: u32, most: Option<u32>) -> &[Named<DocChange>]
         requires { self.now.from ≤ version }
         ensures { result.now ≡ entries_from self.now version most }
     {
@@ -101,9 +109,23 @@ impl Archive {
         if u64::from(version) > self.version() {
             return version_text(alloc, self.version());
         }
+        let doc = self.old_doc(alloc, version)?;
+        doc_text(alloc, self.schema.get(), &doc, u64::from(version))
+    }
+
+    /// The document as it was at a version that is kept.
+    pub(crate) fn old_doc(&self, alloc: Global, version: u32) -> Result<Document, AllocError>
+        requires good { IsArchive self.now }
+        requires from { self.now.from ≤ version }
+        requires behind { version ≤ version_of self.now }
+        ensures { IfOk result (λ d. doc_at self.now version ≡ Some d) }
+    {
+        if u64::from(version) == self.version() {
+            return self.doc.copy();
+        }
         let steps = front(self.log.as_slice(), (version - self.from) as usize);
         match apply_all(alloc, self.schema.get(), &self.first, steps) {
-            Ok(doc) => doc_text(alloc, self.schema.get(), &doc, u64::from(version)),
+            Ok(doc) => Ok(doc),
             // The steps of a log apply.
             Err(Failed::Reason(_)) => unreachable!(),
             Err(Failed::NoMemory) => Err(AllocError),
@@ -132,5 +154,3 @@ fn front(entries: &[Named<DocChange>], most: usize) -> &[Named<DocChange>]
         entries
     }
 }
-
-ghost use Rattle.std.specs.Prelude.{Some};

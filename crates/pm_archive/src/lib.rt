@@ -5,14 +5,21 @@
 //! Proved: what a line is answered, and what the document and its log are then (`answered`). Out of memory changes nothing. Both
 //! documents stay valid, and the log leads from the first kept one to the last (`IsArchive`). A submission is accepted exactly
 //! where there is room for its ID, its version is the document's and its steps apply (`AcceptsExactly`); a line with a fault
-//! changes nothing (`FaultsChangeNothing`).
+//! changes nothing (`FaultsChangeNothing`). To let old steps go changes no answer but those to what asks for them
+//! (`ForgetsOnlyBelow`). Where entries are taken back and the later ones lie apart, what is left is what the later ones make of the
+//! document before (`RevertLeaves`).
 //!
 //! Not proved: that there is memory.
 #![tactic(auto)]
 
 mod answering;
 mod archive;
+mod authoring;
+mod editing;
+mod forgetting;
+mod mapping;
 mod presenting;
+mod reverting;
 mod shared;
 mod texts;
 mod theorems;

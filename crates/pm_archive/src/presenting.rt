@@ -20,7 +20,7 @@ use pm_talk::{ClientIds, fault_text, refused_text};
 use std::alloc::{AllocError, Global};
 
 /// The greatest number of IDs.
-const MAX_IDS: usize = 4_294_967_295;
+pub(crate) const MAX_IDS: usize = 4_294_967_295;
 
 /// What a submission is told.
 #[derive(Drop)]

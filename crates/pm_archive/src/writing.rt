@@ -4,6 +4,7 @@ ghost use Rattle.serde_json.specs.Written.{comma_if, compact_text};
 ghost use Rattle.pm_stepjson.specs.Writing.{step_written};
 ghost use Rattle.pm_talk.specs.Ids.{id_at};
 ghost use Rattle.pm_talk.specs.Live.{id_items, step_items};
+ghost use Rattle.pm_archive.specs.Texts.{truth_text, reverted_text, edited_text};
 ghost use Rattle.pm_archive.specs.Answers.{doc_text, entries_text};
 
 use pm_apply::DocChange;
@@ -13,6 +14,7 @@ use pm_node::Document;
 use pm_schema::Schema;
 use pm_stepjson::step_text;
 use pm_talk::ClientIds;
+use pm_told::push_changes;
 use std::alloc::{AllocError, Global};
 
 /// A document and its version.
@@ -32,7 +34,7 @@ pub(crate) fn doc_text(
 }
 
 /// A version, at the end of a line.
-fn push_version(text: &mut String, version: u64) -> Result<(), AllocError>
+pub(crate) fn push_version(text: &mut String, version: u64) -> Result<(), AllocError>
     ensures { OnOk result (string_bytes text.new ≡ string_bytes text.old ++ (codes ",\"version\":" ++ (decimal version ++ codes "}\n"))) }
 {
     write!(text, ",\"version\":{version}}}\n")
@@ -56,6 +58,64 @@ pub(crate) fn entries_text(
     push_version(&mut text, behind)?;
     Ok(text)
 }
+
+/// Steps that take entries back: from which version on they stand in the log, whether the later entries lie apart, and the steps.
+pub(crate) fn reverted_text(
+    alloc: Global,
+    schema: &Schema,
+    version: u64,
+    apart: bool,
+    steps: &[DocChange],
+) -> Result<String, AllocError>
+    ensures { IfOk result (λ s. string_bytes s ≡ reverted_text schema.now.spec version apart steps.now) }
+{
+    let mut text = String::new(alloc);
+    push_accepted(&mut text, steps.len() as u64, version)?;
+    text.push_str(",\"apart\":")?;
+    push_truth(&mut text, apart)?;
+    text.push_str(",\"steps\":")?;
+    push_changes(alloc, schema, &mut text, steps)?;
+    text.push_str("}\n")?;
+    Ok(text)
+}
+
+/// Steps of an edit, and from which version on they stand in the log.
+pub(crate) fn edited_text(
+    alloc: Global,
+    schema: &Schema,
+    version: u64,
+    steps: &[DocChange],
+) -> Result<String, AllocError>
+    ensures { IfOk result (λ s. string_bytes s ≡ edited_text schema.now.spec version steps.now) }
+{
+    let mut text = String::new(alloc);
+    push_accepted(&mut text, steps.len() as u64, version)?;
+    text.push_str(",\"steps\":")?;
+    push_changes(alloc, schema, &mut text, steps)?;
+    text.push_str("}\n")?;
+    Ok(text)
+}
+
+/// How many steps were accepted, and from which version on they stand in the log.
+fn push_accepted(text: &mut String, count: u64, version: u64) -> Result<(), AllocError>
+    ensures { OnOk result (string_bytes text.new ≡ string_bytes text.old ++ (codes "{\"accepted\":{\"count\":" ++ (decimal count ++ (codes ",\"from\":" ++ (decimal version ++ codes "}"))))) }
+{
+    write!(
+        text,
+        "{{\"accepted\":{{\"count\":{count},\"from\":{version}}}"
+    )
+}
+
+pub(crate) fn push_truth(text: &mut String, truth: bool) -> Result<(), AllocError>
+    ensures { OnOk result (string_bytes text.new ≡ string_bytes text.old ++ truth_text truth) }
+{
+    if truth {
+        text.push_str("true")
+    } else {
+        text.push_str("false")
+    }
+}
+
 /// Appends the IDs of the clients that made the steps to the text, and the end of their list.
 fn push_ids(
     text: &mut String,
@@ -73,7 +133,7 @@ fn push_ids(
 }
 
 /// An item of a list, the first one or a later one.
-fn push_item(text: &mut String, later: bool, item: &str) -> Result<(), AllocError>
+pub(crate) fn push_item(text: &mut String, later: bool, item: &str) -> Result<(), AllocError>
     ensures { OnOk result (string_bytes text.new ≡ string_bytes text.old ++ (comma_if later ++ item.now)) }
 {
     if later {
@@ -93,7 +153,7 @@ fn push_steps(
 {
     let mut later = false;
     for entry in entries {
-        push_step(alloc, schema, text, later, entry)?;
+        push_step(alloc, schema, text, later, &entry.change)?;
         later = true;
     }
     text.push_str("]")
@@ -105,10 +165,10 @@ fn push_step(
     schema: &Schema,
     text: &mut String,
     later: bool,
-    entry: &Named<DocChange>,
+    step: &DocChange,
 ) -> Result<(), AllocError>
-    ensures { OnOk result (string_bytes text.new ≡ string_bytes text.old ++ (comma_if later ++ compact_text (step_written schema.now.spec entry.now.change))) }
+    ensures { OnOk result (string_bytes text.new ≡ string_bytes text.old ++ (comma_if later ++ compact_text (step_written schema.now.spec step.now))) }
 {
-    let step = step_text(alloc, schema, entry.change.step())?;
+    let step = step_text(alloc, schema, step.step())?;
     push_item(text, later, step.as_str())
 }

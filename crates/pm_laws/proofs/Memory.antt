@@ -55,26 +55,26 @@ use Rattle.pm_laws.specs.Memory.{IsOfValue, IsOfPart, IsOfStep, Reads, NeverMemo
 -- ---- readings one after another
 
 module _ {E : Type 0} (Is : E → Type 0) where
-  then-reads : {A B : Type 0} (r : Result A E) (f : A → Result B E) → Reads Is r → ((x : A) → Reads Is (f x)) → Reads Is (r >>= f)
+  pub then-reads : {A B : Type 0} (r : Result A E) (f : A → Result B E) → Reads Is r → ((x : A) → Reads Is (f x)) → Reads Is (r >>= f)
   then-reads (Ok x) f h k = k x
   then-reads (Err e) f h k = h
 
-  there-reads : {A : Type 0} (e : E) (o : Option A) → Is e → Reads Is (or_fault e o)
+  pub there-reads : {A : Type 0} (e : E) (o : Option A) → Is e → Reads Is (or_fault e o)
   there-reads e None h = h
   there-reads e (Some x) h = tt
 
-  if-reads : {A : Type 0} (b : Bool) (x y : Result A E) → Reads Is x → Reads Is y → Reads Is (cond b x y)
+  pub if-reads : {A : Type 0} (b : Bool) (x y : Result A E) → Reads Is x → Reads Is y → Reads Is (cond b x y)
   if-reads true x y h k = h
   if-reads false x y h k = k
 
-  one-read : {A Z : Type 0} (r : Result A E) (g : A → Z) → Reads Is r → Reads Is (r >>= λ a. Ok (g a))
+  pub one-read : {A Z : Type 0} (r : Result A E) (g : A → Z) → Reads Is r → Reads Is (r >>= λ a. Ok (g a))
   one-read r g h = then-reads r (λ a. Ok (g a)) h (λ a. tt)
 
-  two-read : {A B Z : Type 0} (r : Result A E) (q : A → Result B E) (g : A → B → Z) → Reads Is r → ((a : A) → Reads Is (q a))
+  pub two-read : {A B Z : Type 0} (r : Result A E) (q : A → Result B E) (g : A → B → Z) → Reads Is r → ((a : A) → Reads Is (q a))
       → Reads Is (r >>= λ a. (q a >>= λ b. Ok (g a b)))
   two-read r q g h k = then-reads r (λ a. (q a >>= λ b. Ok (g a b))) h (λ a. one-read (q a) (g a) (k a))
 
-  three-read : {A B C Z : Type 0} (r : Result A E) (q : A → Result B E) (p : A → B → Result C E) (g : A → B → C → Z)
+  pub three-read : {A B C Z : Type 0} (r : Result A E) (q : A → Result B E) (p : A → B → Result C E) (g : A → B → C → Z)
       → Reads Is r → ((a : A) → Reads Is (q a)) → ((a : A) (b : B) → Reads Is (p a b))
       → Reads Is (r >>= λ a. (q a >>= λ b. (p a b >>= λ c. Ok (g a b c))))
   three-read r q p g h k l = then-reads r (λ a. (q a >>= λ b. (p a b >>= λ c. Ok (g a b c)))) h (λ a. two-read (q a) (p a) (g a) (k a) (l a))
@@ -89,7 +89,7 @@ int-reads (Some (negsuc n)) = tt
 mutual
   unfolding value_at
 
-  value-reads : (d : Data) (levels : ℕ) → Reads IsOfValue (value_at d levels)
+  pub value-reads : (d : Data) (levels : ℕ) → Reads IsOfValue (value_at d levels)
   value-reads json_null levels = tt
   value-reads (boolean b) levels = tt
   value-reads (number x) levels = int-reads (as_integer x)
@@ -214,7 +214,7 @@ module _ (s : SchemaSpec) (l : LeafContent) where
   mutual
     unfolding node_of
 
-    node-reads : (d : Data) → Reads IsOfPart (node_of s l d)
+    pub node-reads : (d : Data) → Reads IsOfPart (node_of s l d)
     node-reads json_null = tt
     node-reads (boolean b) = tt
     node-reads (number x) = tt

@@ -1,4 +1,5 @@
 pub mod Memory
+pub mod Something
 pub mod Splices
 pub mod NoneUnknown
 pub mod Contents

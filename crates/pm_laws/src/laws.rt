@@ -9,6 +9,7 @@ ghost use Rattle.pm_laws.specs.Contents.{ValidIsOfLanguage, SessionsAreOfLanguag
 ghost use Rattle.pm_laws.specs.Listed.{AllRoomsListed};
 ghost use Rattle.pm_laws.specs.Memory.{NeverMemory};
 ghost use Rattle.pm_laws.specs.NoneUnknown.{NoneUnknown};
+ghost use Rattle.pm_laws.specs.Something.{MeansSomething};
 ghost use Rattle.pm_laws.specs.Orders.{OrderFixesRun, OrdersFixRooms};
 ghost use Rattle.pm_laws.specs.Splices.{MapsTellTokens};
 ghost use Rattle.pm_laws.specs.Unmet.{NoneIsToldUnknown};
@@ -73,6 +74,12 @@ pub fn rooms_are_listed(input: &[u8])
 {
     let _ = input;
 }
+
+/// Each input is a session or is refused, in each form of files, and so is each as a file of many rooms. So is each line 1 a schema
+/// or refused, and each line 2 the first document of a schema or refused.
+pub fn input_means_something()
+    ensures { MeansSomething }
+{}
 
 /// What `select` writes for an input is one text, with one status.
 pub fn selection_is_one(input: &[u8])

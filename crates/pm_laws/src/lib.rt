@@ -2,9 +2,8 @@
 //!
 //! Proved: no reading of JSON is want of memory; a step's map says what happens to the tokens; no line of a session is
 //! told that its schema does not know a step; content is of the grammar's language; line 1 of a file of many rooms
-//! lists the rooms; `select` writes one text, and `run` and `runrooms` one for each order.
-//!
-//! Not proved: that every input has a meaning.
+//! lists the rooms; each input is a session or is refused; `select` writes one text, and `run` and `runrooms` one for each
+//! order.
 #![tactic(auto)]
 
 pub mod laws;

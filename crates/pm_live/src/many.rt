@@ -1,6 +1,6 @@
 //! The call for a house of many documents: a source in, a status and a sink out.
 ghost use Rattle.std.specs.Prelude.{◌≡◌, ◌⊎◌, []};
-ghost use Rattle.pm_archive.specs.Laws.{AcceptsExactly};
+ghost use Rattle.pm_archive.specs.Laws.{AcceptsExactly, ForgetsOnlyBelow};
 ghost use Rattle.pm_house.specs.Turns.{AllTold, AllGood, AllAlone, FaultsChangeNothing};
 ghost use Rattle.pm_live.specs.Calls.{FaultsAt};
 ghost use Rattle.pm_live.specs.Houses.{Housed};
@@ -27,6 +27,8 @@ pub fn run<R: Piecewise, W: Sink>(alloc: Global, source: &mut R, sink: &mut W) -
     ensures accepts { AcceptsExactly }
     // A line that is answered a fault changes nothing.
     ensures faulty { FaultsChangeNothing }
+    // To let go what lies before a version changes no later answer of a document but those to lines that ask below it.
+    ensures forgets { ForgetsOnlyBelow }
     // Faults exactly where they rose.
     ensures faults { FaultsAt result (R.faults source.old) (R.faults source.new) (W.faults sink.old) (W.faults sink.new) }
 {

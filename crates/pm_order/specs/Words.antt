@@ -17,7 +17,12 @@ doc_word_named text =
     if says text (codes "submit") then Some doc.Submit
     else (if says text (codes "since") then Some doc.Since
     else (if says text (codes "doc") then Some doc.Doc
-    else None))
+    else (if says text (codes "forget") then Some doc.Forget
+    else (if says text (codes "map") then Some doc.Map
+    else (if says text (codes "revert") then Some doc.Revert
+    else (if says text (codes "edit") then Some doc.Edit
+    else (if says text (codes "authors") then Some doc.Authors
+    else None)))))))
 
 abbrev pub within : Option DocWord → Option Word
 within (Some word) = Some (In word)

@@ -14,6 +14,7 @@ mod fields;
 mod names;
 mod naming;
 mod opening;
+mod positions;
 mod values;
 mod wish;
 mod word;

@@ -14,6 +14,11 @@ pub enum DocWord {
     Submit,
     Since,
     Doc,
+    Forget,
+    Map,
+    Revert,
+    Edit,
+    Authors,
 }
 
 /// The words of lines.
@@ -80,6 +85,16 @@ fn doc_word_named(text: &str) -> Option<DocWord>
         Some(DocWord::Since)
     } else if text == "doc" {
         Some(DocWord::Doc)
+    } else if text == "forget" {
+        Some(DocWord::Forget)
+    } else if text == "map" {
+        Some(DocWord::Map)
+    } else if text == "revert" {
+        Some(DocWord::Revert)
+    } else if text == "edit" {
+        Some(DocWord::Edit)
+    } else if text == "authors" {
+        Some(DocWord::Authors)
     } else {
         None
     }

@@ -1,0 +1,5 @@
+mod Grouping
+mod Pieces
+mod Ranges
+mod Places
+mod Logs

@@ -1,0 +1,4 @@
+pub mod Runs
+pub mod Stepping
+pub mod Laws
+pub mod Authors

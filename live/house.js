@@ -1,0 +1,69 @@
+// The house of many documents, as a process: `./pm live many`. docs/use/HOUSE.md describes the lines.
+//
+//   const house = new House()
+//   await house.name("basic", schema)
+//   const {version} = await house.open("plan", "basic", doc)
+//   const ann = await join(house.document("plan"), {schema, clientID: "ann"})      // of client.js
+//   await house.close()
+
+"use strict"
+
+const {Authority, command} = require("./authority")
+
+// The code of a line whose `op` there is not.
+const UNKNOWN = 7
+
+/// A document of the house, with an authority's call.
+class HouseDocument {
+  constructor(house, name) {
+    this.house = house
+    this.name = name
+  }
+
+  /// The answer to a message, which need not say in which document it is.
+  ask(message) { return this.house.ask({...message, in: this.name}) }
+}
+
+class House {
+  /// `words` are the program and its words; those of `authority.js` unless told.
+  constructor(words = command()) {
+    this.process = new Authority([...words, "many"])
+    this.ended = this.process.ended
+  }
+
+  /// The answer to a line, which is a text without its LF.
+  askLine(line) { return this.process.askLine(line) }
+
+  /// The answer to a message, both as JSON values.
+  ask(message) { return this.process.ask(message) }
+
+  // The answer to a message that is not to be refused.
+  async have(message) {
+    const answer = await this.ask(message)
+    if (answer.none !== undefined || answer.fault !== undefined) throw new Error(`the house answers ${JSON.stringify(answer)}`)
+    return answer
+  }
+
+  /// Gives a schema a name.
+  async name(name, schema) {
+    const {schemaLine} = await import("../bindings/js/src/lines.js")
+    return this.have({op: "schema", name, schema: JSON.parse(schemaLine(schema))})
+  }
+
+  /// Opens a document of the schema of this name, whose log begins at the version. Without `doc` it is the top type filled. Gives its
+  /// size and the version.
+  async open(name, schema, doc = null, version = 0) {
+    const {documentLine} = await import("../bindings/js/src/lines.js")
+    return this.have({op: "open", in: name, schema, doc: doc && JSON.parse(documentLine(doc)), version})
+  }
+
+  document(name) { return new HouseDocument(this, name) }
+
+  /// Whether the program has this `op` of a document.
+  async knows(op) { return (await this.ask({op, in: "-"})).fault !== UNKNOWN }
+
+  /// Tells the process that no line comes any more. Gives the status with which it ends.
+  close() { return this.process.close() }
+}
+
+module.exports = {House}
