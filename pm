@@ -22,6 +22,7 @@ HELP = """usage: ./pm WORDS < SESSION      builds the program if it is missing o
        ./pm live new FILE        does so, and keeps what it accepts in FILE, which is missing or empty
        ./pm live open FILE       does so behind the lines of FILE
        ./pm live many            does so for many documents, in memory alone
+       ./pm live many new FILE   does so, and keeps what it accepts in FILE; open FILE goes on behind its lines
        ./pm build [live]         builds the one or the other, and tells how far the build is
        ./pm try WORDS < SESSION  runs the words at once, with nothing proved; so does ./pm try live
        ./pm try build [live]     builds the one or the other with nothing proved, and prints its path

@@ -63,6 +63,12 @@ class Authority {
   /// The answer to a message, both as JSON values.
   async ask(message) { return JSON.parse(await this.askLine(JSON.stringify(message))) }
 
+  /// The bytes of memory that the process takes, as Linux tells them.
+  get bytes() {
+    const status = fs.readFileSync(`/proc/${this.process.pid}/status`, "utf8")
+    return Number(/^VmRSS:\s+(\d+) kB$/m.exec(status)[1]) * 1024
+  }
+
   /// Tells the process that no line comes any more. Gives the status with which it ends.
   close() {
     this.process.stdin.end()
@@ -114,22 +120,4 @@ async function startAuthority(schema, doc = null, words = command()) {
   return authority
 }
 
-// The first line of a file of the authority, without the space before it; none where the file is missing or empty.
-function firstLine(file) {
-  if (!fs.existsSync(file)) return null
-  const text = fs.readFileSync(file, "utf8")
-  return text ? text.slice(1, text.indexOf("\n")) : null
-}
-
-/// Starts a process whose accepted lines are kept in this file: behind the lines of the file, or where it is missing or empty on this
-/// schema and first document. Gives the authority and its version. An error where the file has another schema.
-async function startKept(schema, doc, file, words = command()) {
-  const first = firstLine(file)
-  if (first === null) return {authority: await startAuthority(schema, doc, [words, "new", file].flat()), version: 0}
-  const {schemaLine} = await import("../bindings/js/src/lines.js")
-  if (first != schemaLine(schema)) throw new Error(`${file} has another schema`)
-  const authority = new Authority([words, "open", file].flat())
-  return {authority, version: JSON.parse(await authority.nextLine()).version}
-}
-
-module.exports = {Authority, startAuthority, startKept, command}
+module.exports = {Authority, startAuthority, command}

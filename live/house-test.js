@@ -36,7 +36,7 @@ class HouseDesk extends Desk {
     super.told(what)
   }
 
-  check() { return this.isGone || super.check() }
+  check() { if (!this.isGone) super.check() }
 
   async begin(clientID) {
     this.client = await join(this.log, {schema, clientID})
@@ -165,6 +165,8 @@ async function main() {
   }
   await Promise.all(rooms.map(room => room.settle()))
   await judgeAll(house, rooms)
+  const {documents, bytes} = await house.statistics()
+  judge(documents == rooms.filter(it => it.beside.isOpen).length && bytes > 1e6, `${documents} documents take ${bytes} bytes`)
   const steps = made(), answers = rooms.reduce((sum, {beside}) => sum + beside.answers, 0)
   await Promise.all(rooms.map(({beside}) => beside.close()))
   judge(await house.close() === 0, "the house did not end with status 0")

@@ -25,9 +25,10 @@ class HouseDocument {
 }
 
 class House {
-  /// `words` are the program and its words; those of `authority.js` unless told.
-  constructor(words = command()) {
-    this.process = new Authority([...words, "many"])
+  /// `words` are the program and its words; those of `authority.js` unless told. `file` are the words of a file: `new` or `open`, and
+  /// the file.
+  constructor(words = command(), file = []) {
+    this.process = new Authority([...words, "many", ...file])
     this.ended = this.process.ended
   }
 
@@ -61,6 +62,9 @@ class House {
 
   /// Whether the program has this `op` of a document.
   async knows(op) { return (await this.ask({op, in: "-"})).fault !== UNKNOWN }
+
+  /// How many documents, entries, schemas and tokens there are, and the bytes of memory that the process takes.
+  async statistics() { return {...await this.have({op: "statistics"}), bytes: this.process.bytes} }
 
   /// Tells the process that no line comes any more. Gives the status with which it ends.
   close() { return this.process.close() }

@@ -1,7 +1,7 @@
 #!/bin/sh
-# Starts the live authority and a page with two ProseMirror editors over it, and says the page's address. Debian's packages are
-# installed where they are missing, and the authority is proved and built where it is not built. Ctrl-C ends both. The document is
-# kept in out/live/page, and found again at the next start; not where PM_LIVE names an engine (wasm, addon).
+# Starts a house of documents and a page with two ProseMirror editors over it, and says the page's address. Debian's packages are
+# installed where they are missing, and the house is proved and built where it is not built. Ctrl-C ends both. The documents are kept
+# in out/live/documents, and found again at the next start; not where PM_LIVE names an engine (wasm, addon), which has one document.
 # usage: live/run.sh [PORT]      8080 unless told, 0 for a free one
 
 set -eu
@@ -23,4 +23,4 @@ case ${PM_LIVE-} in
   wasm | addon) exec node "$top/live/page/server.js" "${1-8080}" ;;
 esac
 mkdir -p "$top/out/live"
-exec node "$top/live/page/server.js" "${1-8080}" "$top/out/live/page"
+exec node "$top/live/page/server.js" "${1-8080}" "$top/out/live/documents"

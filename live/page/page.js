@@ -1,95 +1,108 @@
-// What the browser runs: two panes, each with an editor (editor.js) under a view of ProseMirror's. A pane sends its steps to the
-// server, which hands them to the authority, and takes the log's entries from the server's stream of events.
+// What the browser runs: two editors of the document that the address names, and beside them the documents, the authors, the comments and
+// the log.
 
 "use strict"
 
-const {Node} = require("prosemirror-model")
-const {EditorView} = require("prosemirror-view")
-const {Editor} = require("../editor")
-const {undo, redo, undoDepth, redoDepth} = require("../undo")
-const {commandsOf} = require("./commands")
+const {colorsOf} = require("./authors")
+const {History} = require("./history")
+const {Pane} = require("./pane")
+const {Record} = require("./record")
 const {schema} = require("./schema")
+const {Talk} = require("./talk")
 
-const PAUSE = 1000
-const {commands, keymap} = commandsOf({undo, redo})
+const documentName = new URLSearchParams(location.search).get("document") || "welcome"
+const find = id => document.getElementById(id)
+const tell = text => { find("told").textContent = text }
 
-/// The authority's answer to a message.
-async function ask(line) {
-  const response = await fetch("ask", {
-    method: "POST", headers: {"Content-Type": "application/json"}, body: JSON.stringify(line),
-  })
+/// What the server gives at a path, or answers to a value that is sent there.
+async function call(path, value) {
+  const body = value && {method: "POST", headers: {"Content-Type": "application/json"}, body: JSON.stringify(value)}
+  const response = await fetch(path, body)
   if (!response.ok) throw new Error(await response.text())
   return response.json()
 }
 
-const randomId = () => `pane-${crypto.getRandomValues(new Uint32Array(1))[0]}`
+const place = version => `document=${encodeURIComponent(documentName)}&version=${version}`
 
-class Pane {
-  constructor(place, {doc, version}) {
-    this.place = place
-    this.isSending = false
-    this.editor = new Editor({
-      doc: Node.fromJSON(schema, doc), version, clientID: randomId(), plugins: [keymap()],
-      onChange: state => this.show(state),
-      onDrop: (step, why) => this.tell(`A change was not accepted: ${JSON.stringify(why)}`),
-    })
-    this.view = new EditorView(place.querySelector(".document"), {
-      state: this.editor.state,
-      dispatchTransaction: tr => this.editor.dispatch(tr),
-    })
-    for (const button of place.querySelectorAll("button")) this.bind(button)
-    this.listen(version)
-    this.show(this.editor.state)
-  }
-
-  // The button must not take the focus from the view.
-  bind(button) {
-    button.addEventListener("mousedown", event => {
-      event.preventDefault()
-      commands[button.dataset.command](this.view.state, this.view.dispatch)
-      this.view.focus()
-    })
-  }
-
-  // The browser opens the stream again where it breaks, and then tells the last version that it got.
-  listen(version) {
-    new EventSource(`log?version=${version}`).onmessage = ({data}) => this.editor.take(null, JSON.parse(data))
-  }
-
-  show(state) {
-    if (!this.view) return
-    this.view.updateState(state)
-    const {version, unconfirmed} = this.editor
-    this.place.querySelector(".state").textContent =
-      `version ${version}, ${unconfirmed.length} unconfirmed, ${undoDepth(state)} to undo, ${redoDepth(state)} to redo`
-    this.send()
-  }
-
-  tell(text) { this.place.querySelector(".told").textContent = text }
-
-  // One message is on its way at a time. Where the server can't be reached, the steps wait.
-  async send() {
-    if (this.isSending) return
-    this.isSending = true
-    while (this.editor.unconfirmed.length > 0) {
-      const message = this.editor.compose()
-      try {
-        const what = this.editor.take(message, await ask(message.line))
-        if (what == "memory") await new Promise(resolve => setTimeout(resolve, PAUSE))
-        else if (what != "dropped") this.tell("")
-      } catch (error) {
-        this.tell(`${error.message}; the changes are sent again`)
-        await new Promise(resolve => setTimeout(resolve, PAUSE))
-      }
-    }
-    this.isSending = false
-  }
+const server = {
+  ask: line => call("ask", {...line, in: documentName}),
+  comments: version => call(`comments?${place(version)}`),
+  comment: value => call("comments", {...value, document: documentName}),
 }
+
+// ---- documents
+
+function showDocuments(documents) {
+  find("documents").replaceChildren(...documents.map(({name, version}) => {
+    const item = document.createElement("li"), link = item.appendChild(document.createElement("a"))
+    link.href = `?document=${encodeURIComponent(name)}`
+    link.textContent = name
+    if (name == documentName) link.setAttribute("aria-current", "page")
+    item.append(` (${version})`)
+    return item
+  }))
+}
+
+async function addDocument(event) {
+  event.preventDefault()
+  const name = find("new-name").value.trim(), answer = await call("documents", {name})
+  if (answer.version === undefined) tell(`There is no document of that name to be made: ${JSON.stringify(answer)}`)
+  else location.search = `?document=${encodeURIComponent(name)}`
+}
+
+// ---- authors
+
+function showAuthors(record) {
+  const isOn = find("authors").checked
+  find("names").replaceChildren(...[...(isOn ? colorsOf(record) : [])].map(([name, color]) => {
+    const item = document.createElement("li")
+    item.textContent = name
+    item.style.background = color
+    return item
+  }))
+}
+
+// ---- the page
+
+const reviewer = `review.${crypto.getRandomValues(new Uint32Array(1))[0]}`
 
 async function main() {
-  const places = document.querySelectorAll(".pane")
-  const opened = await ask({op: "doc"})
-  window.panes = [...places].map(place => new Pane(place, opened))
+  const {documents, words} = await call("documents")
+  showDocuments(documents)
+  find("new-document").hidden = !words.open
+  find("new-document").addEventListener("submit", event => addDocument(event).catch(error => tell(error.message)))
+
+  const record = new Record(schema), opened = await server.ask({op: "doc"})
+  const takeBack = words.revert ? run => server.ask({op: "revert", clientID: reviewer, ...run}) : null
+  const history = new History(record, takeBack, tell)
+  let talk = null
+  const given = {record, server, onShow: () => talk?.later(), showsAuthors: () => find("authors").checked}
+  const panes = [...document.querySelectorAll(".pane")].map(it => new Pane(it, opened, given))
+  find("talk").hidden = !words.map
+  for (const pane of panes) {
+    const button = pane.place.querySelector("[data-comment]")
+    button.hidden = !words.map
+    button.addEventListener("mousedown", event => event.preventDefault())
+    button.addEventListener("click", () => talk.begin(pane))
+  }
+  if (words.map) talk = new Talk(panes, server)
+
+  find("authors").addEventListener("change", () => {
+    showAuthors(record)
+    for (const pane of panes) pane.view.updateState(pane.view.state)
+  })
+  // The browser opens the stream again where it breaks, and then tells the last version that it got.
+  const log = new EventSource(`log?${place(0)}`)
+  log.onmessage = ({data}) => {
+    const entries = JSON.parse(data)
+    record.add(entries)
+    history.show()
+    showAuthors(record)
+    for (const pane of panes) pane.receive(entries)
+  }
+  log.addEventListener("comment", () => talk?.grow())
+  talk?.later()
+  Object.assign(window, {panes, record})
 }
 
-main()
+main().catch(error => tell(error.message))

@@ -5,9 +5,10 @@
 class User {
   constructor(tab) { this.tab = tab }
 
-  // Puts the cursor after a text in a pane. What the cursor is in has the focus, as after a click.
-  place(pane, text) {
-    return this.tab.value(`(() => {
+  // Puts the cursor after a text in a pane. What the cursor is in has the focus, as after a click. A view that gets the focus puts its
+  // selection back 20 milliseconds later, and would lose a key that has moved it by then.
+  async place(pane, text) {
+    await this.tab.value(`(() => {
       const {view} = panes[${pane}]
       let at = null
       view.state.doc.descendants((node, pos) => {
@@ -18,6 +19,7 @@ class User {
       const cursor = view.state.selection.constructor.near(view.state.doc.resolve(at), -1)
       view.dispatch(view.state.tr.setSelection(cursor))
     })()`)
+    await pause(50)
   }
 
   focus(pane) { return this.tab.value(`panes[${pane}].view.focus()`) }
@@ -26,6 +28,17 @@ class User {
 
   /// Puts a text in at once, as an input method does, so that it is one change also where the machine is slow.
   insert(text) { return this.tab.call("Input.insertText", {text}) }
+
+  /// Clicks on the element that an expression of the page gives.
+  async click(expression) {
+    const {x, y} = await this.tab.value(`(it => {
+      it.scrollIntoView({block: "nearest"})
+      const {left, top, width, height} = it.getBoundingClientRect()
+      return {x: left + width / 2, y: top + height / 2}
+    })(${expression})`)
+    for (const type of ["mousePressed", "mouseReleased"])
+      await this.tab.call("Input.dispatchMouseEvent", {type, x, y, button: "left", clickCount: 1})
+  }
 
   /// One letter in each pane in turn, so that each is still sending as the other changes.
   async typeBoth(left, right) {

@@ -1,6 +1,6 @@
 -- What changes of the documents changes which document is found by a name.
-use Rattle.std.proofs.Common.{◌≡◌, ◌∙◌, ◌++◌, ℕ, Bool, true, false, cond, List, [], ◌∷◌, refl, ap, sym}
-use Rattle.std.specs.Prelude.{Option, Some, None, if◌then◌else◌}
+use Rattle.std.proofs.Common.{◌≡◌, ◌∙◌, ◌++◌, ℕ, zero, suc, Bool, true, false, cond, List, [], ◌∷◌, get_or, refl, ap, sym}
+use Rattle.std.specs.Prelude.{Option, Some, None, slice_get, if◌then◌else◌}
 use Rattle.std.specs.Str.{bytes_eq}
 use Rattle.std.proofs.lemmas.Slice.Eq.{bytes_eq-Decides}
 use Rattle.serde_json.specs.Data.{Data}
@@ -47,6 +47,12 @@ some-inner x y e = cc
 
 pub none-some : {A : Type 0} (x : A) → None ≡ Some x → ⊥
 none-some x e = absurd (cc)
+
+-- what is at the place
+pub got-is : {A : Type 0} (xs : List A) (i : ℕ) (a d : A) → slice_get xs i ≡ Some a → get_or xs i d ≡ a
+got-is [] i a d h = absurd (none-some a h)
+got-is (x ∷ xs) zero a d h = some-inner x a h
+got-is (x ∷ xs) (suc i) a d h = got-is xs i a d h
 
 -- ---- a document behind the last one
 

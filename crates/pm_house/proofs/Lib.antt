@@ -5,3 +5,5 @@ pub mod Running
 pub mod Faulting
 pub mod Placing
 pub mod Heard
+pub mod Staying
+pub mod Marking

@@ -86,7 +86,7 @@ at-place name docs i e = from (nat_lt (place name docs) (length (names_of docs))
 true-is-false : true ≡ false → ⊥
 true-is-false e = absurd (cc)
 
-among-none : (name : List ℕ) (docs : List Archive) (w : DocWord) (d : Data) → list_any (bytes_eq name) (names_of docs) ≡ false → among name w d docs ≡ None
+pub among-none : (name : List ℕ) (docs : List Archive) (w : DocWord) (d : Data) → list_any (bytes_eq name) (names_of docs) ≡ false → among name w d docs ≡ None
 among-none name [] w d h = refl
 among-none name (a ∷ rest) w d h = from (bytes_eq name a.name) refl h (among-none name rest w d)
   where

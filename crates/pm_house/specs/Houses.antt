@@ -9,6 +9,10 @@ use Rattle.pm_house.specs.declared.house.House.{House}
 abbrev pub IsGood : House → Type 0
 IsGood h = All IsArchive h.documents
 
+-- no schemas and no documents
+abbrev pub empty : House
+empty = record { schemas = []; documents = [] }
+
 -- the house with these documents
 abbrev pub with_documents : House → List Archive → House
 with_documents h archives = record { schemas = h.schemas; documents = archives }

@@ -1,8 +1,9 @@
 //! The house.
-ghost use Rattle.std.specs.Prelude.{◌≡◌, ◌≤◌, [], length, All, IfOk, OnOk, OnErr, string_bytes};
+ghost use Rattle.std.specs.Prelude.{◌≡◌, ◌≤◌, length, All, IfOk, OnOk, OnErr, string_bytes};
 ghost use Rattle.serde_json.specs.View.{view};
-ghost use Rattle.pm_house.specs.Houses.{IsGood};
+ghost use Rattle.pm_house.specs.Houses.{IsGood, empty};
 ghost use Rattle.pm_house.specs.Replies.{Replies, OfValue, ByWord, Are, within, closes};
+ghost use Rattle.pm_house.specs.Texts.{statistics_text};
 ghost use Rattle.pm_opjson.specs.Fields.{text_in};
 ghost use Rattle.std.specs.Prelude.{codes};
 
@@ -34,7 +35,7 @@ pub struct House {
 impl House {
     /// No schemas and no documents. It takes no memory.
     pub fn new(alloc: Global) -> House
-        ensures empty { result ≡ record { schemas = []; documents = [] } }
+        ensures empty { result ≡ empty }
         ensures good { IsGood result }
     {
         House {
@@ -57,7 +58,7 @@ impl House {
     }
 
     /// The answer to a value.
-    fn answer(&mut self, alloc: Global, json: &Value) -> Result<String, AllocError>
+    pub(crate) fn answer(&mut self, alloc: Global, json: &Value) -> Result<String, AllocError>
         requires { IsGood self.old }
         ensures told { IfOk result (λ s. OfValue self.old (view json.now) (string_bytes s) self.new) }
         ensures err { OnErr result (self.new ≡ self.old) }
@@ -81,11 +82,16 @@ impl House {
             Word::Open => self.open(alloc, json),
             Word::Close => self.close(alloc, json),
             Word::Documents => documents_text(alloc, self.documents.as_slice()),
-            Word::Statistics => {
-                statistics_text(alloc, self.schemas.len(), self.documents.as_slice())
-            }
+            Word::Statistics => self.statistics(alloc),
             Word::In(word) => self.within(alloc, word, json),
         }
+    }
+
+    /// How many documents, entries of logs, schemas and tokens there are, as a line.
+    pub fn statistics(&self, alloc: Global) -> Result<String, AllocError>
+        ensures { IfOk result (λ s. string_bytes s ≡ statistics_text (length self.now.schemas) self.now.documents) }
+    {
+        statistics_text(alloc, self.schemas.len(), self.documents.as_slice())
     }
 
     /// The answer of the document that the line names.

@@ -19,8 +19,8 @@ use Rattle.pm_serve.proofs.Joins.{lines-append, split-append}
 use Rattle.pm_serve.proofs.Steps.{none-taken, none-added, front-behind}
 use Rattle.sqlite_disk.specs.Disk.{MoreFaults}
 use Rattle.pm_journal.specs.Lines.{IsLine, records}
-use Rattle.pm_talk.specs.Talk.{last_text}
 use Rattle.pm_kept.specs.declared.kept.Kept.{Kept}
+use Rattle.pm_kept.specs.Means.{Meaning}
 use Rattle.pm_kept.specs.Behind.{Keeps}
 use Rattle.pm_kept.specs.Kept.{accepted, Leaves, Went, Lost}
 use Rattle.pm_kept.specs.Runs.{Hears, HearsSome, CameWhole, last_line, CameSome, ToSay, IsKept, IsLost, Quiet, OverBy, SoFar, GroupServed, KeptRun, GroupLost, AnswersAll, SaysFault}
@@ -86,13 +86,13 @@ came_last left rest before there after line lines came some split =
     let none = none_waiting lines after (sym came.none_left ∙ split) in
     (at_end left rest before there after line came none.1, ap (λ (ls : List (List ℕ)). line ∷ map kept ls) none.0 ∙ sym (last_is line some))
 
-module _ {D : Type 0} (seen : D → List ℕ) (may_leave : D → List ℕ → Type 0) (is_clean : D → Bool) (faults : D → ℕ) where
+module _ {S D : Type 0} (m : Meaning S) (seen : D → List ℕ) (may_leave : D → List ℕ → Type 0) (is_clean : D → Bool) (faults : D → ℕ) where
   -- ---- what is in the file
 
-  pub stayed : (k : Kept D) → Leaves may_leave is_clean k.journal.disk k.talk (accepted seen k) → Went seen may_leave is_clean faults k k []
+  pub stayed : (k : Kept S D) → Leaves m may_leave is_clean k.journal.disk k.service (accepted seen k) → Went m seen may_leave is_clean faults k k []
   stayed k leaves = record { up = refl; no_fault = refl; clean = λ c. c; lines = λ c. sym (append-nil (accepted seen k)); leaves = leaves }
 
-  went_on : (k t u : Kept D) (a b : List (List ℕ)) → Went seen may_leave is_clean faults k t a → Went seen may_leave is_clean faults t u b → Went seen may_leave is_clean faults k u (a ++ b)
+  went_on : (k t u : Kept S D) (a b : List (List ℕ)) → Went m seen may_leave is_clean faults k t a → Went m seen may_leave is_clean faults t u b → Went m seen may_leave is_clean faults k u (a ++ b)
   went_on k t u a b first next =
       record {
         up = next.up ∙ first.up;
@@ -102,42 +102,42 @@ module _ {D : Type 0} (seen : D → List ℕ) (may_leave : D → List ℕ → Ty
         leaves = next.leaves;
       }
 
-  went_kept : (k t : Kept D) (some : List (List ℕ)) → Went seen may_leave is_clean faults k t some → IsKept may_leave is_clean faults (accepted seen k ++ some) k t
+  went_kept : (k t : Kept S D) (some : List (List ℕ)) → Went m seen may_leave is_clean faults k t some → IsKept m may_leave is_clean faults (accepted seen k ++ some) k t
   went_kept k t some went =
       record {
-        leaves = λ clean c left. subst (Keeps c t.talk) (went.lines clean) (went.leaves clean c left);
+        leaves = λ clean c left. subst (Keeps m c t.service) (went.lines clean) (went.leaves clean c left);
         clean = went.clean;
         up = went.up;
         no_fault = went.no_fault;
       }
 
-  lost_kept : (k t : Kept D) (some : List (List ℕ)) → Lost seen may_leave is_clean faults k t some → IsLost may_leave is_clean faults k.talk (accepted seen k) some k t
+  lost_kept : (k t : Kept S D) (some : List (List ℕ)) → Lost m seen may_leave is_clean faults k t some → IsLost m may_leave is_clean faults k.service (accepted seen k) some k t
   lost_kept k t some lost = record { leaves = lost.leaves; clean = lost.clean; down = lost.down; cause = lost.cause }
 
   -- ---- what one group does
 
-  abbrev IsOver : Served → Kept D → Kept D → Option (List ℕ) → Option (List ℕ) → List ℕ → List ℕ → Option (List ℕ) → Option (List ℕ) → Type 0
-  IsOver served k t left rest before after old new = OverBy may_leave is_clean faults 0 served k.talk (accepted seen k) k t left rest before after old new
+  abbrev IsOver : Served → Kept S D → Kept S D → Option (List ℕ) → Option (List ℕ) → List ℕ → List ℕ → Option (List ℕ) → Option (List ℕ) → Type 0
+  IsOver served k t left rest before after old new = OverBy m may_leave is_clean faults 0 served k.service (accepted seen k) k t left rest before after old new
 
-  shut : (k t : Kept D) (left rest : Option (List ℕ)) (before after out : List ℕ) (heard some : List (List ℕ)) (old new : Option (List ℕ)) → CameSome left rest before after heard
-      → HearsSome k.talk heard out some false t.talk → Went seen may_leave is_clean faults k t some → Adds old new out → IsOver Closed k t left rest before after old new
+  shut : (k t : Kept S D) (left rest : Option (List ℕ)) (before after out : List ℕ) (heard some : List (List ℕ)) (old new : Option (List ℕ)) → CameSome left rest before after heard
+      → HearsSome m k.service heard out some false t.service → Went m seen may_leave is_clean faults k t some → Adds old new out → IsOver Closed k t left rest before after old new
   shut k t left rest before after out heard some old new came hears went added =
       inr (inr (inl record { is = refl; heard = heard; came = came; out = out; some = some; hears = hears; added = added; is_kept = went_kept k t some went }))
 
-  broken : (k t : Kept D) (left rest : Option (List ℕ)) (before after text : List ℕ) (some : List (List ℕ)) (old new : Option (List ℕ)) → ToSay k.talk t.talk left rest before after some text
-      → Went seen may_leave is_clean faults k t some → FrontWritten text old new → IsOver WriteFault k t left rest before after old new
+  broken : (k t : Kept S D) (left rest : Option (List ℕ)) (before after text : List ℕ) (some : List (List ℕ)) (old new : Option (List ℕ)) → ToSay m k.service t.service left rest before after some text
+      → Went m seen may_leave is_clean faults k t some → FrontWritten text old new → IsOver WriteFault k t left rest before after old new
   broken k t left rest before after text some old new to_say went front =
       inr (inr (inr (inl record { is = refl; text = text; some = some; to_say = to_say; front = front; is_kept = went_kept k t some went })))
 
-  failed : (served : Served) (k t : Kept D) (left rest : Option (List ℕ)) (before after out : List ℕ) (heard some : List (List ℕ)) (more : Bool) (old new : Option (List ℕ))
-      → CameSome left rest before after heard → HearsSome k.talk heard out some more t.talk → Lost seen may_leave is_clean faults k t some
+  failed : (served : Served) (k t : Kept S D) (left rest : Option (List ℕ)) (before after out : List ℕ) (heard some : List (List ℕ)) (more : Bool) (old new : Option (List ℕ))
+      → CameSome left rest before after heard → HearsSome m k.service heard out some more t.service → Lost m seen may_leave is_clean faults k t some
       → SaysFault served old new → IsOver served k t left rest before after old new
   failed served k t left rest before after out heard some more old new came hears lost says =
       inr (inr (inr (inr record { heard = heard; came = came; out = out; some = some; more = more; hears = hears; says = says; is_lost = lost_kept k t some lost })))
 
   -- a group of lines, and then it is over
-  pub group_over : (served : Served) (k t : Kept D) (left rest : Option (List ℕ)) (before first there after : List ℕ) (old new : Option (List ℕ))
-      → AnswersAll seen may_leave is_clean faults (Over served) k t first there after old new
+  pub group_over : (served : Served) (k t : Kept S D) (left rest : Option (List ℕ)) (before first there after : List ℕ) (old new : Option (List ℕ))
+      → AnswersAll m seen may_leave is_clean faults (Over served) k t first there after old new
       → ((lines : List (List ℕ)) → there ≡ with_lf lines ++ after → AreLines lines → CameSome left rest before after (first ∷ map kept lines))
       → IsOver served k t left rest before after old new
   group_over End k t left rest before first there after old new all came = absurd all
@@ -152,23 +152,23 @@ module _ {D : Type 0} (seen : D → List ℕ) (may_leave : D → List ℕ → Ty
       failed WriteFault k t left rest before after h.0.out (first ∷ map kept h.0.lines) h.0.some h.0.more old new (came h.0.lines h.0.split h.0.each) h.0.hears h.0.lost h.1
   group_over Spent k t left rest before first there after old new all came = absurd all
 
-  abbrev HeardSo : Kept D → Kept D → List ℕ → List ℕ → List ℕ → Option (List ℕ) → Option (List ℕ) → Type 0
-  HeardSo k t first there after old new = AnswersAll seen may_leave is_clean faults More k t first there after old new
+  abbrev HeardSo : Kept S D → Kept S D → List ℕ → List ℕ → List ℕ → Option (List ℕ) → Option (List ℕ) → Type 0
+  HeardSo k t first there after old new = AnswersAll m seen may_leave is_clean faults More k t first there after old new
 
-  pub line_over : (served : Served) (k t : Kept D) (left rest : Option (List ℕ)) (before line there after : List ℕ) (old new : Option (List ℕ)) → LineCame left rest before there line
-      → AnswersAll seen may_leave is_clean faults (Over served) k t line there after old new → IsOver served k t left rest before after old new
+  pub line_over : (served : Served) (k t : Kept S D) (left rest : Option (List ℕ)) (before line there after : List ℕ) (old new : Option (List ℕ)) → LineCame left rest before there line
+      → AnswersAll m seen may_leave is_clean faults (Over served) k t line there after old new → IsOver served k t left rest before after old new
   line_over served k t left rest before line there after old new came all =
       group_over served k t left rest before line there after old new all
       (λ lines split each. inl (came.whole ∷ lines, came_group left rest before there after line lines came split each, ap (λ (l : List ℕ). l ∷ map kept lines) came.kept))
 
-  pub last_over : (served : Served) (k t : Kept D) (left rest : Option (List ℕ)) (before line there after : List ℕ) (old new : Option (List ℕ)) → EndCame left rest before there line → line ≢ []
-      → AnswersAll seen may_leave is_clean faults (Over served) k t line there after old new → IsOver served k t left rest before after old new
+  pub last_over : (served : Served) (k t : Kept S D) (left rest : Option (List ℕ)) (before line there after : List ℕ) (old new : Option (List ℕ)) → EndCame left rest before there line → line ≢ []
+      → AnswersAll m seen may_leave is_clean faults (Over served) k t line there after old new → IsOver served k t left rest before after old new
   last_over served k t left rest before line there after old new came some all =
       group_over served k t left rest before line there after old new all
       (λ lines split each. let last = came_last left rest before there after line lines came some split in inr (line, last.0, last.1))
 
-  pub line_more : (k t : Kept D) (left rest : Option (List ℕ)) (before line there after : List ℕ) (old new : Option (List ℕ)) → LineCame left rest before there line → HeardSo k t line there after old new
-      → GroupServed seen may_leave is_clean faults More k t left rest before after old new
+  pub line_more : (k t : Kept S D) (left rest : Option (List ℕ)) (before line there after : List ℕ) (old new : Option (List ℕ)) → LineCame left rest before there line → HeardSo k t line there after old new
+      → GroupServed m seen may_leave is_clean faults More k t left rest before after old new
   line_more k t left rest before line there after old new came all =
       let h = all.1 in
       let lines = came.whole ∷ h.lines in (
@@ -177,7 +177,7 @@ module _ {D : Type 0} (seen : D → List ℕ) (may_leave : D → List ℕ → Ty
           came = came_group left rest before there after line h.lines came h.split h.each;
           out = all.0;
           some = h.some;
-          hears = all_heard k.talk (map kept lines) all.0 h.some t.talk (subst (λ (l : List ℕ). HearsSome k.talk (l ∷ map kept h.lines) all.0 h.some true t.talk) came.kept h.hears);
+          hears = all_heard m k.service (map kept lines) all.0 h.some t.service (subst (λ (l : List ℕ). HearsSome m k.service (l ∷ map kept h.lines) all.0 h.some true t.service) came.kept h.hears);
           added = all.2;
           went = h.went;
         },
@@ -185,8 +185,8 @@ module _ {D : Type 0} (seen : D → List ℕ) (may_leave : D → List ℕ → Ty
       )
 
   -- the bytes after the last LF, and what is said at the end
-  pub last_said : (served : Served) (k t : Kept D) (left rest : Option (List ℕ)) (before line there after : List ℕ) (old mean new : Option (List ℕ)) → EndCame left rest before there line → line ≢ []
-      → HeardSo k t line there after old mean → SaysLast (last_text t.talk) served mean new → IsOver served k t left rest before after old new
+  pub last_said : (served : Served) (k t : Kept S D) (left rest : Option (List ℕ)) (before line there after : List ℕ) (old mean new : Option (List ℕ)) → EndCame left rest before there line → line ≢ []
+      → HeardSo k t line there after old mean → SaysLast (m.last t.service) served mean new → IsOver served k t left rest before after old new
   last_said End k t left rest before line there after old mean new came some all says =
       let h = all.1 in
       let last = came_last left rest before there after line h.lines came some h.split in
@@ -196,8 +196,8 @@ module _ {D : Type 0} (seen : D → List ℕ) (may_leave : D → List ℕ → Ty
         came = last.0;
         out = all.0;
         some = h.some;
-        hears = subst (λ (ls : List (List ℕ)). Hears k.talk ls all.0 h.some t.talk) last.1 (all_heard k.talk (line ∷ map kept h.lines) all.0 h.some t.talk h.hears);
-        added = Adds-chain old mean new all.0 (last_text t.talk) all.2 says;
+        hears = subst (λ (ls : List (List ℕ)). Hears m k.service ls all.0 h.some t.service) last.1 (all_heard m k.service (line ∷ map kept h.lines) all.0 h.some t.service h.hears);
+        added = Adds-chain old mean new all.0 (m.last t.service) all.2 says;
         is_kept = went_kept k t h.some h.went;
       })
   last_said Closed k t left rest before line there after old mean new came some all says = absurd says
@@ -205,14 +205,14 @@ module _ {D : Type 0} (seen : D → List ℕ) (may_leave : D → List ℕ → Ty
   last_said WriteFault k t left rest before line there after old mean new came some all says =
       let h = all.1 in
       let last = came_last left rest before there after line h.lines came some h.split in
-      let hears = subst (λ (ls : List (List ℕ)). Hears k.talk ls all.0 h.some t.talk) last.1 (all_heard k.talk (line ∷ map kept h.lines) all.0 h.some t.talk h.hears) in
-      broken k t left rest before after (all.0 ++ last_text t.talk) h.some old new (inr (line, all.0, last.0, hears, refl)) h.went
-      (front-behind old mean new all.0 (last_text t.talk) all.2 says)
+      let hears = subst (λ (ls : List (List ℕ)). Hears m k.service ls all.0 h.some t.service) last.1 (all_heard m k.service (line ∷ map kept h.lines) all.0 h.some t.service h.hears) in
+      broken k t left rest before after (all.0 ++ m.last t.service) h.some old new (inr (line, all.0, last.0, hears, refl)) h.went
+      (front-behind old mean new all.0 (m.last t.service) all.2 says)
   last_said Spent k t left rest before line there after old mean new came some all says = absurd says
 
   -- the end of input, where there are no such bytes
-  pub end_said : (served : Served) (k : Kept D) (left rest : Option (List ℕ)) (before line after : List ℕ) (old new : Option (List ℕ)) → EndCame left rest before after line → line ≡ []
-      → Leaves may_leave is_clean k.journal.disk k.talk (accepted seen k) → SaysLast (last_text k.talk) served old new → IsOver served k k left rest before after old new
+  pub end_said : (served : Served) (k : Kept S D) (left rest : Option (List ℕ)) (before line after : List ℕ) (old new : Option (List ℕ)) → EndCame left rest before after line → line ≡ []
+      → Leaves m may_leave is_clean k.journal.disk k.service (accepted seen k) → SaysLast (m.last k.service) served old new → IsOver served k k left rest before after old new
   end_said End k left rest before line after old new came none leaves says =
       inr (inl record {
         is = refl;
@@ -220,20 +220,20 @@ module _ {D : Type 0} (seen : D → List ℕ) (may_leave : D → List ℕ → Ty
         came = came;
         out = [];
         some = [];
-        hears = subst (λ (l : List ℕ). Hears k.talk (last_line l) [] [] k.talk) (sym none) (refl, refl, refl);
+        hears = subst (λ (l : List ℕ). Hears m k.service (last_line l) [] [] k.service) (sym none) (refl, refl, refl);
         added = says;
         is_kept = went_kept k k [] (stayed k leaves);
       })
   end_said Closed k left rest before line after old new came none leaves says = absurd says
   end_said ReadFault k left rest before line after old new came none leaves says = absurd says
   end_said WriteFault k left rest before line after old new came none leaves says =
-      let hears : Hears k.talk (last_line line) [] [] k.talk = subst (λ (l : List ℕ). Hears k.talk (last_line l) [] [] k.talk) (sym none) (refl, refl, refl) in
-      broken k k left rest before after (last_text k.talk) [] old new (inr (line, [], came, hears, refl)) (stayed k leaves) says
+      let hears : Hears m k.service (last_line line) [] [] k.service = subst (λ (l : List ℕ). Hears m k.service (last_line l) [] [] k.service) (sym none) (refl, refl, refl) in
+      broken k k left rest before after (m.last k.service) [] old new (inr (line, [], came, hears, refl)) (stayed k leaves) says
   end_said Spent k left rest before line after old new came none leaves says = absurd says
 
-  quiet : (served : Served) (count : ℕ) (k : Kept D) (left rest : Option (List ℕ)) (before after taken : List ℕ) (old : Option (List ℕ))
-      → (served ≡ ReadFault) ⊎ ((served ≡ Spent) × ((most ≤ count) ⊎ IsLong before taken after)) → Leaves may_leave is_clean k.journal.disk k.talk (accepted seen k)
-      → Consumes left rest taken → Quiet may_leave is_clean faults count served k.talk (accepted seen k) k k left rest before after old old
+  quiet : (served : Served) (count : ℕ) (k : Kept S D) (left rest : Option (List ℕ)) (before after taken : List ℕ) (old : Option (List ℕ))
+      → (served ≡ ReadFault) ⊎ ((served ≡ Spent) × ((most ≤ count) ⊎ IsLong before taken after)) → Leaves m may_leave is_clean k.journal.disk k.service (accepted seen k)
+      → Consumes left rest taken → Quiet m may_leave is_clean faults count served k.service (accepted seen k) k k left rest before after old old
   quiet served count k left rest before after taken old cause leaves took =
       record {
         taken = taken;
@@ -244,18 +244,18 @@ module _ {D : Type 0} (seen : D → List ℕ) (may_leave : D → List ℕ → Ty
         is_kept = record { leaves = leaves; clean = λ c. c; up = refl; no_fault = refl };
       }
 
-  pub read_failed : (k : Kept D) (left rest : Option (List ℕ)) (before after : List ℕ) (old : Option (List ℕ)) → PartCame left rest before
-      → Leaves may_leave is_clean k.journal.disk k.talk (accepted seen k) → IsOver ReadFault k k left rest before after old old
+  pub read_failed : (k : Kept S D) (left rest : Option (List ℕ)) (before after : List ℕ) (old : Option (List ℕ)) → PartCame left rest before
+      → Leaves m may_leave is_clean k.journal.disk k.service (accepted seen k) → IsOver ReadFault k k left rest before after old old
   read_failed k left rest before after old part leaves = inl (quiet ReadFault 0 k left rest before after part.taken old (inl refl) leaves part.took)
 
-  pub read_long : (k : Kept D) (left rest : Option (List ℕ)) (before after : List ℕ) (old : Option (List ℕ)) → LongCame left rest before after
-      → Leaves may_leave is_clean k.journal.disk k.talk (accepted seen k) → IsOver Spent k k left rest before after old old
+  pub read_long : (k : Kept S D) (left rest : Option (List ℕ)) (before after : List ℕ) (old : Option (List ℕ)) → LongCame left rest before after
+      → Leaves m may_leave is_clean k.journal.disk k.service (accepted seen k) → IsOver Spent k k left rest before after old old
   read_long k left rest before after old long leaves = inl (quiet Spent 0 k left rest before after long.taken old (inr (refl, inr long.is_long)) leaves long.took)
 
   -- ---- one group after another
 
-  pub at_first : (k : Kept D) (left : Option (List ℕ)) (before : List ℕ) (old : Option (List ℕ)) → Leaves may_leave is_clean k.journal.disk k.talk (accepted seen k)
-      → SoFar seen may_leave is_clean faults k k left left before before old old
+  pub at_first : (k : Kept S D) (left : Option (List ℕ)) (before : List ℕ) (old : Option (List ℕ)) → Leaves m may_leave is_clean k.journal.disk k.service (accepted seen k)
+      → SoFar m seen may_leave is_clean faults k k left left before before old old
   at_first k left before old leaves =
       record {
         lines = [];
@@ -267,9 +267,9 @@ module _ {D : Type 0} (seen : D → List ℕ) (may_leave : D → List ℕ → Ty
         went = stayed k leaves;
       }
 
-  pub joined : (k t u : Kept D) (left then rest : Option (List ℕ)) (before now after : List ℕ) (old mean new : Option (List ℕ))
-      → SoFar seen may_leave is_clean faults k t left then before now old mean → SoFar seen may_leave is_clean faults t u then rest now after mean new
-      → SoFar seen may_leave is_clean faults k u left rest before after old new
+  pub joined : (k t u : Kept S D) (left then rest : Option (List ℕ)) (before now after : List ℕ) (old mean new : Option (List ℕ))
+      → SoFar m seen may_leave is_clean faults k t left then before now old mean → SoFar m seen may_leave is_clean faults t u then rest now after mean new
+      → SoFar m seen may_leave is_clean faults k u left rest before after old new
   joined k t u left then rest before now after old mean new f g =
       record {
         lines = f.lines ++ g.lines;
@@ -281,8 +281,8 @@ module _ {D : Type 0} (seen : D → List ℕ) (may_leave : D → List ℕ → Ty
         };
         out = f.out ++ g.out;
         some = f.some ++ g.some;
-        hears = subst (λ (ls : List (List ℕ)). Hears k.talk ls (f.out ++ g.out) (f.some ++ g.some) u.talk) (sym (map-append kept f.lines g.lines))
-            (hears_append (map kept f.lines) (map kept g.lines) k.talk f.out f.some t.talk g.out g.some u.talk f.hears g.hears);
+        hears = subst (λ (ls : List (List ℕ)). Hears m k.service ls (f.out ++ g.out) (f.some ++ g.some) u.service) (sym (map-append kept f.lines g.lines))
+            (hears_append m (map kept f.lines) (map kept g.lines) k.service f.out f.some t.service g.out g.some u.service f.hears g.hears);
         added = Adds-chain old mean new f.out g.out f.added g.added;
         went = went_on k t u f.some g.some f.went g.went;
       }
@@ -291,39 +291,39 @@ module _ {D : Type 0} (seen : D → List ℕ) (may_leave : D → List ℕ → Ty
   some_length [] some = absurd (some refl)
   some_length (line ∷ lines) some = omega arith
 
-  pub joined_count : (k t u : Kept D) (left then rest : Option (List ℕ)) (before now after : List ℕ) (old mean new : Option (List ℕ))
-      (f : SoFar seen may_leave is_clean faults k t left then before now old mean) (g : SoFar seen may_leave is_clean faults t u then rest now after mean new) → g.lines ≢ []
+  pub joined_count : (k t u : Kept S D) (left then rest : Option (List ℕ)) (before now after : List ℕ) (old mean new : Option (List ℕ))
+      (f : SoFar m seen may_leave is_clean faults k t left then before now old mean) (g : SoFar m seen may_leave is_clean faults t u then rest now after mean new) → g.lines ≢ []
       → length f.lines + 1 ≤ length (joined k t u left then rest before now after old mean new f g).lines
   unfolding joined
   joined_count k t u left then rest before now after old mean new f g some = omega (arith, length-append f.lines g.lines, some_length g.lines some)
 
   -- ---- how it was over, after other groups
 
-  kept_since : (k t end : Kept D) (some new : List (List ℕ)) → Went seen may_leave is_clean faults k t some → IsKept may_leave is_clean faults (accepted seen t ++ new) t end
-      → IsKept may_leave is_clean faults ((accepted seen k ++ some) ++ new) k end
+  kept_since : (k t end : Kept S D) (some new : List (List ℕ)) → Went m seen may_leave is_clean faults k t some → IsKept m may_leave is_clean faults (accepted seen t ++ new) t end
+      → IsKept m may_leave is_clean faults ((accepted seen k ++ some) ++ new) k end
   kept_since k t end some new went is =
       record {
-        leaves = λ clean c left. subst (λ (ls : List (List ℕ)). Keeps c end.talk (ls ++ new)) (went.lines (is.clean clean)) (is.leaves clean c left);
+        leaves = λ clean c left. subst (λ (ls : List (List ℕ)). Keeps m c end.service (ls ++ new)) (went.lines (is.clean clean)) (is.leaves clean c left);
         clean = λ clean. went.clean (is.clean clean);
         up = is.up ∙ went.up;
         no_fault = is.no_fault ∙ went.no_fault;
       }
 
-  quiet_since : (k t end : Kept D) (some : List (List ℕ)) → Went seen may_leave is_clean faults k t some → IsKept may_leave is_clean faults (accepted seen t) t end
-      → IsKept may_leave is_clean faults (accepted seen k ++ some) k end
+  quiet_since : (k t end : Kept S D) (some : List (List ℕ)) → Went m seen may_leave is_clean faults k t some → IsKept m may_leave is_clean faults (accepted seen t) t end
+      → IsKept m may_leave is_clean faults (accepted seen k ++ some) k end
   quiet_since k t end some went is =
       record {
-        leaves = λ clean c left. subst (λ (ls : List (List ℕ)). Keeps c end.talk ls) (went.lines (is.clean clean)) (is.leaves clean c left);
+        leaves = λ clean c left. subst (λ (ls : List (List ℕ)). Keeps m c end.service ls) (went.lines (is.clean clean)) (is.leaves clean c left);
         clean = λ clean. went.clean (is.clean clean);
         up = is.up ∙ went.up;
         no_fault = is.no_fault ∙ went.no_fault;
       }
 
-  lost_since : (k t end : Kept D) (some new : List (List ℕ)) → Went seen may_leave is_clean faults k t some → IsLost may_leave is_clean faults t.talk (accepted seen t) new t end
-      → IsLost may_leave is_clean faults t.talk (accepted seen k ++ some) new k end
+  lost_since : (k t end : Kept S D) (some new : List (List ℕ)) → Went m seen may_leave is_clean faults k t some → IsLost m may_leave is_clean faults t.service (accepted seen t) new t end
+      → IsLost m may_leave is_clean faults t.service (accepted seen k ++ some) new k end
   lost_since k t end some new went is =
       record {
-        leaves = λ clean c left. subst (λ (ls : List (List ℕ)). Keeps c t.talk ls ⊎ Keeps c end.talk (ls ++ new)) (went.lines (is.clean clean)) (is.leaves clean c left);
+        leaves = λ clean c left. subst (λ (ls : List (List ℕ)). Keeps m c t.service ls ⊎ Keeps m c end.service (ls ++ new)) (went.lines (is.clean clean)) (is.leaves clean c left);
         clean = λ clean. went.clean (is.clean clean);
         down = is.down;
         cause = ⊎_elim (λ (rose : MoreFaults (faults t.journal.disk) (faults end.journal.disk)). inl (subst (λ (n : ℕ). MoreFaults n (faults end.journal.disk)) went.no_fault rose))
@@ -331,9 +331,9 @@ module _ {D : Type 0} (seen : D → List ℕ) (may_leave : D → List ℕ → Ty
             inr (λ clean. subst (λ (ls : List (List ℕ)). 2 ^ 64 ≤ length (records (ls ++ new)) + 1) (went.lines (is.clean clean)) (long clean))) is.cause;
       }
 
-  over_since : (served : Served) (k t end : Kept D) (count : ℕ) (some : List (List ℕ)) (left rest : Option (List ℕ)) (before after : List ℕ) (old new : Option (List ℕ))
-      → Went seen may_leave is_clean faults k t some → IsOver served t end left rest before after old new
-      → OverBy may_leave is_clean faults count served t.talk (accepted seen k ++ some) k end left rest before after old new
+  over_since : (served : Served) (k t end : Kept S D) (count : ℕ) (some : List (List ℕ)) (left rest : Option (List ℕ)) (before after : List ℕ) (old new : Option (List ℕ))
+      → Went m seen may_leave is_clean faults k t some → IsOver served t end left rest before after old new
+      → OverBy m may_leave is_clean faults count served t.service (accepted seen k ++ some) k end left rest before after old new
   over_since served k t end count some left rest before after old new went (inl o) =
       inl record {
         taken = o.taken;
@@ -354,12 +354,12 @@ module _ {D : Type 0} (seen : D → List ℕ) (may_leave : D → List ℕ → Ty
   over_since served k t end count some left rest before after old new went (inr (inr (inr (inr o)))) =
       inr (inr (inr (inr record { heard = o.heard; came = o.came; out = o.out; some = o.some; more = o.more; hears = o.hears; says = o.says; is_lost = lost_since k t end some o.some went o.is_lost })))
 
-  pub over_behind : (served : Served) (k t end : Kept D) (left then rest : Option (List ℕ)) (before now after : List ℕ) (old mean new : Option (List ℕ))
-      → SoFar seen may_leave is_clean faults k t left then before now old mean → GroupServed seen may_leave is_clean faults (Over served) t end then rest now after mean new
-      → KeptRun seen may_leave is_clean faults served k end left rest before after old new
+  pub over_behind : (served : Served) (k t end : Kept S D) (left then rest : Option (List ℕ)) (before now after : List ℕ) (old mean new : Option (List ℕ))
+      → SoFar m seen may_leave is_clean faults k t left then before now old mean → GroupServed m seen may_leave is_clean faults (Over served) t end then rest now after mean new
+      → KeptRun m seen may_leave is_clean faults served k end left rest before after old new
   over_behind served k t end left then rest before now after old mean new f o =
       record {
-        mid = t.talk;
+        mid = t.service;
         left_then = then;
         there_then = now;
         written_then = mean;
@@ -373,11 +373,11 @@ module _ {D : Type 0} (seen : D → List ℕ) (may_leave : D → List ℕ → Ty
       }
 
   -- so many lines were answered
-  pub stopped : (k t : Kept D) (left rest : Option (List ℕ)) (before after : List ℕ) (old new : Option (List ℕ)) (f : SoFar seen may_leave is_clean faults k t left rest before after old new)
-      → most ≤ length f.lines → KeptRun seen may_leave is_clean faults Spent k t left rest before after old new
+  pub stopped : (k t : Kept S D) (left rest : Option (List ℕ)) (before after : List ℕ) (old new : Option (List ℕ)) (f : SoFar m seen may_leave is_clean faults k t left rest before after old new)
+      → most ≤ length f.lines → KeptRun m seen may_leave is_clean faults Spent k t left rest before after old new
   stopped k t left rest before after old new f many =
       record {
-        mid = t.talk;
+        mid = t.service;
         left_then = rest;
         there_then = after;
         written_then = new;
@@ -394,7 +394,7 @@ module _ {D : Type 0} (seen : D → List ℕ) (may_leave : D → List ℕ → Ty
           none = none-added new;
           cause = inr (refl, inl many);
           is_kept = record {
-            leaves = λ clean c left. subst (Keeps c t.talk) (f.went.lines clean) (f.went.leaves clean c left);
+            leaves = λ clean c left. subst (Keeps m c t.service) (f.went.lines clean) (f.went.leaves clean c left);
             clean = f.went.clean;
             up = f.went.up;
             no_fault = f.went.no_fault;
@@ -404,15 +404,15 @@ module _ {D : Type 0} (seen : D → List ℕ) (may_leave : D → List ℕ → Ty
 
   -- ---- what is written for a group
 
-  pub fault_said : (served : Served) (k t : Kept D) (line before after : List ℕ) (old new : Option (List ℕ)) → GroupLost seen may_leave is_clean faults k t line before after
-      → SaysFault served old new → AnswersAll seen may_leave is_clean faults (Over served) k t line before after old new
+  pub fault_said : (served : Served) (k t : Kept S D) (line before after : List ℕ) (old new : Option (List ℕ)) → GroupLost m seen may_leave is_clean faults k t line before after
+      → SaysFault served old new → AnswersAll m seen may_leave is_clean faults (Over served) k t line before after old new
   fault_said End k t line before after old new lost says = absurd says
   fault_said Closed k t line before after old new lost says = inr (lost, says)
   fault_said ReadFault k t line before after old new lost says = absurd says
   fault_said WriteFault k t line before after old new lost says = inr (lost, says)
   fault_said Spent k t line before after old new lost says = absurd says
 
-  pub line_served : (next : Next) (k t : Kept D) (left rest : Option (List ℕ)) (before line there after : List ℕ) (old new : Option (List ℕ)) → LineCame left rest before there line
-      → AnswersAll seen may_leave is_clean faults next k t line there after old new → GroupServed seen may_leave is_clean faults next k t left rest before after old new
+  pub line_served : (next : Next) (k t : Kept S D) (left rest : Option (List ℕ)) (before line there after : List ℕ) (old new : Option (List ℕ)) → LineCame left rest before there line
+      → AnswersAll m seen may_leave is_clean faults next k t line there after old new → GroupServed m seen may_leave is_clean faults next k t left rest before after old new
   line_served More k t left rest before line there after old new came all = line_more k t left rest before line there after old new came all
   line_served (Over served) k t left rest before line there after old new came all = line_over served k t left rest before line there after old new came all

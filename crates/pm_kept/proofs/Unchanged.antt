@@ -21,7 +21,7 @@ use Rattle.pm_talk.specs.Ids.{has_room, number_of}
 use Rattle.pm_talk.specs.Texts.{fault_text}
 use Rattle.pm_talk.specs.Asked.{asked_line}
 use Rattle.pm_talk.specs.Live.{named, message_of, told, answer, answered}
-use Rattle.pm_kept.specs.Behind.{is_same_size}
+use Rattle.pm_kept.specs.Sizes.{is_same_size}
 
 -- what has a live's size is that live
 abbrev Same : Live → Live → Type 0

@@ -1,7 +1,11 @@
 pub mod Accepted
+pub mod Alike
 pub mod Behind
 pub mod Kept
+pub mod Laws
+pub mod Means
 pub mod Opens
 pub mod Runs
 pub mod Said
 pub mod Sizes
+pub mod Talks

@@ -1,18 +1,15 @@
-//! A talk whose accepted lines are in a file.
-ghost use Rattle.std.specs.Prelude.{◌≡◌, ◌++◌, ◌∷◌, [], false, true, None, IsTrue, IfOk, OnErr, string_bytes};
+//! A service whose accepted lines are in a file.
+ghost use Rattle.std.specs.Prelude.{◌≡◌, ◌++◌, ◌∷◌, [], List, ℕ, false, true, None, Some, IsTrue, IfOk, OnErr, string_bytes, if◌then◌else◌};
 ghost use Rattle.sqlite_disk.specs.Disk.{Only};
 ghost use Rattle.pm_journal.specs.Lines.{IsLine, HoldsLines, lines_of};
 ghost use Rattle.pm_journal.specs.Journal.{IsRecovered, TakesLines, texts};
-ghost use Rattle.pm_talk.specs.Talk.{Replies, is_open, IsGood};
-ghost use Rattle.pm_talk.specs.declared.talk.Talk.TheVariants.{AwaitsSchema};
-ghost use Rattle.pm_kept.specs.Behind.{Behind, taken};
+ghost use Rattle.pm_kept.specs.Behind.{Behind, Takes};
 ghost use Rattle.pm_kept.specs.Kept.{disk_fault, held_lines, AreHeld, IsGoodKept, PutsHeld};
 
+use crate::keepable::{Keepable, Outcome};
 use crate::opening::Opened;
-use crate::sizes::{changed, sizes_of};
 use pm_journal::{Group, Journal};
 use pm_serve::Reply;
-use pm_talk::Talk;
 use sqlite_disk::Disk;
 use std::alloc::{AllocError, Global};
 
@@ -23,10 +20,10 @@ pub fn disk_fault() -> &'static str
     "{\"fault\":\"disk\"}\n"
 }
 
-/// A talk, and the file of the lines that it accepted.
+/// A service, and the file of the lines that it accepted.
 #[derive(Drop)]
-pub struct Kept<D: Disk> {
-    pub talk: Talk,
+pub struct Kept<S: Keepable, D: Disk> {
+    pub service: S,
     /// Accepted lines that are not yet in the file.
     pub held: Option<Group>,
     pub journal: Journal<D>,
@@ -34,62 +31,62 @@ pub struct Kept<D: Disk> {
     pub failed: bool,
 }
 
-impl<D: Disk> Kept<D> {
-    /// A talk from line 1 on, over an empty file. Nothing is written.
-    pub fn new(disk: D) -> Kept<D>
+impl<S: Keepable, D: Disk> Kept<S, D> {
+    /// A service before its first line, over an empty file. Nothing is written.
+    pub fn new(alloc: Global, disk: D) -> Kept<S, D>
         requires usable { IsTrue (D.Disk.is_usable disk) }
         requires empty { IsTrue (D.Disk.is_clean disk) → D.Disk.seen disk ≡ [] }
         // After a restart, what is read is what is on the disk.
         requires durable { IsTrue (D.Disk.is_clean disk) → Only (D.Disk.seen disk) (D.Disk.may_leave disk) }
-        ensures good { IsGoodKept D.Disk.seen D.Disk.may_leave D.Disk.is_clean D.Disk.is_usable result }
-        ensures talk { result.talk ≡ AwaitsSchema }
+        ensures good { IsGoodKept S.means D.Disk.seen D.Disk.may_leave D.Disk.is_clean D.Disk.is_usable result }
+        ensures service { result.service ≡ S.means.start }
         ensures held { result.held ≡ None }
         ensures up { result.failed ≡ false }
         ensures disk { result.journal.disk ≡ disk }
     {
         Kept {
-            talk: Talk::AwaitsSchema,
+            service: S::start(alloc),
             held: None,
             journal: Journal::blank(disk),
             failed: false,
         }
     }
 
-    /// The talk behind the lines of a file, over that file. Nothing is written.
-    pub fn resume(disk: D, opened: Opened) -> Kept<D>
+    /// The service behind the lines of a file, over that file. Nothing is written.
+    pub fn resume(disk: D, opened: Opened<S>) -> Kept<S, D>
         requires usable { IsTrue (D.Disk.is_usable disk) }
         requires found { IsTrue (D.Disk.is_clean disk) → IsRecovered opened.found (D.Disk.seen disk) }
-        requires stands { Behind (texts opened.found) AwaitsSchema opened.talk }
-        requires open { is_open opened.talk ≡ true }
-        requires talk { IsGood opened.talk }
+        requires stands { Behind S.means (texts opened.found) S.means.start opened.service }
+        requires begun { S.means.is_begun opened.service ≡ true }
+        requires service { S.means.good opened.service }
         // After a restart, what is read is what is on the disk.
         requires durable { IsTrue (D.Disk.is_clean disk) → Only (D.Disk.seen disk) (D.Disk.may_leave disk) }
-        ensures good { IsGoodKept D.Disk.seen D.Disk.may_leave D.Disk.is_clean D.Disk.is_usable result }
-        ensures talk { result.talk ≡ opened.talk }
+        ensures good { IsGoodKept S.means D.Disk.seen D.Disk.may_leave D.Disk.is_clean D.Disk.is_usable result }
+        ensures service { result.service ≡ opened.service }
         ensures held { result.held ≡ None }
         ensures up { result.failed ≡ false }
         ensures disk { result.journal.disk ≡ disk }
     {
-        let Opened { found, talk } = opened;
+        let Opened { found, service } = opened;
         let journal = Journal::resume(disk, &found);
         Kept {
-            talk,
+            service,
             held: None,
             journal,
             failed: false,
         }
     }
 
-    /// Puts the lines that are held into the file, all at once, and says whether that is done. They are held on before lines 1 and 2
-    /// have both come.
+    /// Puts the lines that are held into the file, all at once, and says whether that is done. They are held on before the
+    /// service has begun.
     pub(crate) fn put_held(&mut self) -> bool
         requires file { TakesLines D.Disk.seen D.Disk.may_leave D.Disk.is_clean D.Disk.is_usable self.old.journal }
         requires held { AreHeld self.old.held }
         requires up { self.old.failed ≡ false }
-        ensures puts { PutsHeld D.Disk.seen D.Disk.may_leave D.Disk.is_clean D.Disk.is_usable D.Disk.faults result self.old self.new }
-        ensures talk { self.new.talk ≡ self.old.talk }
+        ensures puts { PutsHeld S.means D.Disk.seen D.Disk.may_leave D.Disk.is_clean D.Disk.is_usable D.Disk.faults result self.old self.new }
+        ensures service { self.new.service ≡ self.old.service }
     {
-        if !self.talk.is_open() {
+        if !self.service.is_begun() {
             return true;
         }
         let Some(group) = self.held.take() else {
@@ -105,29 +102,35 @@ impl<D: Disk> Kept<D> {
     }
 }
 
-/// Tells the talk a line, and holds it if it is accepted. Out of memory changes nothing.
-pub(crate) fn take(
+/// Tells the service a line, and holds it if it is accepted. Out of memory changes nothing.
+pub(crate) fn take<S: Keepable>(
     alloc: Global,
-    talk: &mut Talk,
+    service: &mut S,
     held: &mut Option<Group>,
     line: &[u8],
 ) -> Result<Reply, AllocError>
-    requires good { IsGood talk.old }
+    requires good { S.means.good service.old }
     requires held { AreHeld held.old }
     requires line { IsLine line.now }
-    ensures told { IfOk result (λ r. Replies talk.old line.now (string_bytes r.text) r.more talk.new) }
-    ensures taken { IfOk result (λ r. held_lines held.new ≡ held_lines held.old ++ taken talk.old line.now r.more talk.new) }
-    ensures err { OnErr result ((talk.new ≡ talk.old) × (held.new ≡ held.old)) }
-    ensures good { IsGood talk.new }
+    ensures told { IfOk result (λ r. S.means.replies service.old line.now (string_bytes r.text) r.more service.new) }
+    ensures taken { IfOk result (λ r. (new : List (List ℕ)) × Takes service.old line.now service.new new × (held_lines held.new ≡ held_lines held.old ++ new)) }
+    ensures err { OnErr result ((service.new ≡ service.old) × (held.new ≡ held.old)) }
+    ensures good { S.means.good service.new }
     ensures held { AreHeld held.new }
 {
     let more = held_with(alloc, held, line)?;
-    let before = sizes_of(talk);
-    let reply = talk.tell(alloc, line)?;
-    if reply.more && changed(before, talk) {
+    let Outcome { reply, changed } = service.hear(alloc, line)?;
+    hold(held, more, changed);
+    Ok(reply)
+}
+
+/// Holds these lines in place of the others, where something changed.
+fn hold(held: &mut Option<Group>, more: Group, changed: bool)
+    ensures { held.new ≡ (if changed then Some more else held.old) }
+{
+    if changed {
         *held = Some(more);
     }
-    Ok(reply)
 }
 
 /// The lines that are held, and one more.

@@ -1,7 +1,6 @@
-//! Whether a line changed anything.
-ghost use Rattle.std.specs.Prelude.{◌≡◌};
-ghost use Rattle.pm_kept.specs.Behind.{changes};
-ghost use Rattle.pm_kept.specs.Sizes.{HasSizes};
+//! Whether a line changed a talk.
+ghost use Rattle.std.specs.Prelude.{◌≡◌, ◌&&◌};
+ghost use Rattle.pm_kept.specs.Sizes.{HasSizes, changes};
 
 use pm_talk::Talk;
 
@@ -25,8 +24,15 @@ pub(crate) fn sizes_of(talk: &Talk) -> Option<Sizes>
     }
 }
 
-/// Whether the talk, which had these sizes before a line, is another now.
-pub(crate) fn changed(before: Option<Sizes>, talk: &Talk) -> bool
+/// Whether a line changed the talk, which had these sizes before it. One after which no further line is answered has a fault.
+pub(crate) fn is_changed(before: Option<Sizes>, more: bool, talk: &Talk) -> bool
+    ensures { (was : Talk) → HasSizes before was → result ≡ (more && changes was talk.now) }
+{
+    more && changed(before, talk)
+}
+
+/// Whether the talk, which had these sizes before a line that was not the last, is another now.
+fn changed(before: Option<Sizes>, talk: &Talk) -> bool
     ensures { (was : Talk) → HasSizes before was → result ≡ changes was talk.now }
 {
     match (before, sizes_of(talk)) {

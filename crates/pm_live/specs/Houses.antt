@@ -4,14 +4,10 @@ use Rattle.pm_serve.specs.declared.serving.Served.{Served}
 use Rattle.pm_serve.specs.Serves.{Serves}
 use Rattle.pm_talk.specs.Texts.{no_memory}
 use Rattle.pm_house.specs.declared.house.House.{House}
-use Rattle.pm_house.specs.Houses.{IsGood}
+use Rattle.pm_house.specs.Houses.{IsGood, empty}
 use Rattle.pm_house.specs.Replies.{Serving, last_text}
 use Rattle.pm_live.specs.declared.status.Status.{Status}
 use Rattle.pm_live.specs.Calls.{status_of}
-
--- no schemas and no documents
-abbrev pub empty : House
-empty = record { schemas = []; documents = [] }
 
 -- The bytes that came are lines, and what was written is the answers to them in order, from the empty house on (`Serves` of pm_serve):
 -- each is what the line is answered where the house stands after the lines before it (`Replies` of pm_house), or that there was no

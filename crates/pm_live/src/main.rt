@@ -1,5 +1,5 @@
 //! An authority that answers lines: an editor's server writes messages to standard input, and reads the answers from standard
-//! output. With `new FILE` or `open FILE` what it accepts is kept in a file, and with `many` it is a house of many documents.
+//! output. With `many` it is a house of many documents, and with `new FILE` or `open FILE` what it accepts is kept in a file.
 #![tactic(auto)]
 
 mod call;
@@ -9,7 +9,10 @@ mod status;
 
 use call::run;
 use keeping::{FileStatus, run_new, run_open};
+use pm_house::House;
 use pm_io::{StdSink, StdSource};
+use pm_kept::Keepable;
+use pm_talk::Talk;
 use sqlite_std_file::{OpenError, Start, Unknown};
 use status::Status;
 use std::process::ExitCode;
@@ -17,13 +20,15 @@ use std::rt::Env;
 use std::{env, fs, io};
 
 /// Answers the lines of standard input on standard output. With no words it keeps them in memory; `new FILE` and `open FILE` keep
-/// each that is accepted in the file before it is answered; with `many` each line says to which document it speaks. It tells a status
+/// each that is accepted in the file before it is answered; with `many` in front each line says to which document it speaks. It tells a status
 /// from 2 on by one line on standard error, and ends with the status's number.
 fn main(rt: HostRuntime) -> io::Result<ExitCode> {
     let status = match words_of(&rt) {
         Ok(words) => match task_of(&words) {
-            Task::New(path) => return over_file(&rt, path, true, Unknown),
-            Task::Open(path) => return over_file(&rt, path, false, Unknown),
+            Task::New(path) => return over_file::<Talk, _>(&rt, path, true, Unknown),
+            Task::Open(path) => return over_file::<Talk, _>(&rt, path, false, Unknown),
+            Task::ManyNew(path) => return over_file::<House, _>(&rt, path, true, Unknown),
+            Task::ManyOpen(path) => return over_file::<House, _>(&rt, path, false, Unknown),
             Task::Many => {
                 let mut source = StdSource::new(rt.stdin());
                 let mut sink = StdSink::new(rt.stdout());
@@ -52,6 +57,10 @@ enum Task<'a> {
     Open(&'a str),
     /// To answer for many documents, without a file.
     Many,
+    /// To begin this file, for many documents.
+    ManyNew(&'a str),
+    /// To go on behind the lines of this file, for many documents.
+    ManyOpen(&'a str),
     /// To answer for one document without a file, or nothing that there is.
     Other,
 }
@@ -61,12 +70,19 @@ fn task_of(words: &[String]) -> Task<'_> {
     if words.len() == 1 && words[0].as_str() == "many" {
         return Task::Many;
     }
-    if words.len() != 2 {
+    if words.len() == 2 {
+        return match words[0].as_str() {
+            "new" => Task::New(words[1].as_str()),
+            "open" => Task::Open(words[1].as_str()),
+            _ => Task::Other,
+        };
+    }
+    if words.len() != 3 || words[0].as_str() != "many" {
         return Task::Other;
     }
-    match words[0].as_str() {
-        "new" => Task::New(words[1].as_str()),
-        "open" => Task::Open(words[1].as_str()),
+    match words[1].as_str() {
+        "new" => Task::ManyNew(words[2].as_str()),
+        "open" => Task::ManyOpen(words[2].as_str()),
         _ => Task::Other,
     }
 }
@@ -76,7 +92,7 @@ fn tell(rt: &HostRuntime, status: Status) {
     let _told = match status {
         Status::Done | Status::Refused => Ok(()),
         Status::Usage => eprintln!(rt;
-            "usage: pm_live, pm_live many, pm_live new FILE or pm_live open FILE"
+            "usage: pm_live or pm_live many, and new FILE or open FILE behind it to keep a file"
         ),
         Status::ReadFault => eprintln!(rt; "read fault"),
         Status::WriteFault => eprintln!(rt; "write fault"),
@@ -85,12 +101,12 @@ fn tell(rt: &HostRuntime, status: Status) {
     };
 }
 
-/// The call over a file.
-fn over_file<S: Start>(
+/// The call over a file, by a talk or a house.
+fn over_file<S: Keepable, B: Start>(
     rt: &HostRuntime,
     path: &str,
     is_new: bool,
-    start: S,
+    start: B,
 ) -> io::Result<ExitCode> {
     // Opening makes a file that is missing.
     if !is_new && fs::metadata(rt, path).is_err() {
@@ -104,9 +120,9 @@ fn over_file<S: Start>(
     let mut source = StdSource::new(rt.stdin());
     let mut sink = StdSink::new(rt.stdout());
     let ended = if is_new {
-        run_new(rt.alloc(), files.db, &mut source, &mut sink)
+        run_new::<S, _, _, _>(rt.alloc(), files.db, &mut source, &mut sink)
     } else {
-        run_open(rt.alloc(), files.db, &mut source, &mut sink)
+        run_open::<S, _, _, _>(rt.alloc(), files.db, &mut source, &mut sink)
     };
     tell_file(rt, ended.status);
     Ok(ExitCode::from(ended.status.number()))

@@ -1,5 +1,4 @@
 use Rattle.std.proofs.Common.{◌∙◌, ℕ, Bool, List, refl, ap, subst}
-use Rattle.pm_talk.specs.Talk.{is_open}
 use Rattle.pm_kept.specs.Runs.{KeptRun}
 use Rattle.pm_kept.proofs.Files.{up_leaves}
 use Rattle.pm_live.specs.Keeping.{file_status_of}
@@ -24,15 +23,15 @@ returns-clause-talked g c =
       before = λ clean. refl;
       up = c.requires.up;
       was_good = c.requires.good;
-      run = subst (λ (before : List ℕ). KeptRun seen may_leave is_clean faults served c.args.kept end (g.R.Source.left c.args.source.now)
+      run = subst (λ (before : List ℕ). KeptRun g.S.Keepable.means seen may_leave is_clean faults served c.args.kept end (g.R.Source.left c.args.source.now)
           (g.R.Source.left c.serve_kept-served.new.source) before c.serve_kept-served.new.lines.unread (g.W.Sink.written c.args.sink.now) (g.W.Sink.written c.serve_kept-served.new.sink)) c.requires.unread c.serve_kept-served.ensures.run;
       ends = c.serve_kept-served.ensures.faults;
       good = c.serve_kept-served.ensures.good;
       gives = refl;
-      says = c.status_of_kept-status.ensures ∙ ap (λ (b : Bool). file_status_of served b end.failed) c.is_open.ensures;
+      says = c.status_of_kept-status.ensures ∙ ap (λ (b : Bool). file_status_of served b end.failed) c.is_begun.ensures;
     }
 
 pub returns-clause-again : goal.returns-clause-again
 returns-clause-again g c =
     let end = c.serve_kept-served.new.kept in
-    up_leaves g.D.Disk.seen g.D.Disk.may_leave g.D.Disk.is_clean g.D.Disk.is_usable end.failed end.talk end.held end.journal c.serve_kept-served.ensures.good.up
+    up_leaves g.S.Keepable.means g.D.Disk.seen g.D.Disk.may_leave g.D.Disk.is_clean g.D.Disk.is_usable end.failed end.service end.held end.journal c.serve_kept-served.ensures.good.up

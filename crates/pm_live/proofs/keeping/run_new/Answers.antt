@@ -4,7 +4,7 @@ use Rattle.pm_live.proofs.keeping.run_new.Goals as goal
 
 pub new-kept-requires-clause-durable : goal.new-kept-requires-clause-durable
 new-kept-requires-clause-durable g c =
-    durable g.D.Disk.seen g.D.Disk.may_leave g.D.Disk.is_clean g.D.Disk.is_usable g.D.Disk.faults c.args.disk c.is_blank.new.disk c.is_blank.ensures.seen c.is_blank.ensures.crash c.is_blank.ensures.clean c.requires.durable
+    durable g.S.Keepable.means g.D.Disk.seen g.D.Disk.may_leave g.D.Disk.is_clean g.D.Disk.is_usable g.D.Disk.faults c.args.disk c.is_blank.new.disk c.is_blank.ensures.seen c.is_blank.ensures.crash c.is_blank.ensures.clean c.requires.durable
 
 pub returns-clause-output : goal.returns-clause-output
 returns-clause-output g c =
@@ -18,8 +18,8 @@ returns-clause-output g c =
       opened = c.is_blank.new.disk;
       untouched = record { same = c.is_blank.ensures.seen; crash = c.is_blank.ensures.crash };
       empty = λ clean. sym c.is_blank.ensures.seen ∙ search rules;
-      talked = begun_at seen may_leave is_clean is_usable faults c.keep.result.status kept.talk _ _ _ kept.journal.disk c.is_blank.new.disk c.keep.result.disk _ _ _ _ _ _ _ _ _
-          c.new-kept.ensures.talk (λ clean. lines_before seen kept c.is_blank.new.disk [] c.new-kept.ensures.held c.new-kept.ensures.disk (search rules)) c.new-kept.ensures.disk refl c.keep.ensures.talked;
+      talked = begun_at g.S.Keepable.means seen may_leave is_clean is_usable faults c.keep.result.status kept.service _ _ _ kept.journal.disk c.is_blank.new.disk c.keep.result.disk _ _ _ _ _ _ _ _ _
+          c.new-kept.ensures.service (λ clean. lines_before seen kept c.is_blank.new.disk [] c.new-kept.ensures.held c.new-kept.ensures.disk (search rules)) c.new-kept.ensures.disk refl c.keep.ensures.talked;
     }
 
 pub returns-clause-again : goal.returns-clause-again

@@ -1,5 +1,5 @@
-use Rattle.std.proofs.Common.{◌≡◌, ◌∙◌, ℕ, zero, suc, List, [], ◌∷◌, get_or, set, ap, sym, subst, string_bytes, Result, Ok, Err}
-use Rattle.std.specs.Prelude.{All, Some, slice_get, IfOk, OnOk, OnErr}
+use Rattle.std.proofs.Common.{◌≡◌, ◌∙◌, ℕ, List, get_or, set, ap, sym, subst, string_bytes, Result, Ok, Err}
+use Rattle.std.specs.Prelude.{All, IfOk, OnOk, OnErr}
 use Rattle.std.proofs.Math.Seq.{map-set_same}
 use Rattle.std.proofs.lemmas.List.Elements.{All-set}
 use Rattle.serde_json.specs.Data.{Data}
@@ -9,14 +9,8 @@ use Rattle.pm_archive.specs.declared.archive.Archive.{Archive}
 use Rattle.pm_archive.specs.Archives.{IsArchive}
 use Rattle.pm_archive.specs.Answers.{answered}
 use Rattle.pm_archive.proofs.Names.{answered-name}
-use Rattle.pm_house.proofs.Finding.{some-inner, none-some}
+use Rattle.pm_house.proofs.Finding.{got-is}
 use Rattle.pm_house.proofs.documents.Documents.answer.Goals as goal
-
--- the document at the place
-at-place : {A : Type 0} (xs : List A) (i : ℕ) (a d : A) → slice_get xs i ≡ Some a → get_or xs i d ≡ a
-at-place [] i a d h = absurd (none-some a h)
-at-place (x ∷ xs) zero a d h = some-inner x a h
-at-place (x ∷ xs) (suc i) a d h = at-place xs i a d h
 
 -- a line leaves its name
 name-stays : {X E : Type 0} (r : Result X E) (w : DocWord) (d : Data) (old new : Archive)
@@ -44,7 +38,7 @@ returns-clause-text c a h =
     let old = c.index_mut-archive.result.now in
     let same : old ≡ a =
     c.index_mut-archive.ensures.value
-    ∙ (ap (λ (xs : List Archive). get_or xs c.args.place old) c.self.view_is ∙ at-place c.args.self.now c.args.place a old h) in
+    ∙ (ap (λ (xs : List Archive). get_or xs c.args.place old) c.self.view_is ∙ got-is c.args.self.now c.args.place a old h) in
     subst (λ (x : Archive). IfOk c.answer.result (λ s. string_bytes s ≡ (answered x c.args.word (view c.args.json.now)).0)) same
     c.answer.ensures.text
 
@@ -54,7 +48,7 @@ returns-clause-after c a h =
     let new = c.answer.new.self in
     let same : old ≡ a =
     c.index_mut-archive.ensures.value
-    ∙ (ap (λ (xs : List Archive). get_or xs c.args.place old) c.self.view_is ∙ at-place c.args.self.now c.args.place a old h) in
+    ∙ (ap (λ (xs : List Archive). get_or xs c.args.place old) c.self.view_is ∙ got-is c.args.self.now c.args.place a old h) in
     written c.answer.result c.self.inside.archives.items c.args.self.now c.args.place new (answered a c.args.word (view c.args.json.now)).1
     c.self.view_is
     (subst (λ (x : Archive). OnOk c.answer.result (new ≡ (answered x c.args.word (view c.args.json.now)).1)) same c.answer.ensures.after)

@@ -1,6 +1,5 @@
 use Rattle.std.proofs.Common.{◌≡◌, true, Some, List, ℕ, refl, sym, ◌∙◌, ap, subst, rules}
 use Rattle.pm_journal.specs.Lines.{recorded, lines_of, HoldsLines, IsBeforeOrAfter}
-use Rattle.pm_talk.specs.Talk.{is_open}
 use Rattle.pm_kept.specs.Kept.{held_lines, AreHeld, CouldNotKeep}
 use Rattle.pm_kept.proofs.Files.{could_not}
 use Rattle.pm_kept.proofs.kept.Kept.put_held.Goals as goal
@@ -18,7 +17,7 @@ returns-clause-puts g c =
     let same : was.held ≡ Some group = search rules in
     let lines : lines_of group.text.items ≡ held_lines was.held = sym (ap held_lines same) in
     let holds : HoldsLines group.text.items = subst AreHeld same c.requires.held in
-    let opens : is_open was.talk ≡ true = sym c.is_open.ensures ∙ search rules in
+    let opens : g.S.Keepable.means.is_begun was.service ≡ true = sym c.is_begun.ensures ∙ search rules in
     record {
       down = refl;
       opens = opens;

@@ -1,0 +1,24 @@
+-- What is known of a service whose lines may be kept.
+use Rattle.std.specs.Prelude.{◌≡◌, ℕ, Bool, true, false, List}
+
+-- what a service answers to lines, and what they make of it
+pub record Meaning (S : Type 0) : Type 1 where
+  -- what holds of it before and after each line
+  pub good : S → Type 0
+  -- what it may answer to a line, whether further lines are answered, and what it is then
+  pub replies : S → List ℕ → List ℕ → Bool → S → Type 0
+  -- what it says at the end of input
+  pub last : S → List ℕ
+  -- what it says where it stands behind the lines of a file
+  pub resumed : S → List ℕ
+  -- what it is before its first line
+  pub start : S
+  -- Whether its accepted lines are in the file. Before it has begun they are held.
+  pub is_begun : S → Bool
+
+-- The laws of services whose lines are kept.
+pub record Laws {S : Type 0} (m : Meaning S) : Type 0 where
+  -- a line after which no further one is answered changes nothing
+  pub closes : (was : S) (line text : List ℕ) (next : S) → m.replies was line text false next → next ≡ was
+  -- what has begun stays so
+  pub stays_begun : (was : S) (line text : List ℕ) (more : Bool) (next : S) → m.replies was line text more next → m.is_begun was ≡ true → m.is_begun next ≡ true
