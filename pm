@@ -23,6 +23,10 @@ HELP = """usage: ./pm WORDS < SESSION      builds the program if it is missing o
        ./pm live open FILE       does so behind the lines of FILE
        ./pm live many            does so for many documents, in memory alone
        ./pm live many new FILE   does so, and keeps what it accepts in FILE; open FILE goes on behind its lines
+       ./pm live many pack OLD NEW
+                                 writes the house of the file OLD into NEW, without what was closed or let go
+       ./pm live work N ..       does what live and the words behind N do, but that the steps of one submission go over
+                                 N tokens at most
        ./pm build [live]         builds the one or the other, and tells how far the build is
        ./pm try WORDS < SESSION  runs the words at once, with nothing proved; so does ./pm try live
        ./pm try build [live]     builds the one or the other with nothing proved, and prints its path
@@ -58,7 +62,7 @@ statuses
   Of live: 0 all lines were answered, to the end of input; 1 line 1 or 2 is faulty or missing, which the line written
   last says; 3 and 4 a read or a write failed, after the answers written; 5 no memory to begin with; 6 a call of the
   disk failed; 7 FILE is missing, there already or may not be taken; 8 another process has it open; 9 it is no file of
-  live, or its lines are not accepted. With 2 to 9 standard error says which.
+  live, or its lines are not accepted; 10 the house was not packed. With 2 to 10 standard error says which.
   70 the program or the library could not be built
   127 the toolchain is missing
 

@@ -1,8 +1,8 @@
-// Loads the server with editors that type, in memory and over a folder, and with the same a relay that checks nothing, and one that keeps
-// the documents of Yjs (load-relay.js). Tells how long it takes until the others have a letter, the memory, and the processor's time. At
-// the end each document has all its letters.
+// Loads the server with editors that type, in memory and over a folder, by a log for each document or a house of all, and with the same a
+// relay that checks nothing, and one that keeps the documents of Yjs (load-relay.js). Tells how long it takes until the others have a
+// letter, the memory, and the processor's time. At the end each document has all its letters.
 // usage: node bench/server-load.js [EDITORS] [DOCUMENTS] [SECONDS] [SIDE..]
-//   2000, 200 and 600 unless told, two letters a second; the sides are memory, folder, relay and yjs, one after the other
+//   2000, 200 and 600 unless told, two letters a second; the sides are memory, folder, house, relay and yjs, one after the other
 // The variable PM_LIVE names another program than the one that is built, FOLDER where the folder is made. Others are the server's own.
 
 "use strict"
@@ -82,6 +82,7 @@ const OURS = {kind: "ours", start: startOurs, lengthOf: lengthOurs}, THEIRS = {k
 const SIDES = {
   memory: {...OURS, title: "server in memory"},
   folder: {...OURS, title: "server over a folder"},
+  house: {...OURS, title: "server over a house"},
   relay: {...THEIRS, title: "relay"},
   yjs: {...THEIRS, title: "Yjs"},
 }

@@ -76,19 +76,24 @@ class Authority {
   }
 }
 
-// The same calls on an authority in this process.
+// The same calls on an authority in this process, or a house.
 class Inside {
-  constructor(authority) {
-    this.authority = authority
+  /// `opened` is what the package opens, or a promise of it.
+  constructor(opened) {
+    this.opened = opened
     this.ended = new Promise(resolve => { this.end = resolve })
   }
 
-  async askLine(line) { return this.authority.tell(line) }
+  async askLine(line) { return (await this.opened).tell(line) }
 
   async ask(message) { return JSON.parse(await this.askLine(JSON.stringify(message))) }
 
-  close() {
-    this.authority.close()
+  /// The bytes of memory that this process takes.
+  get bytes() { return process.memoryUsage().rss }
+
+  async close() {
+    const opened = await this.opened
+    opened.close()
     this.end(0)
     return this.ended
   }
@@ -120,4 +125,4 @@ async function startAuthority(schema, doc = null, words = command()) {
   return authority
 }
 
-module.exports = {Authority, startAuthority, command}
+module.exports = {Authority, ENGINES, Inside, startAuthority, command}

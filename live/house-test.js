@@ -1,13 +1,13 @@
-// Drives a house of many documents, and beside it a process of the live authority for each of them. Editors of ProseMirror's own libraries
-// make random transactions, whose messages come late, in another order, twice or never; documents are read at versions, let their old
-// steps go, are closed and opened again. The house has to answer as the processes do, and ProseMirror has to come to its documents by
-// the logs. Of one seed the lines to each document are the same in each run. The last line is `N passed, M failed`.
+// Drives a house of many documents, and beside it a process of the live authority for each of them, or by `PM_LIVE=addon` all in
+// this process. Editors of ProseMirror's own libraries make random transactions, whose messages come late, in another order, twice or
+// never; documents are read at versions, let their old steps go, are closed and opened again. The house has to answer as the
+// authorities do, and ProseMirror has to come to its documents by the logs. Of one seed the lines to each document are the same in each
+// run. The last line is `N passed, M failed`.
 // usage: node live/house-test.js [STEPS [SEED]]      until the logs have so many steps in all, HOUSE_STEPS or 3,000 unless told
 
 "use strict"
 
 const {Node} = require("prosemirror-model")
-const {command} = require("./authority")
 const {Beside} = require("./beside")
 const {join} = require("./client")
 const {Desk, newCounts} = require("./desk")
@@ -173,10 +173,6 @@ async function main() {
   console.log(`${steps} steps of ${DOCUMENTS} documents, ${answers} answers compared; ${JSON.stringify(counts)}`)
 }
 
-if (["wasm", "addon"].includes(command()[0])) {
-  console.log("house: all left out, for an engine in this process has no house\n0 passed, 0 failed")
-  process.exit(0)
-}
 main().catch(error => judge(false, error.stack)).finally(() => {
   console.log(`seed ${SEED}\n${passed} passed, ${failed} failed`)
   process.exit(failed > 0 ? 1 : 0)

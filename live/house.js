@@ -1,4 +1,5 @@
-// The house of many documents, as a process: `./pm live many`. docs/use/HOUSE.md describes the lines.
+// The house of many documents, as a process, `./pm live many`, or in this one by the node addon (bindings/js).
+// docs/use/HOUSE.md describes the lines.
 //
 //   const house = new House()
 //   await house.name("basic", schema)
@@ -8,7 +9,7 @@
 
 "use strict"
 
-const {Authority, command} = require("./authority")
+const {Authority, ENGINES, Inside, command} = require("./authority")
 
 // The code of a line whose `op` there is not.
 const UNKNOWN = 7
@@ -24,11 +25,17 @@ class HouseDocument {
   ask(message) { return this.house.ask({...message, in: this.name}) }
 }
 
+async function openInside(kind) {
+  const {openHouse} = await import("../bindings/js/src/index.js")
+  return openHouse({kind})
+}
+
 class House {
-  /// `words` are the program and its words; those of `authority.js` unless told. `file` are the words of a file: `new` or `open`, and
-  /// the file.
+  /// `words` are the program and its words, or `addon`, since the module has no house; those of `authority.js` unless told. `file` are
+  /// the words of a file, which a process alone has: `new` or `open`, and the file.
   constructor(words = command(), file = []) {
-    this.process = new Authority([...words, "many", ...file])
+    const [kind] = words
+    this.process = ENGINES.includes(kind) ? new Inside(openInside(kind)) : new Authority([...words, "many", ...file])
     this.ended = this.process.ended
   }
 

@@ -132,7 +132,11 @@ export class Connection {
     const {op, id, document, clientID} = message
     if (isLate) throw new Refusal("stopping", "the server stops")
     if (document !== undefined && document !== this.name) throw new Refusal("document", "the message is of another document")
-    if (!this.document) return greet(this, message)
+    if (!this.document) {
+      // (to open a document may take longer)
+      clearTimeout(this.#timers.hello)
+      return greet(this, message)
+    }
     if (clientID !== undefined && clientID !== this.clientID) throw new Refusal("client-id", "this is not your client's ID")
     const known = Object.hasOwn(OPS, op) ? OPS[op] : null
     if (!known) throw new Refusal("op", "there is no such op")
@@ -169,7 +173,6 @@ export class Connection {
 
   /** It is welcome: it hears of the document from a version on. */
   join(document, clientID, sent) {
-    clearTimeout(this.#timers.hello)
     this.document = document
     this.clientID = clientID
     this.sent = sent

@@ -8,7 +8,7 @@ import {entriesIn} from "./store/entries.js"
 /** Versions are written with 32 bits. No log is so long, so a submission of this version is one of another than the log's. */
 const NO_VERSION = 4_294_967_295
 
-/** For how many milliseconds an answer of a process is waited for, and how often it is looked whether one is. */
+/** For how many milliseconds an answer of a process is waited for unless told, and how often it is looked whether one is. */
 const PATIENCE = 120_000
 const LOOK = 10_000
 
@@ -160,7 +160,8 @@ export class Live {
 
   // One that does not answer for so long is ended, by which who waits is told.
   #watch() {
-    if (this.#waiting.length && Date.now() - this.#heard > PATIENCE) this.#process.kill("SIGKILL")
+    const [asked] = this.#waiting
+    if (asked && Date.now() - this.#heard > asked.patience) this.#process.kill("SIGKILL")
   }
 
   #fail(error) {
@@ -170,17 +171,17 @@ export class Live {
   }
 
   // The answers that come next, so many, to lines that are written at once.
-  #answers(count, lines) {
+  #answers(count, lines, patience = PATIENCE) {
     if (this.#fault) return Promise.reject(this.#fault)
     if (this.#waiting.length == 0) this.#heard = Date.now()
     return new Promise((resolve, reject) => {
-      this.#waiting.push({count, answers: [], resolve, reject})
+      this.#waiting.push({count, answers: [], patience, resolve, reject})
       if (lines.length) this.#process.stdin.write(`${lines.join("\n")}\n`)
     })
   }
 
   /** The answer that comes next, to what is written: lines, none where the process speaks first. */
-  async next(lines = []) { return JSON.parse((await this.#answers(1, lines))[0]) }
+  async next(lines = [], patience = PATIENCE) { return JSON.parse((await this.#answers(1, lines, patience))[0]) }
 
   /** The answers to lines, as their texts. */
   tell(...lines) { return this.#answers(lines.length, lines) }

@@ -25,11 +25,10 @@ export GEZHUFET_FOLDER="${GEZHUFET_FOLDER:-$top/out/server}"
 
 command -v node >/dev/null 2>&1 || { echo "server: node is missing (Debian: nodejs)" >&2 && exit 127; }
 get_server_packages || { echo "server: a package is missing, and could not be installed: $server_packages" >&2 && exit 127; }
-if [ "${GEZHUFET_STORE-}" = postgres ]; then
-  get_database || { echo "server: a package is missing, and could not be installed: $database_packages" >&2 && exit 127; }
-elif [ "${GEZHUFET_STORE:-folder}" = folder ] && [ -z "${GEZHUFET_PROGRAM-}" ]; then
-  "$top/pm" build live
-fi
+case ${GEZHUFET_STORE:-folder} in
+postgres) get_database || { echo "server: a package is missing, and could not be installed: $database_packages" >&2 && exit 127; } ;;
+folder | house) [ -n "${GEZHUFET_PROGRAM-}" ] || "$top/pm" build live ;;
+esac
 [ -f "$top/bindings/js/gezhufet.wasm" ] || "$top/pm" wasm || echo "server: without the module comments stay where they were made" >&2
 
 if [ -z "${GEZHUFET_SECRET-}" ]; then

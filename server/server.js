@@ -56,7 +56,8 @@ class Server {
   async start() {
     const {settings, log} = this, engines = new Engines({kind: settings.engine, count: settings.engines})
     const hasEngine = await engines.isThere()
-    if (!hasEngine && settings.store != "folder") throw new Error("this store needs the engine in this process: ./pm wasm builds it")
+    if (!hasEngine && ["postgres", "memory"].includes(settings.store))
+      throw new Error("this store needs the engine in this process: ./pm wasm builds it")
     if (!hasEngine) log.warn("no-engine-here", {message: "comments' places are not carried along; ./pm wasm builds the engine for it"})
     this.access = (await import(pathToFileURL(settings.access))).access
     this.store = storeOf(settings, {engines, log})

@@ -72,7 +72,7 @@ const isLocal = host => host == "localhost" || host == "::1" || /^127\.\d+\.\d+\
 
 function checked(settings) {
   const {store, secret, open, host, database, messageBytes} = settings
-  if (!["folder", "postgres", "memory"].includes(store)) throw new Error(`there is no store ${store}`)
+  if (!["folder", "house", "postgres", "memory"].includes(store)) throw new Error(`there is no store ${store}`)
   if (store == "postgres" && !database) throw new Error("the store postgres needs GEZHUFET_DATABASE")
   if (secret.length == 0) throw new Error("there is no secret to sign tokens with: GEZHUFET_SECRET")
   if (secret.some(it => it.length < 16)) throw new Error("a secret has 16 characters at least")

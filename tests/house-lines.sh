@@ -53,5 +53,41 @@ opened() { seq "$1" | sed 's/.*/{"op":"open","in":"d&","schema":"s1","doc":null}
 } | $program many >"$got" 2>/dev/null
 judge "there is room for so many" $? "$wanted"
 
+# A submission has a limit of work: a letter is 2, and two letters are 4. What is no submission to an open document has none.
+letter='{"stepType":"replace","from":0,"to":0,"slice":{"content":[{"type":"text","text":"x"}]}}'
+submit() { echo "{\"op\":\"submit\",\"in\":\"$1\",\"version\":$2,\"clientID\":1,\"steps\":[$3]}"; }
+folder=$(mktemp -d) || exit 70
+{
+  echo '{"schema":"s1"}'
+  echo '{"size":0,"version":0}'
+  echo '{"limit":3}'
+  echo '{"accepted":{"count":1,"from":0}}'
+  echo '{"none":"document"}'
+  echo '{"version":1}'
+  echo '{"limit":3}'
+} >"$wanted"
+# shellcheck disable=SC2086
+{
+  named 1
+  opened 1
+  submit d1 0 "$letter,$letter"
+  submit d1 0 "$letter"
+  submit d2 0 "$letter,$letter"
+  submit d1 0 "$letter"
+  submit d1 9 "$letter,$letter"
+} | tee "$folder/lines" | $program work 3 many >"$got" 2>/dev/null
+judge "a submission is too much work" $? "$wanted"
+# shellcheck disable=SC2086
+$program work 3 many new "$folder/log" <"$folder/lines" >"$got" 2>/dev/null
+judge "a submission is too much work, over a file" $? "$wanted"
+{
+  echo '{"documents":1,"entries":1,"schemas":1,"tokens":1}'
+  echo '{"limit":1}'
+} >"$wanted"
+# shellcheck disable=SC2086
+submit d1 1 "$letter" | $program work 1 many open "$folder/log" >"$got" 2>/dev/null
+judge "the file knows of no limit" $? "$wanted"
+rm -rf "$folder"
+
 echo "$passed passed, $failed failed"
 [ "$failed" -eq 0 ]

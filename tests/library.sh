@@ -1,7 +1,8 @@
 #!/bin/sh
 # Tests the C library and the Python package over it: each call with each bad argument, under valgrind and with the address
 # sanitizer, memory refused at each allocation, threads; the same bytes for the same lines as the live authority, and as the files
-# of tests/editor have for a client; and whole sessions, whose reports have to be those of `replay`.
+# of tests/editor have for a client and those of tests/house for a house; and whole sessions, whose reports have to be those of
+# `replay`.
 # What is missing (the library, gcc, valgrind, python3, the built programs) is said, and what needs it is left out.
 # The last line is `N passed, M failed`.
 # usage: tests/library.sh [--build]      with --build a library that is missing below out/, or old, is built with nothing proved
@@ -107,6 +108,9 @@ plays() {
 
 for file in "$top"/tests/editor/*.in; do
   [ -f "$file" ] && plays client "$file" "${file%.in}.out"
+done
+for file in "$top"/tests/house/*.in; do
+  plays house "$file" "${file%.in}.out"
 done
 if has "$live"; then
   for file in "$top"/crates/pm_live/stdin "$top"/tests/library/*.lines; do

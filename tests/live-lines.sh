@@ -52,6 +52,46 @@ says "line 2 has a fault" 1 "{\"fault\":16,\"line\":2}$lf"
 # A line of 1,048,576 bytes is read; one that is longer by a byte is passed over, and the next is answered.
 said=$(printf '%s\n%s\n%-1048576s\n%-1048577s\n%s\n' "$schema" "$doc" "$since" "$since" "$since" | run)
 says "a line is too long" 0 "$opened$lf$entries$lf{\"fault\":3}$lf$entries$lf"
+# A submission has a limit of work: here a mark over three tokens, which is 4, and two letters, 2 each. A wrong ID is a fault before it.
+mark='{"stepType":"addMark","from":0,"to":3,"mark":{"type":"em"}}'
+letter='{"stepType":"replace","from":1,"to":1,"slice":{"content":[{"type":"text","text":"x"}]}}'
+submit='{"op":"submit","version":%s,"clientID":1,"steps":[%s]}\n'
+marked=$(printf '%s' "$schema" | sed 's/}$/,"marks":[{"name":"em"}]}/')
+# shellcheck disable=SC2059
+said=$(printf "%s\\n%s\\n$submit$submit$submit$submit%s\\n%s\\n" "$marked" "$doc" 0 "$mark,$letter" 9 "$mark,$letter" 0 "$mark" \
+  1 "$letter,$letter" "{}" '{"op":"submit","version":3}' | run work 4)
+says "a submission is too much work" 0 "$opened$lf{\"limit\":4}$lf{\"limit\":4}$lf\
+{\"accepted\":{\"count\":1,\"from\":0}}$lf{\"accepted\":{\"count\":2,\"from\":1}}$lf{\"fault\":6}$lf{\"fault\":6}$lf"
+# A gap's tokens are of the range, and a range past the document and one that is turned round count all the same.
+around='{"stepType":"replaceAround","from":0,"to":4,"gapFrom":1,"gapTo":3,"insert":1,"slice":{"content":[{"type":"paragraph"}]}}'
+past='{"stepType":"replace","from":0,"to":9}'
+turned='{"stepType":"replace","from":9,"to":0}'
+# shellcheck disable=SC2059
+said=$(printf "%s\\n%s\\n$submit$submit$submit$submit" "$schema" "$doc" 0 "$around" 0 "$past" 0 "$turned,$around" 0 "$turned" | run work 7)
+says "the work of a gap and of ranges that are none" 0 "$opened$lf{\"accepted\":{\"count\":1,\"from\":0}}$lf{\"limit\":7}$lf\
+{\"limit\":7}$lf{\"version\":1}$lf"
+said=$(run work 4x </dev/null)
+says "a limit that is no number" 2 ""
+said=$(run work +4 </dev/null)
+says "a limit with a sign" 2 ""
+said=$(run work 18446744073709551616 </dev/null)
+says "a limit past 64 bits" 2 ""
+said=$(run work 18446744073709551615 </dev/null)
+says "the greatest limit" 1 "{\"fault\":2,\"line\":1}$lf"
+said=$(run work </dev/null)
+says "a limit is missing" 2 ""
+# The limit is no part of the file: what came under another is taken up.
+kept=$(mktemp -d) || exit 70
+# shellcheck disable=SC2059
+said=$(printf "%s\\n%s\\n$submit$submit" "$schema" "$doc" 0 "$letter,$letter" 2 "$letter,$letter,$letter" | run work 4 new "$kept/log")
+says "a limit over a new file" 0 "$opened$lf{\"accepted\":{\"count\":2,\"from\":0}}$lf{\"limit\":4}$lf"
+# shellcheck disable=SC2059
+said=$(printf "$submit$submit" 2 "$letter" 2 "" | run work 1 open "$kept/log")
+says "a smaller limit over the same file" 0 "{\"size\":6,\"version\":2}$lf{\"limit\":1}$lf{\"accepted\":{\"count\":0,\"from\":2}}$lf"
+# shellcheck disable=SC2059
+said=$(printf "$submit" 2 "$letter,$letter,$letter" | run open "$kept/log")
+says "no limit over the same file" 0 "{\"size\":6,\"version\":2}$lf{\"accepted\":{\"count\":3,\"from\":2}}$lf"
+rm -rf "$kept"
 # An ID has at most 1,024 bytes, its quotes counted.
 long=$(printf '%01022d' 0)
 ids='{"op":"submit","version":0,"clientID":"%s","steps":[]}\n'

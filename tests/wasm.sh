@@ -1,8 +1,8 @@
 #!/bin/sh
 # Tests the engine as a WebAssembly module, and the JavaScript package over it: the heap by itself, the package by its own tests, the
 # same answers as the program pm_live for each file of lines in tests/live and tests/library and for random sessions, and editors of
-# ProseMirror's over it. What is missing (gcc, node, ProseMirror's packages, the built program or module) is said, and what needs it
-# is left out.
+# ProseMirror's over it; and of a house, which the node addon alone has, the answers that the files of tests/house have, and editors. What
+# is missing (gcc, node, ProseMirror's packages, the built program or module) is said, and what needs it is left out.
 # The last line is `N passed, M failed`.
 # usage: tests/wasm.sh [--build]      with --build Debian's binaryen and node's headers are installed where they are missing, and the module
 # that is missing, or old, is built with nothing proved, and so is the C library for the node addon
@@ -133,10 +133,16 @@ engines=
 [ ! -e "$package/addon/build/gezhufet.node" ] || engines="$engines addon"
 [ -n "$engines" ] || finish
 
-# Of one file the answers are known without the program.
+# Of these the answers are known without the program.
 for kind in $engines; do
   node "$top/tests/wasm/lines.js" "$kind" <"$top/crates/pm_live/stdin" >"$work/came"
   judge "$kind answers crates/pm_live/stdin otherwise than its stdout" cmp "$work/came" "$top/crates/pm_live/stdout"
+  # The module has no house.
+  [ "$kind" = addon ] || continue
+  for file in "$top"/tests/house/*.in; do
+    node "$top/tests/wasm/lines.js" "$kind" many <"$file" >"$work/came"
+    judge "$kind answers ${file#"$top"/} otherwise than its .out" cmp "$work/came" "${file%.in}.out"
+  done
 done
 
 # shellcheck disable=SC2086
@@ -162,6 +168,9 @@ fi
 if have_packages; then
   for kind in $engines; do
     judge "editors over $kind" env PM_LIVE="$kind" node "$top/live/test.js" 10000 5
+    tail -n 3 "$work/said"
+    [ "$kind" = addon ] || continue
+    judge "a house over $kind" env PM_LIVE="$kind" node "$top/live/house-test.js" 1000 5
     tail -n 3 "$work/said"
   done
 else

@@ -102,6 +102,9 @@ fn main(rt: HostRuntime) {
     if exports::pm_c_open_client(alloc, &mut talk) {
         exports::pm_c_close(std::mem::replace(&mut talk, handle::Handle::empty(alloc)));
     }
+    if exports::pm_c_open_house(alloc, &mut talk) {
+        exports::pm_c_close(std::mem::replace(&mut talk, handle::Handle::empty(alloc)));
+    }
     if exports::pm_c_open_authority(alloc, &mut talk) {
         let of = std::mem::replace(&mut talk, handle::Handle::empty(alloc));
         let size = exports::pm_c_tell(alloc, of, &mut talk, "{}".as_bytes());
@@ -153,7 +156,7 @@ def unproved(name):
     """Returns the file of the module of a crate with nothing proved, recorded anew where a source is newer."""
     at = f"{UNPROVED}/{name}"
     made = f"{at}/record/module.bc"
-    if os.path.isfile(made) and os.path.getmtime(made) > newest(sources(name)):
+    if os.path.isfile(made) and os.path.getmtime(made) > max(newest(sources(name)), os.path.getmtime(__file__)):
         return made
     # What is tried is compiled with the address sanitizer, for which there is no need here.
     rt = view(f"{at}/kit", f"{at}/record", "-fsanitize=address")

@@ -13,6 +13,7 @@ typedef struct {
 extern uint32_t pm_c_version(void);
 extern bool pm_c_open_authority(handle *to);
 extern bool pm_c_open_client(handle *to);
+extern bool pm_c_open_house(handle *to);
 extern size_t pm_c_tell(handle of, handle *to, const uint8_t *line, size_t size);
 extern size_t pm_c_answer(handle of, handle *to, uint8_t *into, size_t room);
 extern bool pm_c_is_open(handle of, handle *to);
@@ -41,6 +42,16 @@ typedef struct {
 
 static bool is_line(given it) { return it.text || !it.size; }
 
+/* A talk of which no line came, or NULL where there is no memory for it. */
+static gezhufet_talk *made_by(bool (*open)(handle *to)) {
+  gezhufet_talk *made = calloc(1, sizeof *made);
+  if (made && !open(&made->held)) {
+    free(made);
+    return NULL;
+  }
+  return made;
+}
+
 /* Opens a talk by its lines, and gives the number of bytes of the answer. A line before the last has an answer of its own only where
  * it has a fault or there is no memory for it, and then no further line is told. */
 static size_t opened_by(bool (*open)(handle *to), const given *lines, size_t count, gezhufet_talk **talk) {
@@ -50,12 +61,8 @@ static size_t opened_by(bool (*open)(handle *to), const given *lines, size_t cou
   *talk = NULL;
   for (at = 0; at < count; at++)
     if (!is_line(lines[at])) return 0;
-  made = calloc(1, sizeof *made);
+  made = made_by(open);
   if (!made) return 0;
-  if (!open(&made->held)) {
-    free(made);
-    return 0;
-  }
   for (at = 0; at < count && !size; at++) size = told(made, lines[at].text, lines[at].size);
   *talk = made;
   return size;
@@ -71,6 +78,12 @@ size_t gezhufet_open_client(const char *schema, size_t schema_size, const char *
                             size_t client_size, gezhufet_talk **talk) {
   const given lines[] = {{schema, schema_size}, {document, document_size}, {client, client_size}};
   return opened_by(pm_c_open_client, lines, 3, talk);
+}
+
+bool gezhufet_open_house(gezhufet_talk **talk) {
+  if (!talk) return false;
+  *talk = made_by(pm_c_open_house);
+  return *talk != NULL;
 }
 
 bool gezhufet_is_open(gezhufet_talk *talk) { return talk && pm_c_is_open(talk->held, &talk->held); }

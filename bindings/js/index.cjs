@@ -8,6 +8,7 @@ const load = () => import("./src/index.js")
 exports.openEngine = async (...words) => (await load()).openEngine(...words)
 exports.openAuthority = async (...words) => (await load()).openAuthority(...words)
 exports.openClient = async (...words) => (await load()).openClient(...words)
+exports.openHouse = async (...words) => (await load()).openHouse(...words)
 
 // An error of the package is known by its name, since its class is loaded later than this file.
 function errorClass(...names) {
@@ -18,8 +19,13 @@ function errorClass(...names) {
   return known
 }
 
-exports.GezhufetError = errorClass("GezhufetError", "FaultError", "RefusedError", "MemoryError", "EndedError")
+exports.GezhufetError = errorClass(
+  "GezhufetError", "FaultError", "RefusedError", "LackError", "ForgottenError", "VersionError", "MemoryError", "EndedError",
+)
 exports.FaultError = errorClass("FaultError")
 exports.RefusedError = errorClass("RefusedError")
+exports.LackError = errorClass("LackError")
+exports.ForgottenError = errorClass("ForgottenError")
+exports.VersionError = errorClass("VersionError")
 exports.MemoryError = errorClass("MemoryError")
 exports.EndedError = errorClass("EndedError")

@@ -151,6 +151,114 @@ export interface Client<N = JSONObject, S = JSONObject> {
   close(): void
 }
 
+/** What `map` gives of a position: where it stands, and whether the token on its side was taken out. */
+export interface MapResult {
+  pos: number
+  deleted: boolean
+}
+
+/** So many tokens that the client's step to `version` put in; without both, such as were there before. */
+export interface Authored {
+  size: number
+  clientID?: ClientID
+  version?: number
+}
+
+/** An open document: its first kept version, its name, its schema's name, how many tokens it has, and its version. */
+export interface Listed {
+  from: number
+  in: string
+  schema: string
+  size: number
+  version: number
+}
+
+/**
+ * A document of a house, which need not be open. Each call throws a LackError where none of its name is, and one with a version before
+ * the first kept one a ForgottenError.
+ */
+export interface HouseDocument<N = JSONObject, S = JSONObject> {
+  readonly name: string
+  /** The version to which the log has come. */
+  readonly version: number
+  /** As of an authority, but for the version, which is the document's. */
+  submit(submission: Submission): Submitted
+  since(version?: number, most?: number): Entries<S>
+  /**
+   * The document and its version, as it is or as it was at a version.
+   * @throws VersionError where the document has not come so far
+   */
+  doc(version?: number): Document<N>
+  /**
+   * Where positions of the document at the version `from` stand at the version `to`. Each keeps to what comes after it by side 1, and to
+   * what comes before it by -1.
+   * @throws LackError where a position is past the document's end, or `to` below `from`
+   * @throws VersionError where the document has not come to `to`
+   */
+  map(from: number, to: number, positions: readonly (readonly [pos: number, side: 1 | -1])[]): MapResult[]
+  /**
+   * Who put each token in since the version, in runs as long as can be.
+   * @throws VersionError where the document has not come so far
+   */
+  authors(from: number): Authored[]
+  /**
+   * Takes `count` steps of the log from the version `from` on back, whatever came since, in the client's name. The steps, maybe none,
+   * stand in the log from `version` on. `apart` says that the later steps lie apart from those that were taken back.
+   * @throws VersionError where the log has not so many
+   * @throws RefusedError where a step does not apply; its `index` is of the `count`
+   */
+  revert(what: {clientID: ClientID; from: number; count: number}): {version: number; steps: S[]; apart: boolean}
+  /**
+   * Makes an edit that a client's `edit` takes on the document as it is, in the client's name. Gives the step and its place in the log,
+   * or why there is none.
+   * @throws RefusedError where its step does not apply
+   */
+  edit(clientID: ClientID, edit: JSONObject): {version: number; step: S} | {none: "range" | "place" | "fit"}
+  /**
+   * Lets what lies before a version go, with its memory. Gives the first version that is kept then.
+   * @throws VersionError where the document has not come so far
+   */
+  forget(version: number): number
+  /** Lets the document and its log go. */
+  close(): void
+  /** The answer to a message, which need not name the document, both as JSON values. A fault is an answer too. */
+  ask(message: JSONObject): any
+}
+
+/** A verified authority of many documents, under schemas that have names: 1 to 64 ASCII letters, digits, `_` and `-`. */
+export interface House {
+  readonly engine: unknown
+  /**
+   * Gives a schema a name, which it may be given again.
+   * @throws FaultError where it has a fault; code 23 for a name of another form or of another schema
+   * @throws LackError for a 1,025th schema
+   */
+  nameSchema(name: string, schema: SchemaValue | SchemaJSON | string): void
+  /**
+   * Opens a document of the schema of this name; its log begins at `version`, 0 unless told. Without `doc` the top type is filled.
+   * @throws LackError where one of the name is open, where no schema has that name, and for a 65,537th document
+   * @throws FaultError where the document has a fault; code 23 for a name of another form
+   */
+  open<N = JSONObject, S = JSONObject>(
+    name: string,
+    schema: string,
+    doc?: NodeValue | JSONObject | string | null,
+    version?: number
+  ): HouseDocument<N, S>
+  /** The document of this name, for its calls. It may be opened later. */
+  document<N = JSONObject, S = JSONObject>(name: string): HouseDocument<N, S>
+  /** The open documents, in the order in which they were opened. */
+  documents(): Listed[]
+  /** How many documents, entries in their logs, schemas and tokens there are. */
+  statistics(): {documents: number; entries: number; schemas: number; tokens: number}
+  /** The answer to a message, both as JSON values. A fault is an answer too. */
+  ask(message: JSONObject): any
+  /** The answer to a line, both without LF. A fault is an answer too. */
+  tell(line: string): string
+  /** Lets all documents and their logs go. Later calls throw an EndedError. */
+  close(): void
+}
+
 /** What a client begins with: the authority's document at a version, 0 unless told, and an ID that no other client of it has. */
 export interface ClientOf<D> {
   schema: D
@@ -186,6 +294,11 @@ export interface Engine {
   openAuthority(schema: SchemaJSON | string, doc?: NodeValue | JSONObject | string | null): Authority
   openClient<N, S = JSONObject>(of: ClientOf<SchemaValue<N>>, options?: AuthorityOptions<S>): Client<N, S>
   openClient(of: ClientOf<SchemaJSON | string>): Client
+  /**
+   * Opens a house; see `openHouse` below.
+   * @throws GezhufetError over wasm, which has no house
+   */
+  openHouse(options?: AuthorityOptions<any>): House
 }
 
 /**
@@ -221,6 +334,15 @@ export function openClient<N, S = JSONObject>(
 ): Promise<Client<N, S>>
 export function openClient(of: ClientOf<SchemaJSON | string>, options?: EngineOptions & {engine?: Engine}): Promise<Client>
 
+/**
+ * Opens a house over the addon, in an engine of its own unless one is given. It has no schemas and no documents yet. With the class
+ * `Step` documents whose schema was given as a `Schema` give steps of it, and `doc` gives a `Node` of that schema in each case.
+ * @throws EndedError where the addon was not built
+ * @throws GezhufetError where the engine is wasm, which has no house
+ * @throws MemoryError where there is no memory for it
+ */
+export function openHouse(options?: AuthorityOptions<any> & {kind?: "addon"; engine?: Engine}): Promise<House>
+
 /** Each error of the package. */
 export class GezhufetError extends Error {}
 
@@ -242,10 +364,28 @@ export class RefusedError extends GezhufetError {
   readonly at?: number
 }
 
+/** What a call of a house needs is not there. */
+export class LackError extends GezhufetError {
+  /** No such open document, one that is open already, no such schema, no room for one more, or a position or version out of range. */
+  readonly what: "document" | "closed" | "schema" | "room" | "range"
+}
+
+/** The version that is asked for lies before the first one that a house has kept of the document. */
+export class ForgottenError extends GezhufetError {
+  /** The first kept version. */
+  readonly from: number
+}
+
+/** The document of a house has not come to the version that is asked for, or its log takes no more. */
+export class VersionError extends GezhufetError {
+  /** The document's version. */
+  readonly version: number
+}
+
 /** There was no memory. Nothing has changed, and the call may be made again. */
 export class MemoryError extends GezhufetError {}
 
-/** The authority or the client was closed, or its engine has stopped by a fault of its own, which `cause` is. */
+/** The authority, the client or the house was closed, or its engine has stopped by a fault of its own, which `cause` is. */
 export class EndedError extends GezhufetError {}
 
 /** The line that a talk begins with, of a `Schema`. An Error names what it can't have. */

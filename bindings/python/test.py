@@ -3,24 +3,36 @@
 import inspect
 import threading
 import unittest
-from typing import Any, List, Union
+from typing import Any, Callable, List, Union
 
 import gezhufet
 from gezhufet import (
+    Accepted,
+    Authored,
     Authority,
     Client,
     Confirmed,
     Cursor,
+    Edited,
     Fault,
+    Forgotten,
     Gap,
+    House,
+    HouseDocument,
     Kept,
+    Lack,
+    Listed,
     Made,
+    MapResult,
     NothingMade,
     Rebased,
     Refusal,
     Refused,
+    Reverted,
+    Snapshot,
     Stale,
     State,
+    Statistics,
     WrongVersion,
     edits,
 )
@@ -392,6 +404,176 @@ class ClientTests(unittest.TestCase):
         for it in threads:
             it.join()
         self.assertEqual(self.ann.state.pending, 200)
+
+
+class HouseTests(unittest.TestCase):
+    def setUp(self) -> None:
+        self.house = House()
+        self.addCleanup(self.house.close)
+        self.house.name_schema("plain", SCHEMA)
+        self.notes = self.house.open("notes", "plain", DOC, 5)
+
+    def lacks(self, what: str, call: Callable[..., Any], *words: Any) -> None:
+        with self.assertRaises(Lack) as raised:
+            call(*words)
+        self.assertEqual(raised.exception.what, what)
+        self.assertNotEqual(str(raised.exception), what)
+
+    def faults(self, code: int, call: Callable[..., Any], *words: Any) -> None:
+        with self.assertRaises(Fault) as raised:
+            call(*words)
+        self.assertEqual((raised.exception.code, raised.exception.line), (code, None))
+
+    def is_past(self, version: int, call: Callable[..., Any], *words: Any) -> None:
+        with self.assertRaises(WrongVersion) as raised:
+            call(*words)
+        self.assertEqual(raised.exception.version, version)
+
+    def is_forgotten(self, first: int, call: Callable[..., Any], *words: Any) -> None:
+        with self.assertRaises(Forgotten) as raised:
+            call(*words)
+        self.assertEqual(raised.exception.first, first)
+
+    def test_an_empty_house(self) -> None:
+        with House() as house:
+            self.assertEqual((house.documents, house.statistics), ([], Statistics(0, 0, 0, 0)))
+            self.lacks("document", lambda: house.document("notes").doc)
+            self.lacks("schema", house.open, "notes", "plain")
+
+    def test_a_schema_has_one_name(self) -> None:
+        self.house.name_schema("plain", SCHEMA)
+        self.faults(23, self.house.name_schema, "plain", RICH)
+        self.faults(23, self.house.name_schema, "no name", RICH)
+        self.faults(6, self.house.name_schema, "odd", {})
+        self.house.name_schema("rich", RICH)
+        self.assertEqual(self.house.statistics, Statistics(1, 0, 2, 4))
+
+    def test_documents_are_opened_and_closed(self) -> None:
+        self.lacks("closed", self.house.open, "notes", "plain")
+        self.faults(23, self.house.open, "", "plain")
+        self.faults(16, self.house.open, "plan", "plain", {"type": "paragraph"})
+        plan = self.house.open("plan", "plain")
+        self.assertEqual(plan.at(), Snapshot({"type": "doc", "content": [{"type": "paragraph"}]}, 0))
+        self.assertEqual(self.house.documents, [Listed("notes", "plain", 5, 5, 4), Listed("plan", "plain", 0, 0, 2)])
+        self.notes.close()
+        self.lacks("document", self.notes.close)
+        self.lacks("document", lambda: self.notes.doc)
+        self.assertEqual(self.house.documents, [Listed("plan", "plain", 0, 0, 2)])
+        self.house.open("notes", "plain", DOC)
+        self.assertEqual(self.notes.version, 0)
+
+    def test_documents_are_apart(self) -> None:
+        other = self.house.open("other", "plain", DOC)
+        self.assertEqual(self.notes.submit(5, "ann", [insert(1, "x"), insert(2, "y")]), Accepted(5, 2))
+        self.assertEqual(other.submit(0, "ann", [insert(3, "z")]), Accepted(0, 1))
+        self.assertEqual([text_of(it.doc) for it in (self.notes, other)], ["xyab", "abz"])
+        self.assertEqual([it.version for it in (self.notes, other)], [7, 1])
+        self.assertEqual(other.since(0).client_ids, ["ann"])
+
+    def test_submissions_raise_as_an_authority_s(self) -> None:
+        self.is_past(5, self.notes.submit, 4, "ann", [])
+        self.faults(7, self.notes.submit, 5, "ann", [{"stepType": "none"}])
+        self.faults(6, self.notes.submit, 5, 1.5, [])
+        with self.assertRaises(Refused) as raised:
+            self.notes.submit(5, "ann", [insert(1, "x"), delete(0, 5)])
+        self.assertEqual((raised.exception.index, raised.exception.reason, raised.exception.at), (1, 9, 0))
+        self.assertEqual(self.notes.version, 5)
+
+    def test_the_log_and_earlier_documents_are_told(self) -> None:
+        self.notes.submit(5, "ann", [insert(1, "x")])
+        self.notes.submit(6, 7, [insert(2, "y")])
+        entries = self.notes.since(5, 1)
+        self.assertEqual((entries.client_ids, entries.steps, entries.version), (["ann"], [insert(1, "x")], 6))
+        self.assertEqual(self.notes.since(6).client_ids, [7])
+        self.assertEqual((text_of(self.notes.at(6).doc), self.notes.at(6).version), ("xab", 6))
+        self.assertEqual(self.notes.at(5), Snapshot(DOC, 5))
+        self.is_past(7, self.notes.at, 8)
+        self.is_forgotten(5, self.notes.at, 4)
+        self.is_forgotten(5, self.notes.since, 4)
+
+    def test_positions_are_mapped(self) -> None:
+        self.notes.submit(5, "ann", [insert(2, "xy"), delete(4, 5)])
+        mapped = self.notes.map(5, 7, [(1, 1), (2, -1), (2, 1), (3, -1)])
+        self.assertEqual(mapped, [MapResult(1, False), MapResult(2, False), MapResult(4, True), MapResult(4, True)])
+        self.assertEqual(self.notes.map(5, 6, [(2, -1), (2, 1)]), [MapResult(2, False), MapResult(4, False)])
+        self.lacks("range", self.notes.map, 5, 7, [(5, 1)])
+        self.lacks("range", self.notes.map, 7, 5, [])
+        self.is_past(7, self.notes.map, 5, 8, [])
+        self.is_forgotten(5, self.notes.map, 4, 7, [])
+        self.faults(6, self.notes.map, 5, 7, [(1, 2)])
+
+    def test_tokens_have_authors(self) -> None:
+        self.notes.submit(5, "ann", [insert(1, "xy")])
+        self.notes.submit(6, 7, [insert(2, "z")])
+        self.assertEqual(
+            self.notes.authors(5),
+            [Authored(1, None, None), Authored(1, "ann", 6), Authored(1, 7, 7), Authored(1, "ann", 6), Authored(3, None, None)],
+        )
+        self.assertEqual(self.notes.authors(7), [Authored(7, None, None)])
+        self.is_past(7, self.notes.authors, 8)
+        self.is_forgotten(5, self.notes.authors, 4)
+
+    def test_steps_are_taken_back(self) -> None:
+        self.notes.submit(5, "ann", [insert(1, "xy")])
+        self.notes.submit(6, "bob", [insert(5, "z")])
+        self.assertEqual(self.notes.revert("eve", 5, 1), Reverted(7, [delete(1, 3)], True))
+        self.assertEqual(text_of(self.notes.doc), "abz")
+        self.assertEqual(self.notes.since(7).client_ids, ["eve"])
+        self.is_past(8, self.notes.revert, "eve", 5, 4)
+        self.is_forgotten(5, self.notes.revert, "eve", 4, 1)
+
+    def test_the_house_edits(self) -> None:
+        self.assertEqual(self.notes.edit("bot", edits.text(1, 1, "x")), Edited(5, insert(1, "x")))
+        self.assertEqual(self.notes.edit("bot", edits.text(9, 9, "x")), NothingMade("range"))
+        self.assertEqual(self.notes.edit("bot", edits.lift(1)), NothingMade("place"))
+        self.faults(7, self.notes.edit, "bot", {"op": "undo"})
+        with self.assertRaises(Refused) as raised:
+            self.notes.edit("bot", edits.step(delete(0, 5)))
+        self.assertEqual((raised.exception.index, raised.exception.reason), (0, 9))
+        self.assertEqual((self.notes.version, text_of(self.notes.doc)), (6, "xab"))
+
+    def test_old_steps_are_let_go(self) -> None:
+        self.notes.submit(5, "ann", [insert(1, "x"), insert(2, "y")])
+        self.is_past(7, self.notes.forget, 8)
+        self.assertEqual(self.notes.forget(6), 6)
+        self.assertEqual(self.notes.forget(5), 6)
+        self.is_forgotten(6, self.notes.since, 5)
+        self.assertEqual(self.notes.since(6).steps, [insert(2, "y")])
+        self.assertEqual(self.house.documents, [Listed("notes", "plain", 6, 7, 6)])
+        self.assertEqual(self.house.statistics, Statistics(1, 1, 1, 6))
+
+    def test_clients_of_a_document(self) -> None:
+        at = self.notes.at()
+        with Client(SCHEMA, at.doc, "ann", at.version) as ann, Client(SCHEMA, at.doc, "bob", at.version) as bob:
+            ann.edit(edits.text(1, 1, "x"))
+            self.assertEqual(ann.take(self.notes.tell(ann.compose())), Confirmed(1, 6))
+            bob.take(self.notes.tell(bob.ask()))
+            self.assertEqual([text_of(it.doc) for it in (ann, bob, self.notes)], ["xab"] * 3)
+
+    def test_messages_are_answered_as_they_come(self) -> None:
+        self.assertEqual(self.house.tell({"op": "nothing"}), {"fault": 7})
+        self.assertEqual(self.house.tell({"op": "since", "in": "notes", "version": 5}), self.notes.tell({"op": "since", "version": 5}))
+        self.assertEqual(self.house.document("none").tell({"op": "doc"}), {"none": "document"})
+
+    def test_a_closed_house_raises(self) -> None:
+        self.house.close()
+        self.house.close()
+        for call in (self.notes.close, lambda: self.house.documents, lambda: self.notes.doc):
+            with self.assertRaises(ValueError):
+                call()
+
+    def test_threads_take_turns(self) -> None:
+        def write(document: HouseDocument) -> None:
+            for version in range(50):
+                document.submit(version, "ann", [insert(1, "z")])
+
+        documents = [self.house.open(f"document-{i}", "plain") for i in range(4)]
+        threads = [threading.Thread(target=write, args=(it,)) for it in documents]
+        for it in threads:
+            it.start()
+        for it in threads:
+            it.join()
+        self.assertEqual([text_of(it.doc) for it in documents], ["z" * 50] * 4)
 
 
 if __name__ == "__main__":

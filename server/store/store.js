@@ -1,6 +1,7 @@
 // What keeps documents: one interface of five calls, whatever is behind it.
 
 import {FolderStore} from "./folder.js"
+import {HouseStore} from "./house.js"
 import {MemoryStore} from "./memory.js"
 import {PostgresStore} from "./postgres.js"
 
@@ -22,7 +23,8 @@ import {PostgresStore} from "./postgres.js"
  * @property {(message: {version: number, clientID: string, steps: object[]}) => Promise<object>} submit
  *   the engine's answer. `accepted` comes once the steps are kept for good. Where it fails, it is not known whether they are
  * @property {(version: number, bytes: number) => Promise<import("./entries.js").Entries>} since
- *   the log's entries from a version on, as many as so many bytes hold, one at least where there is one; `version` is that of their end
+ *   the log's entries from a version on, at most as many as so many bytes hold, one at least where there is one; `version` is that of
+ *   their end
  * @property {(isFirst?: boolean) => Promise<{doc: object, version: number}>} doc the document as it is, or the first one
  * @property {(id: string, value: any, isFleeting?: boolean) => Promise<any>} note
  *   keeps a value beside the document, or takes it away where it is undefined. A function is given the value that is there, whichever
@@ -45,7 +47,7 @@ import {PostgresStore} from "./postgres.js"
  * @property {() => Promise<void>} end
  */
 
-const STORES = {folder: FolderStore, memory: MemoryStore, postgres: PostgresStore}
+const STORES = {folder: FolderStore, house: HouseStore, memory: MemoryStore, postgres: PostgresStore}
 
 /**
  * The store that the settings name.

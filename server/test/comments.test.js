@@ -3,7 +3,7 @@
 import assert from "node:assert/strict"
 import {after, before, test} from "node:test"
 import {setTimeout as wait} from "node:timers/promises"
-import {hasProgram, newFolder, serve} from "./servers.js"
+import {LOGS, newFolder, serve, skipsFiles} from "./servers.js"
 import {inserted, join} from "./talker.js"
 
 let server
@@ -69,24 +69,23 @@ test("of a version that is gone they are to be told again", async () => {
   await ann.close()
 })
 
-const skip = hasProgram ? false : "pm live is not built"
-
-test("past the server's end they are where they were carried to", {skip}, async () => {
-  const settings = {store: "folder", folder: newFolder(), snapshotEvery: 10, messageBurst: 1_000}
-  const first = await serve(settings), ann = await join(first.address, "kept", "ann")
-  await ann.submit(0, "Hello, world")
-  await ann.ask({op: "comment", version: 1, from: 8, to: 13, text: "a"})
-  for (let version = 1; version < 25; version++) await ann.submit(version, "x")
-  await wait(100)
-  await ann.ask({op: "comment", version: 25, from: 1, to: 2, text: "b"})
-  await ann.submit(25, "y")
-  await ann.close()
-  await first.stop()
-  const second = await serve(settings), bob = await join(second.address, "kept", "bob")
-  assert.deepEqual(placesOf(bob.welcome.comments), [["a", 33, 38], ["b", 2, 3]])
-  assert.equal(bob.welcome.comments[0].version, 26)
-  await bob.submit(26, "z")
-  assert.deepEqual(placesOf(await listOf(bob)), [["a", 34, 39], ["b", 3, 4]])
-  await bob.close()
-  await second.stop()
-})
+for (const store of Object.keys(LOGS))
+  test(`past the server's end they are where they were carried to, ${store}`, {skip: skipsFiles}, async () => {
+    const settings = {store, folder: newFolder(), snapshotEvery: 10, messageBurst: 1_000}
+    const first = await serve(settings), ann = await join(first.address, "kept", "ann")
+    await ann.submit(0, "Hello, world")
+    await ann.ask({op: "comment", version: 1, from: 8, to: 13, text: "a"})
+    for (let version = 1; version < 25; version++) await ann.submit(version, "x")
+    await wait(100)
+    await ann.ask({op: "comment", version: 25, from: 1, to: 2, text: "b"})
+    await ann.submit(25, "y")
+    await ann.close()
+    await first.stop()
+    const second = await serve(settings), bob = await join(second.address, "kept", "bob")
+    assert.deepEqual(placesOf(bob.welcome.comments), [["a", 33, 38], ["b", 2, 3]])
+    assert.equal(bob.welcome.comments[0].version, 26)
+    await bob.submit(26, "z")
+    assert.deepEqual(placesOf(await listOf(bob)), [["a", 34, 39], ["b", 3, 4]])
+    await bob.close()
+    await second.stop()
+  })

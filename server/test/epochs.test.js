@@ -10,7 +10,7 @@ import {joinDocument} from "../client.js"
 import {packageOf} from "../packages.js"
 import {Line} from "./line.js"
 import {startPostgres} from "./postgres.js"
-import {hasProgram, newFolder, serve} from "./servers.js"
+import {LOGS, newFolder, serve, skipsFiles} from "./servers.js"
 import {join, Talker, tokenFor} from "./talker.js"
 import {until} from "./waiting.js"
 
@@ -115,7 +115,7 @@ function suite(name, {make, save, ways, skip}) {
   })
 }
 
-// ---- a folder
+// ---- files in a folder
 
 const folderOf = ({folder}) => fs.readdirSync(folder).map(name => path.join(folder, name))
 
@@ -123,8 +123,8 @@ const written = (files, isMeant = () => true) => {
   for (const [file, bytes] of files) if (isMeant(path.basename(file))) fs.writeFileSync(file, bytes)
 }
 
-suite("folder", {
-  make: () => ({store: "folder", folder: newFolder()}),
+const overFiles = (store, logOf) => suite(store, {
+  make: () => ({store, folder: newFolder()}),
   save: async settings => folderOf(settings).map(file => [file, fs.readFileSync(file)]),
   ways: {
     "into an empty folder": (settings, files) => {
@@ -133,15 +133,17 @@ suite("folder", {
     },
     "over what is there": (_settings, files) => written(files),
     "a document without its epoch": (_settings, files, document) =>
-      written(files, name => name == `${document}.log` || name == `${document}.notes`),
+      written(files, name => name == logOf(document) || name == `${document}.notes`),
     "an epoch is taken away": ({folder}, files, document) => {
-      written(files, name => name == `${document}.log`)
+      written(files, name => name == logOf(document))
       fs.rmSync(path.join(folder, `${document}.epoch`))
     },
     told: (_settings, files) => written(files, name => name.endsWith(".log") || name.endsWith(".notes")),
   },
-  skip: hasProgram ? false : "pm live is not built",
+  skip: skipsFiles,
 })
+
+for (const [store, logOf] of Object.entries(LOGS)) overFiles(store, logOf)
 
 // ---- PostgreSQL
 

@@ -4,16 +4,22 @@ import assert from "node:assert/strict"
 import net from "node:net"
 import {after, before, test} from "node:test"
 import {signToken} from "../tokens.js"
-import {serve} from "./servers.js"
+import {newFolder, serve, skipsFiles} from "./servers.js"
 import {inserted, join, SECRET, Talker, tokenFor} from "./talker.js"
 import {within} from "./waiting.js"
 
+// (over a house the lines of all documents go one way)
+const STORES = {memory: false, house: skipsFiles}
+
+const servers = {}
 let server
 before(async () => {
   const limits = {connectionsPerUser: 8, documentsPerUser: 3, newDocumentsPerHour: 40, comments: 2}
-  server = await serve({messageBytes: 20_000, ...limits})
+  for (const [store, skip] of Object.entries(STORES))
+    if (!skip) servers[store] = await serve({store, folder: newFolder(), messageBytes: 20_000, ...limits})
+  server = servers.memory
 })
-after(() => server.stop())
+after(() => Promise.all(Object.values(servers).map(it => it.stop())))
 
 const HOUR = 3_600_000
 const deep = `${"[".repeat(9_000)}${"]".repeat(9_000)}`
@@ -109,9 +115,9 @@ const codeOf = ({op, code, answer}) => {
   return answer.fault !== undefined ? `fault ${answer.fault}` : `refused ${answer.refused.reason}`
 }
 
-for (const [what, message, code, closes] of FAULTS)
-  test(`refused and told: ${what}`, async () => {
-    const eve = await join(server.address, "stays", "eve"), ann = await join(server.address, "stays", "ann")
+const refused = (store, skip, [what, message, code, closes]) =>
+  test(`refused and told, ${store}: ${what}`, {skip}, async () => {
+    const {address} = servers[store], eve = await join(address, "stays", "eve"), ann = await join(address, "stays", "ann")
     eve.send(Buffer.isBuffer(message) ? "" : message)
     if (Buffer.isBuffer(message)) eve.socket.send(message)
     if (closes) assert.equal((await within(eve.closed, "the end")).code, closes)
@@ -126,6 +132,8 @@ for (const [what, message, code, closes] of FAULTS)
     assert.deepEqual(ann.told.filter(it => it.op == "entries" || it.op == "error" || it.op == "comment"), [])
     await ann.close()
   })
+
+for (const [store, skip] of Object.entries(STORES)) for (const fault of FAULTS) refused(store, skip, fault)
 
 // ---- what is refused for other reasons
 

@@ -8,17 +8,16 @@ import path from "node:path"
 import {test} from "node:test"
 import {fileURLToPath} from "node:url"
 import {settingsOf} from "../settings.js"
-import {hasProgram, newFolder, PROGRAM, serve} from "./servers.js"
+import {LOGS, newFolder, PROGRAM, serve, skipsFiles} from "./servers.js"
 import {SECRET, Talker} from "./talker.js"
 import {within} from "./waiting.js"
 
 const RUN = fileURLToPath(new URL("../run.sh", import.meta.url))
 
 // Starts the command, and gives the line that its log has of an event.
-function start(folder) {
-  const child = spawn(RUN, ["0"], {
-    env: {...process.env, GEZHUFET_FOLDER: folder, GEZHUFET_PROGRAM: PROGRAM, GEZHUFET_SECRET: ""}, stdio: ["ignore", "ignore", "pipe"],
-  })
+function start(settings) {
+  const env = {...process.env, GEZHUFET_PROGRAM: PROGRAM, GEZHUFET_SECRET: "", ...settings}
+  const child = spawn(RUN, ["0"], {env, stdio: ["ignore", "ignore", "pipe"]})
   let text = ""
   child.stderr.setEncoding("utf8").on("data", part => { text += part })
   const ended = new Promise(resolve => child.on("exit", resolve))
@@ -32,23 +31,25 @@ function start(folder) {
   return {child, ended, line: event => within(line(event), event)}
 }
 
-test("starts by one command, and keeps what was written", {skip: hasProgram ? false : "pm live is not built"}, async () => {
-  const folder = newFolder()
-  for (const version of [0, 1]) {
-    const run = start(folder), {port} = await run.line("listening"), address = `http://127.0.0.1:${port}`
-    const headers = {"Content-Type": "application/json"}
-    const {token} = await (await fetch(`${address}/token`, {method: "POST", headers, body: '{"name":"Ann A."}'})).json()
-    const ann = new Talker(address, "shared", {token})
-    assert.equal((await ann.hello()).name, "Ann A.")
-    assert.equal(ann.welcome.version, version)
-    await ann.submit(version, "a")
-    run.child.kill("SIGTERM")
-    await ann.heard(it => it.op == "bye")
-    assert.equal((await ann.closed).code, 1012)
-    assert.equal(await within(run.ended, "the end"), 0)
-  }
-  assert.equal(fs.statSync(path.join(folder, "secret")).mode & 0o077, 0)
-})
+for (const [store, logOf] of Object.entries(LOGS))
+  test(`starts by one command, and keeps what was written, ${store}`, {skip: skipsFiles}, async () => {
+    const folder = newFolder(), settings = {GEZHUFET_FOLDER: folder, GEZHUFET_STORE: store == "folder" ? "" : store}
+    for (const version of [0, 1]) {
+      const run = start(settings), {port} = await run.line("listening"), address = `http://127.0.0.1:${port}`
+      const headers = {"Content-Type": "application/json"}
+      const {token} = await (await fetch(`${address}/token`, {method: "POST", headers, body: '{"name":"Ann A."}'})).json()
+      const ann = new Talker(address, "shared", {token})
+      assert.equal((await ann.hello()).name, "Ann A.")
+      assert.equal(ann.welcome.version, version)
+      await ann.submit(version, "a")
+      run.child.kill("SIGTERM")
+      await ann.heard(it => it.op == "bye")
+      assert.equal((await ann.closed).code, 1012)
+      assert.equal(await within(run.ended, "the end"), 0)
+    }
+    assert.equal(fs.statSync(path.join(folder, "secret")).mode & 0o077, 0)
+    assert.ok(fs.existsSync(path.join(folder, logOf("shared"))))
+  })
 
 test("settings are checked", () => {
   const of = (given, environment = {}) => settingsOf({secret: [SECRET], ...given}, environment)

@@ -17,7 +17,10 @@ const MAIN = fileURLToPath(new URL("../main.js", import.meta.url))
 
 /** The program with the words `new` and `open`, where it was built. */
 export const PROGRAM = process.env.PM_LIVE || fileURLToPath(new URL("../../crates/pm_live/out/pm_live", import.meta.url))
-export const hasProgram = fs.existsSync(PROGRAM)
+
+/** The stores over files, each with the file in which it has a document's log, and why their tests are skipped. */
+export const LOGS = {folder: name => `${name}.log`, house: () => "house.log"}
+export const skipsFiles = fs.existsSync(PROGRAM) ? false : `${PROGRAM} is not built`
 
 export const newFolder = () => fs.mkdtempSync(path.join(os.tmpdir(), "gezhufet-server-"))
 

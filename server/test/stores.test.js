@@ -9,7 +9,7 @@ import {makeLog} from "../log.js"
 import {settingsOf} from "../settings.js"
 import {Notes} from "../store/notes.js"
 import {storeOf} from "../store/store.js"
-import {hasProgram, newFolder, PROGRAM} from "./servers.js"
+import {LOGS, newFolder, PROGRAM, skipsFiles} from "./servers.js"
 import {startPostgres} from "./postgres.js"
 import {inserted, SECRET} from "./talker.js"
 import {within} from "./waiting.js"
@@ -136,12 +136,12 @@ function suite(name, {make, isKept, skip}) {
       await held.close()
     })
 
-    test("is well", () => within(store.check(), "the check"))
+    test("is well, also where many ask at once", () => within(Promise.all([...Array(20)].map(() => store.check())), "the check"))
   })
 }
 
 suite("memory", {make: () => ({store: "memory"}), isKept: false})
-suite("folder", {make: () => ({store: "folder", folder: newFolder()}), isKept: true, skip: hasProgram ? false : `${PROGRAM} is not built`})
+for (const store of Object.keys(LOGS)) suite(store, {make: () => ({store, folder: newFolder()}), isKept: true, skip: skipsFiles})
 
 const postgres = await startPostgres()
 suite("postgres", {

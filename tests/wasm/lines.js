@@ -1,6 +1,6 @@
 // Does what the program pm_live does, over an engine in this process: reads lines from standard input, writes their answers, and ends
-// with its status. The input is UTF-8.
-// usage: node tests/wasm/lines.js [wasm|addon]
+// with its status. The input is UTF-8. With `many` the addon does what `pm_live many` does.
+// usage: node tests/wasm/lines.js [wasm | addon [many]]
 
 "use strict"
 
@@ -23,13 +23,19 @@ function played(engine, [schema, doc, ...rest]) {
   return {answers: [answer, ...rest.map(line => engine.tell(talk, line))], status: 0}
 }
 
-async function main(kind = "wasm") {
+// The answers of a house.
+function housed(engine, lines) {
+  const {talk} = engine.openHouse()
+  return {answers: lines.map(line => engine.tell(talk, line)), status: 0}
+}
+
+async function main(kind = "wasm", many) {
   const {openWasm} = await import("../../bindings/js/src/wasm.js")
   const {openAddon} = await import("../../bindings/js/src/addon.js")
   const engine = await (kind == "addon" ? openAddon() : openWasm())
-  const {answers, status} = played(engine, linesOf(fs.readFileSync(0, "utf8")))
+  const lines = linesOf(fs.readFileSync(0, "utf8")), {answers, status} = many ? housed(engine, lines) : played(engine, lines)
   fs.writeSync(1, answers.map(line => line + "\n").join(""))
   process.exitCode = status
 }
 
-main(process.argv[2])
+main(process.argv[2], process.argv[3])

@@ -1,5 +1,5 @@
-/* The document engine of ProseMirror as a library: a line in, an answer out. There are two kinds of talks, and all calls but those
- * that open them are the same for both.
+/* The document engine of ProseMirror as a library: a line in, an answer out. There are three kinds of talks, and all calls but those
+ * that open them are the same for each.
  *
  * An authority is a document with the log of its steps. It is opened by two lines of JSON, a schema and a document, and each later
  * line asks it something: to append steps, for the log, or for the document. The lines and their answers are those of the
@@ -10,11 +10,15 @@
  * message for the authority, takes an authority's answer, or asks how the client stands (docs: the client's talk). The caller
  * carries the messages and the answers.
  *
+ * A house is an authority of many documents, for a server. It awaits no lines: the first one is answered like any other. Lines give
+ * schemas names, open documents of them and close these again; each other line asks something of one document, which it names, or of
+ * all (docs: a house of many documents). The answers to the lines of one document are those of that document alone.
+ *
  * Who owns what. A talk owns its memory until gezhufet_close. Lines and buffers are the caller's: no call keeps a pointer to
  * them. An answer stays with its talk until the next line is told, and the caller copies it.
  *
  * Threads. Each talk is used by one call at a time, and calls from several threads need a lock, or another order, between
- * them. Two talks have nothing in common and may be used at once.
+ * them; so of a house all documents wait for one another. Two talks have nothing in common and may be used at once.
  *
  * Memory comes from malloc. A line for which there was none is answered {"fault":"memory"} and changes nothing; the same line
  * may be told again.
@@ -62,6 +66,12 @@ size_t gezhufet_open_authority(const char *schema, size_t schema_size, const cha
  * it does nothing and gives 0. */
 size_t gezhufet_open_client(const char *schema, size_t schema_size, const char *document, size_t document_size, const char *client,
                             size_t client_size, gezhufet_talk **talk);
+
+/* Opens a house, which has no schemas and no documents yet, and gives true. `*talk` is the house, which has to be closed. It is open
+ * from the first, and its answer is empty until it is told a line.
+ *
+ * Gives false, and sets `*talk` to NULL, where there is no memory for a talk. Where `talk` is NULL it does nothing and gives false. */
+bool gezhufet_open_house(gezhufet_talk **talk);
 
 /* Whether the talk was opened, so that lines are answered. False for NULL. */
 bool gezhufet_is_open(gezhufet_talk *talk);

@@ -1,8 +1,8 @@
 /* Tests of the library's calls: each with each bad argument, an answer copied in parts, threads that hand a talk on, and memory
  * refused at each allocation in turn. The last line is `N passed, M failed`.
  * usage: check                        the tests
- *        check play authority|client  opens such a talk by the first lines of standard input, tells it the others, and writes the
- *                                     answers */
+ *        check play authority|client|house  opens such a talk by the first lines of standard input, of which a house has none, tells it
+ *                                           the others, and writes the answers */
 #define _GNU_SOURCE
 #include "gezhufet.h"
 
@@ -46,6 +46,12 @@
   "\"steps\":[" GONE("3", "4") "," X_AT("1") "," X_AT("4") "],\"version\":1}\n"
 #define UNDO "{\"op\":\"undo\"}"
 #define UNDONE "{\"made\":1,\"serials\":[2],\"steps\":[" GONE("4", "5") "]}\n"
+#define NAME_SCHEMA "{\"op\":\"schema\",\"name\":\"plain\",\"schema\":" SCHEMA "}"
+#define NAMED "{\"schema\":\"plain\"}\n"
+#define OPEN_OF(schema, doc) "{\"op\":\"open\",\"schema\":\"" schema "\",\"doc\":" doc "}"
+#define OPEN OPEN_OF("plain", DOC)
+#define LISTED(in) "{\"from\":0,\"in\":\"" in "\",\"schema\":\"plain\",\"size\":5,\"version\":1}"
+#define NO_DOCUMENT "{\"none\":\"document\"}\n"
 #define ALL 4096
 
 /* ---- allocations, of which one is refused where the program is linked with --wrap for these names */
@@ -167,6 +173,52 @@ static void two_clients_come_together(void) {
   gezhufet_close(authority);
 }
 
+/* ---- a house */
+
+/* A line of an authority's as one that names the document. It stands until the next call. */
+static const char *in(const char *name, const char *line) {
+  static char text[ALL];
+  snprintf(text, sizeof text, "{\"in\":\"%s\",%s", name, line + 1);
+  return text;
+}
+
+static gezhufet_talk *housed(void) {
+  gezhufet_talk *house = (gezhufet_talk *)&passed;
+  expect("a house is opened by no line", gezhufet_open_house(&house) && gezhufet_is_open(house) && answers(house, 0, ""));
+  expect("a schema gets a name", told(house, NAME_SCHEMA, NAMED));
+  return house;
+}
+
+static void a_house_has_many_documents(void) {
+  gezhufet_talk *house = housed();
+  expect("documents are opened", told(house, in("a", OPEN), OPENED) && told(house, in("b", OPEN), OPENED));
+  expect("one that is open is not opened again", told(house, in("a", OPEN), "{\"none\":\"closed\"}\n"));
+  expect("steps of the one are accepted", told(house, in("a", SUBMIT), ACCEPTED));
+  expect("the other has its own log", told(house, in("b", SINCE), EMPTY) && told(house, in("a", SINCE), ENTRIES));
+  expect("and takes steps too", told(house, in("b", SUBMIT), ACCEPTED) && told(house, in("b", SUBMIT), "{\"version\":1}\n"));
+  expect("each document is told", told(house, in("a", ASK_DOC), DOC_THEN) && told(house, in("b", ASK_DOC), DOC_THEN));
+  expect("all are listed", told(house, "{\"op\":\"documents\"}", "{\"documents\":[" LISTED("a") "," LISTED("b") "]}\n"));
+  expect("one is closed", told(house, in("a", "{\"op\":\"close\"}"), "{\"closed\":\"a\"}\n"));
+  expect("and is gone", told(house, in("a", ASK_DOC), NO_DOCUMENT));
+  expect("the other stays", told(house, in("b", ASK_DOC), DOC_THEN));
+  expect("a closed one is opened anew", told(house, in("a", OPEN), OPENED) && told(house, in("a", SINCE), EMPTY));
+  gezhufet_close(house);
+}
+
+static void bad_arguments_of_a_house_do_no_harm(void) {
+  gezhufet_talk *house;
+  expect("no place for the house", !gezhufet_open_house(NULL));
+  house = housed();
+  expect("a house is told no line", gezhufet_tell(house, NULL, 1) == 0 && answers(house, strlen(NAMED), NAMED));
+  expect("a house is told an empty line", answers(house, gezhufet_tell(house, NULL, 0), "{\"fault\":5}\n"));
+  expect("a document that is not open", told(house, in("a", ASK_DOC), NO_DOCUMENT));
+  expect("a schema that has no name", told(house, in("a", OPEN_OF("other", DOC)), "{\"none\":\"schema\"}\n"));
+  expect("a house's document of another type", told(house, in("a", OPEN_OF("plain", "{\"type\":\"paragraph\"}")), "{\"fault\":16}\n"));
+  expect("a name of another form", told(house, in("no name", OPEN), "{\"fault\":23}\n"));
+  expect("nothing has changed", told(house, "{\"op\":\"documents\"}", "{\"documents\":[]}\n"));
+  gezhufet_close(house);
+}
+
 static void bad_arguments_do_no_harm(void) {
   gezhufet_talk *talk = (gezhufet_talk *)&passed;
   char text[4] = "abc";
@@ -267,6 +319,8 @@ static void *submits(void *talk) { return told(talk, SUBMIT, ACCEPTED) ? talk : 
 
 static void *edits(void *talk) { return told(talk, TYPE_AT("1"), MADE_AT("1")) ? talk : NULL; }
 
+static void *opens(void *house) { return told(house, in("a", OPEN), OPENED) ? house : NULL; }
+
 static void *plays(void *nothing) {
   gezhufet_talk *talk, *client;
   bool all = true;
@@ -283,7 +337,7 @@ static void *plays(void *nothing) {
 }
 
 static void threads_hand_a_talk_on(void) {
-  gezhufet_talk *talk = opened(), *client = joined(ANN);
+  gezhufet_talk *talk = opened(), *client = joined(ANN), *house = housed();
   pthread_t other, more[4];
   void *got;
   if (pthread_create(&other, NULL, submits, talk)) exit(2);
@@ -292,6 +346,10 @@ static void threads_hand_a_talk_on(void) {
   if (pthread_create(&other, NULL, edits, client)) exit(2);
   pthread_join(other, &got);
   expect("another thread goes on with a client", got && told(client, COMPOSE, COMPOSED));
+  if (pthread_create(&other, NULL, opens, house)) exit(2);
+  pthread_join(other, &got);
+  expect("another thread goes on with a house", got && told(house, in("a", SUBMIT), ACCEPTED));
+  gezhufet_close(house);
   gezhufet_close(client);
   gezhufet_close(talk);
   for (int i = 0; i < 4; i++)
@@ -344,6 +402,33 @@ static gezhufet_talk *opened_amid_refusals(const char *who) {
   return talk;
 }
 
+static gezhufet_talk *housed_amid_refusals(void) {
+  gezhufet_talk *house;
+  for (long n = 0;; n++) {
+    bool given, whole;
+    until = n;
+    given = gezhufet_open_house(&house);
+    whole = until >= 0;
+    until = -1;
+    if (whole) break;
+    if (given || house) expect("a house without memory", false);
+    gezhufet_close(house);
+  }
+  expect("a house is opened once there is memory", house && gezhufet_is_open(house));
+  return house;
+}
+
+static void refused_memory_changes_no_house(void) {
+  gezhufet_talk *house = housed_amid_refusals();
+  refuse_each(house, NAME_SCHEMA, NAMED, "a schema's name, with memory refused");
+  refuse_each(house, in("a", OPEN), OPENED, "a document of a house, with memory refused");
+  refuse_each(house, in("a", SUBMIT), ACCEPTED, "its steps, with memory refused");
+  refuse_each(house, in("a", SINCE), ENTRIES, "its log, with memory refused");
+  refuse_each(house, in("a", ASK_DOC), DOC_THEN, "the document then, with memory refused");
+  refuse_each(house, in("a", "{\"op\":\"close\"}"), "{\"closed\":\"a\"}\n", "its end, with memory refused");
+  gezhufet_close(house);
+}
+
 static void refused_memory_changes_nothing(void) {
   gezhufet_talk *talk = opened_amid_refusals(NULL), *ann = opened_amid_refusals(ANN), *bob = opened_amid_refusals(BOB);
   refuse_each(talk, SINCE, EMPTY, "the log, with memory refused");
@@ -373,16 +458,18 @@ static void write_answer(gezhufet_talk *talk, size_t size) {
   free(text);
 }
 
+/* `first` is the number of lines that open the talk. */
 static int play(size_t first) {
   char *opening[3] = {NULL}, *line = NULL;
-  size_t sizes[3] = {0}, rooms[3] = {0}, room = 0, told_size;
+  size_t sizes[3] = {0}, rooms[3] = {0}, room = 0, told_size = 0;
   ssize_t size;
   gezhufet_talk *talk;
   /* A line that is missing is an empty one: the library has no end of input. */
   for (size_t at = 0; at < first && (size = getline(&opening[at], &rooms[at], stdin)) > 0; at++)
     sizes[at] = (size_t)size - (opening[at][size - 1] == '\n');
-  told_size = first == 2 ? gezhufet_open_authority(opening[0], sizes[0], opening[1], sizes[1], &talk)
-                         : gezhufet_open_client(opening[0], sizes[0], opening[1], sizes[1], opening[2], sizes[2], &talk);
+  if (first == 0) gezhufet_open_house(&talk);
+  else if (first == 2) told_size = gezhufet_open_authority(opening[0], sizes[0], opening[1], sizes[1], &talk);
+  else told_size = gezhufet_open_client(opening[0], sizes[0], opening[1], sizes[1], opening[2], sizes[2], &talk);
   write_answer(talk, told_size);
   while (gezhufet_is_open(talk) && (size = getline(&line, &room, stdin)) > 0)
     write_answer(talk, gezhufet_tell(talk, line, (size_t)size - (line[size - 1] == '\n')));
@@ -393,17 +480,20 @@ static int play(size_t first) {
 }
 
 int main(int count, char **words) {
-  if (count == 3 && !strcmp(words[1], "play")) return play(strcmp(words[2], "client") ? 2 : 3);
+  if (count == 3 && !strcmp(words[1], "play")) return play(!strcmp(words[2], "house") ? 0 : !strcmp(words[2], "client") ? 3 : 2);
   expect("the header's version", gezhufet_version() == GEZHUFET_VERSION);
   lines_have_their_answers();
   two_clients_come_together();
+  a_house_has_many_documents();
   bad_arguments_do_no_harm();
   bad_arguments_of_a_client_do_no_harm();
+  bad_arguments_of_a_house_do_no_harm();
   room_past_the_answer_is_unchanged();
   long_lines_are_a_fault();
   threads_hand_a_talk_on();
 #ifdef WRAPPED
   refused_memory_changes_nothing();
+  refused_memory_changes_no_house();
 #endif
   printf("%d passed, %d failed\n", passed, failed);
   return failed > 0;

@@ -1,7 +1,7 @@
 // The engine as a node addon: the talks of the C library (bindings/c), by node's interface for C. It has `open`, which gives an
-// authority's talk of two lines and the answer to both; `openClient`, a client's of three; `tell`, which gives the answer to a
-// line, without LF; and `close`. Each gives null where there is no memory. A talk that nothing holds any more is closed too.
-// src/addon.js alone calls it. Nothing proves this file.
+// authority's talk of two lines and the answer to both; `openClient`, a client's of three; `openHouse`, which gives a house; `tell`,
+// which gives the answer to a line, without LF; and `close`. Each gives null where there is no memory. A talk that nothing holds any
+// more is closed too. src/addon.js alone calls it. Nothing proves this file.
 
 #define NAPI_VERSION 8
 #include <node_api.h>
@@ -81,19 +81,24 @@ static char *line_of(napi_env env, napi_value text, size_t *bytes) {
   return line;
 }
 
-// A talk and its first answer, as a list of two.
-static napi_value opened(napi_env env, gezhufet_talk *talk, size_t length) {
+// A talk as JavaScript holds it, or NULL where there is no memory for that; then it is closed.
+static napi_value value_of(napi_env env, gezhufet_talk *talk) {
   Held *held = malloc(sizeof *held);
-  napi_value pair, value;
+  napi_value value;
   if (!held) {
     gezhufet_close(talk);
-    return null(env);
+    return NULL;
   }
   held->talk = talk;
-  if (napi_create_external(env, held, let_go, NULL, &value) != napi_ok) {
-    let_go(env, held, NULL);
-    return null(env);
-  }
+  if (napi_create_external(env, held, let_go, NULL, &value) == napi_ok) return value;
+  let_go(env, held, NULL);
+  return NULL;
+}
+
+// A talk and its first answer, as a list of two.
+static napi_value opened(napi_env env, gezhufet_talk *talk, size_t length) {
+  napi_value pair, value = value_of(env, talk);
+  if (!value) return null(env);
   if (napi_create_array_with_length(env, 2, &pair) != napi_ok || napi_set_element(env, pair, 0, value) != napi_ok ||
       napi_set_element(env, pair, 1, answer_of(env, talk, length)) != napi_ok)
     return failed(env, "gezhufet: no list");
@@ -119,6 +124,13 @@ static napi_value open_by(napi_env env, napi_callback_info info, size_t needed) 
 static napi_value open_talk(napi_env env, napi_callback_info info) { return open_by(env, info, 2); }
 
 static napi_value open_client(napi_env env, napi_callback_info info) { return open_by(env, info, 3); }
+
+static napi_value open_house(napi_env env, napi_callback_info info) {
+  gezhufet_talk *house;
+  (void)info;
+  napi_value value = gezhufet_open_house(&house) ? value_of(env, house) : NULL;
+  return value ? value : null(env);
+}
 
 // The answer to a line that may be long.
 static napi_value tell_long(napi_env env, gezhufet_talk *talk, napi_value text) {
@@ -157,6 +169,7 @@ NAPI_MODULE_INIT() {
   napi_property_descriptor calls[] = {
     {"open", NULL, open_talk, NULL, NULL, NULL, napi_enumerable, NULL},
     {"openClient", NULL, open_client, NULL, NULL, NULL, napi_enumerable, NULL},
+    {"openHouse", NULL, open_house, NULL, NULL, NULL, napi_enumerable, NULL},
     {"tell", NULL, tell, NULL, NULL, NULL, napi_enumerable, NULL},
     {"close", NULL, close_talk, NULL, NULL, NULL, napi_enumerable, NULL},
   };

@@ -22,6 +22,9 @@ class AddonEngine {
 
   openClient(...lines) { return this.#opened(this.#addon.openClient(...lines)) }
 
+  /// A house, which has no answer yet.
+  openHouse() { return {talk: given(this.#addon.openHouse())} }
+
   tell(talk, line) { return given(this.#addon.tell(talk, line)) }
 
   close(talk) { this.#addon.close(talk) }

@@ -1,6 +1,6 @@
 // An authority over one document, in this process: it keeps the document and the log of its steps, and answers what editors send.
 
-import {isSchema, judged, openingLines, Talk} from "./talk.js"
+import {isSchema, judged, lineOfDocument, lineOfSchema, Talk} from "./talk.js"
 
 export class Authority {
   #talk
@@ -13,7 +13,7 @@ export class Authority {
   constructor(engine, schema, doc = null, {Step} = {}) {
     this.#schema = isSchema(schema) ? schema : null
     this.#Step = Step
-    this.#talk = new Talk(engine, "authority", engine.open(...openingLines(schema, doc)))
+    this.#talk = new Talk(engine, "authority", engine.open(lineOfSchema(schema), lineOfDocument(doc)))
   }
 
   /// The number of steps in the log.

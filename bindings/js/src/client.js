@@ -1,7 +1,7 @@
 // An editor's client in this process: it keeps the document with the steps that the authority's log need not have yet, carries these
 // over others' steps, and undoes. What it sends to the authority, and how the answers come back, is its user's matter.
 
-import {isSchema, judged, lineOf, openingLines, Talk} from "./talk.js"
+import {isSchema, judged, lineOf, lineOfDocument, lineOfSchema, Talk} from "./talk.js"
 
 // The bytes of a line, its LF not counted. Some are left for what is around the steps of a message or an answer.
 const LINE_LIMIT = 1048576
@@ -20,8 +20,8 @@ function fitting(items, from, most) {
 // A text of three bytes a unit is the longest.
 const isShort = value => 3 * JSON.stringify(value).length <= LINE_LIMIT - AROUND
 
-// ProseMirror's `NodeType` is told by its name.
-const named = edit => (typeof edit?.type?.name == "string" ? {...edit, type: edit.type.name} : edit)
+/// An edit in which ProseMirror's `NodeType` is told by its name.
+export const named = edit => (typeof edit?.type?.name == "string" ? {...edit, type: edit.type.name} : edit)
 
 /// A client of one document; see `openClient`.
 export class Client {
@@ -36,7 +36,7 @@ export class Client {
     this.#schema = isSchema(schema) ? schema : null
     this.#Step = Step
     this.#idBytes = bytesOf(clientID ?? null)
-    const lines = [...openingLines(schema, doc), lineOf(JSON.stringify({clientID, version}))]
+    const lines = [lineOfSchema(schema), lineOfDocument(doc), JSON.stringify({clientID, version})]
     this.#talk = new Talk(engine, "client", engine.openClient(...lines))
   }
 

@@ -18,6 +18,7 @@ const CODES = {
   16: "the document is not valid or not of the top type, or the top type can't be filled",
   18: "no room for one more cursor",
   19: "a client's ID that is too long, or no room for one more client",
+  23: "a name of another form, or of another schema",
 }
 const REASONS = {
   1: "its positions are not in order within the document",
@@ -38,6 +39,14 @@ const REASONS = {
 /// Each error of the package.
 export class GezhufetError extends Error {
   get name() { return this.constructor.name }
+}
+
+const LACKS = {
+  document: "no document of the name is open",
+  closed: "a document of the name is open already",
+  schema: "no schema has the name",
+  room: "there are as many documents, or schemas, as a house has",
+  range: "a position is past the document's end, or the version that it goes to below the one that it is from",
 }
 
 const LINES = {1: "the schema", 2: "the document", 3: "the line of the client"}
@@ -64,10 +73,35 @@ export class RefusedError extends GezhufetError {
   }
 }
 
+/// What a call of a house needs is not there. `what` says what: `document`, `closed`, `schema`, `room` or `range`.
+export class LackError extends GezhufetError {
+  constructor(what) {
+    super(LACKS[what] || `there is no ${what}`)
+    this.what = what
+  }
+}
+
+/// The version that is asked for lies before the first one that a house has kept of the document, which `from` is.
+export class ForgottenError extends GezhufetError {
+  constructor(from) {
+    super(`the first kept version is ${from}`)
+    this.from = from
+  }
+}
+
+/// The document of a house has not come to the version that is asked for; `version` is its own. Or its log takes no more.
+export class VersionError extends GezhufetError {
+  constructor(version) {
+    super(`the version is ${version}`)
+    this.version = version
+  }
+}
+
 /// There was no memory. Nothing has changed, and the call may be made again.
 export class MemoryError extends GezhufetError {
   constructor() { super("there is no memory for it; nothing has changed") }
 }
 
-/// The authority or client was closed, or its engine has stopped by a fault of its own and is not called again; `cause` is that fault.
+/// The authority, client or house was closed, or its engine has stopped by a fault of its own and is not called again; `cause` is that
+/// fault.
 export class EndedError extends GezhufetError {}

@@ -1,4 +1,4 @@
-// A verified authority for ProseMirror documents, and a verified client of one, in this process.
+// A verified authority for a ProseMirror document, or by the addon for many, and a verified client of one, in this process.
 //
 //   import {openAuthority} from "gezhufet"
 //   const authority = await openAuthority(schema, doc)
@@ -8,12 +8,15 @@ import {openAddon} from "./addon.js"
 import {Authority} from "./authority.js"
 import {Client} from "./client.js"
 import {EndedError} from "./errors.js"
+import {House} from "./house.js"
 import {openWasm} from "./wasm.js"
 
-export {EndedError, FaultError, GezhufetError, MemoryError, RefusedError} from "./errors.js"
+export {
+  EndedError, FaultError, ForgottenError, GezhufetError, LackError, MemoryError, RefusedError, VersionError,
+} from "./errors.js"
 export {documentLine, schemaLine} from "./lines.js"
 
-// An engine in which authorities and clients are opened.
+// An engine in which authorities and clients are opened, and by the addon houses.
 class Engine {
   #engine
 
@@ -30,6 +33,9 @@ class Engine {
 
   /// A client in this engine; see `openClient`.
   openClient(of, options) { return new Client(this.#engine, of, options) }
+
+  /// A house in this engine, which is the addon; see `openHouse`.
+  openHouse(options) { return new House(this.#engine, options) }
 }
 
 /// Opens an engine. `kind` is `wasm`, `addon`, or undefined: the addon where it was built, and else wasm. `memory` is the most bytes
@@ -39,7 +45,7 @@ export async function openEngine({kind, memory, module} = {}) {
   const isOfWasm = memory !== undefined || module !== undefined
   if (kind == "addon" && isOfWasm) throw new TypeError("`memory` and `module` are of wasm alone")
   const addon = kind == "addon" || (kind === undefined && !isOfWasm) ? await openAddon() : null
-  if (kind == "addon" && !addon) throw new EndedError("the addon was not built")
+  if (kind == "addon" && !addon) throw new EndedError("the addon was not built; addon/build.sh in this package builds it")
   return new Engine(addon ?? await openWasm({memory, module}))
 }
 
@@ -54,4 +60,11 @@ export async function openAuthority(schema, doc = null, {engine, Step, ...option
 /// them is none.
 export async function openClient(of, {engine, Step, ...options} = {}) {
   return (engine ?? await openEngine(options)).openClient(of, {Step})
+}
+
+/// Opens a house of many documents over the addon, in an engine of its own unless one is given: an authority for a server. It has no
+/// schemas and no documents yet. Where `Step` is given, ProseMirror's class, documents whose schema was given as a `Schema` give steps
+/// of it. An EndedError where the addon was not built.
+export async function openHouse({engine, Step, kind = "addon", ...options} = {}) {
+  return (engine ?? await openEngine({kind, ...options})).openHouse({Step})
 }

@@ -1,4 +1,5 @@
-// What an authority's talk and a client's have in common: the lines by which one is opened, lines that are told, and its end.
+// What the talks of an authority, a client and a house have in common: the lines of schemas and documents, lines that are told, and
+// their end.
 
 import {EndedError, FaultError, MemoryError, RefusedError} from "./errors.js"
 import {documentLine, schemaLine} from "./lines.js"
@@ -13,11 +14,11 @@ export function lineOf(value) {
   return value
 }
 
-/// The first two lines of a talk, of ProseMirror's `Schema` and `Node` or of their JSON.
-export const openingLines = (schema, doc) => [
-  isSchema(schema) ? schemaLine(schema) : lineOf(schema),
-  isNode(doc) ? documentLine(doc) : lineOf(doc),
-]
+/// The line of ProseMirror's `Schema`, or of its JSON.
+export const lineOfSchema = schema => (isSchema(schema) ? schemaLine(schema) : lineOf(schema))
+
+/// The line of ProseMirror's `Node`, or of its JSON.
+export const lineOfDocument = doc => (isNode(doc) ? documentLine(doc) : lineOf(doc))
 
 /// Gives an answer as it is meant, or the error that it is. `keepsRefusal`: that a step does not apply is an answer.
 export function judged(answer, keepsRefusal = false) {
@@ -40,15 +41,15 @@ export class Talk {
   #talk
   #what
 
-  /// `what` it is, an authority or a client, says the error of a line that comes after its end. `opened` is the engine's talk and
-  /// the answer to its first lines; an error where these have a fault.
+  /// `what` it is, an authority, a client or a house, says the error of a line that comes after its end. `opened` is the engine's talk
+  /// and, but of a house, the answer to its first lines; an error where these have a fault.
   constructor(engine, what, {talk, answer}) {
     this.#engine = engine
     this.#talk = talk
     this.#what = what
     abandoned.register(this, {engine, talk}, this)
     try {
-      judged(JSON.parse(answer))
+      if (answer !== undefined) judged(JSON.parse(answer))
     } catch (error) {
       this.close()
       throw error

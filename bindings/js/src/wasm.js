@@ -1,7 +1,7 @@
 // The engine as a WebAssembly module, gezhufet.wasm: it imports nothing, and its exports pass numbers. A line goes in and an answer
 // comes out by one buffer in its memory.
 
-import {EndedError, MemoryError} from "./errors.js"
+import {EndedError, GezhufetError, MemoryError} from "./errors.js"
 import {readFile, textOf, viewOf} from "./platform.js"
 
 // The bytes of a line that the engine reads, its LF not counted. Of a longer one, which has a fault, one byte more is told.
@@ -81,6 +81,9 @@ class WasmEngine {
 
   /// A client's talk by its three lines, and the answer to them.
   openClient(...lines) { return this.#open("open_client", lines) }
+
+  /// The module has no house, so that a page loads less.
+  openHouse() { throw new GezhufetError("the WebAssembly module has no house; the addon has one") }
 
   #open(name, lines) {
     const bytes = lines.map(bytesOf), sizes = bytes.map(it => it.length)

@@ -36,5 +36,8 @@ describe("the package", () => {
     assert.equal((await commonDoor.openAuthority(schemaJSON, docJSON)).version, 0)
     assert.equal((await commonDoor.openEngine()).openAuthority(schemaJSON).version, 0)
     assert.equal((await commonDoor.openClient({schema: schemaJSON, doc: docJSON, clientID: 1})).state().version, 0)
+    const house = commonDoor.openHouse()
+    if (engines.includes("addon")) assert.deepEqual((await house).documents(), [])
+    else await assert.rejects(house, {name: "EndedError", message: /addon\/build\.sh/})
   })
 })

@@ -1,7 +1,7 @@
 """One document and the log of its steps."""
 
 from dataclasses import dataclass
-from typing import List, Optional, Sequence
+from typing import List, Mapping, Optional, Sequence
 
 from .conversation import ClientID, Conversation, Json, raise_if_wrong
 from .errors import WrongVersion
@@ -22,6 +22,16 @@ class Entries:
     steps: List[Json]
     client_ids: List[ClientID]
     version: int
+
+
+def entries_of(answer: Mapping[str, Json]) -> Entries:
+    """What an answer with entries tells."""
+    return Entries(answer["steps"], answer["clientIDs"], answer["version"])
+
+
+def accepted_of(answer: Mapping[str, Json]) -> Accepted:
+    """What an answer tells that accepts steps."""
+    return Accepted(answer["accepted"]["from"], answer["accepted"]["count"])
 
 
 class Authority(Conversation):
@@ -50,7 +60,7 @@ class Authority(Conversation):
         raise_if_wrong(answer)
         if "accepted" not in answer:
             raise WrongVersion(answer["version"])
-        return Accepted(answer["accepted"]["from"], answer["accepted"]["count"])
+        return accepted_of(answer)
 
     def since(self, version: int, most: Optional[int] = None) -> Entries:
         """The log from the version on; no steps where it is no longer than that.
@@ -59,7 +69,7 @@ class Authority(Conversation):
         """
         answer = self.tell({"op": "since", "version": version, "most": most})
         raise_if_wrong(answer)
-        return Entries(answer["steps"], answer["clientIDs"], answer["version"])
+        return entries_of(answer)
 
     @property
     def doc(self) -> Json:

@@ -1,4 +1,4 @@
-"""What an authority and a client have in common: messages and their answers, one call at a time."""
+"""What an authority, a client and a house have in common: messages and their answers, one call at a time."""
 
 import json
 import threading
@@ -63,7 +63,8 @@ class Conversation:
         try:
             if talk.opening is None:
                 raise OutOfMemory("no memory")
-            self._opened: Dict[str, Json] = value_of(talk.opening)
+            # (a house is opened by no line, and has no answer to it)
+            self._opened: Dict[str, Json] = value_of(talk.opening) if opening else {}
             raise_if_wrong(self._opened)
         except GezhufetError:
             talk.close()

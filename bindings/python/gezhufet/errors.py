@@ -19,6 +19,15 @@ REASONS = {
 }
 
 
+LACKS = {
+    "document": "no document of the name is open",
+    "closed": "a document of the name is open already",
+    "schema": "no schema has the name",
+    "room": "there are as many documents, or schemas, as a house has",
+    "range": "a position is past the document's end, or the version that it goes to below the one that it is from",
+}
+
+
 class GezhufetError(Exception):
     """What each error of this package is.
 
@@ -45,11 +54,29 @@ class OutOfMemory(GezhufetError, MemoryError):
 
 
 class WrongVersion(GezhufetError):
-    """The steps were made on another version than the log's length, which `version` is. Ask `since`, rebase, and submit again."""
+    """The version is not one that the call takes, and `version` is the document's: steps were made on another one, after which the
+    client asks `since`, rebases and submits again; or a house is asked for a later one."""
 
     def __init__(self, version: int) -> None:
         super().__init__(f"the version is {version}")
         self.version = version
+
+
+class Lack(GezhufetError):
+    """What a call of a house needs is not there. `what` says what: `document`, `closed`, `schema`, `room` or `range`, as `LACKS` has
+    them in words."""
+
+    def __init__(self, what: str) -> None:
+        super().__init__(LACKS.get(what, what))
+        self.what = what
+
+
+class Forgotten(GezhufetError):
+    """The version that is asked for lies before the first one that a house has kept of the document, which `first` is."""
+
+    def __init__(self, first: int) -> None:
+        super().__init__(f"the first kept version is {first}")
+        self.first = first
 
 
 class Refused(GezhufetError):

@@ -36,6 +36,8 @@ def _load() -> ctypes.CDLL:
         library.gezhufet_open_authority.restype = size
         library.gezhufet_open_client.argtypes = [text, size, text, size, text, size, ctypes.POINTER(talk)]
         library.gezhufet_open_client.restype = size
+        library.gezhufet_open_house.argtypes = [ctypes.POINTER(talk)]
+        library.gezhufet_open_house.restype = ctypes.c_bool
         library.gezhufet_is_open.argtypes = [talk]
         library.gezhufet_is_open.restype = ctypes.c_bool
         library.gezhufet_tell.argtypes = [talk, text, size]
@@ -62,18 +64,21 @@ def version() -> str:
 class Talk:
     """A talk of the C library. One call at a time may use it, which its caller sees to."""
 
-    def __init__(self, schema: bytes, doc: bytes, client: Optional[bytes] = None) -> None:
-        """Opens a client's talk where its third line is given, else an authority's. `opening` is its answer, None where there was no
-        memory for the talk itself."""
+    def __init__(self, *lines: bytes) -> None:
+        """Opens a talk by its lines, which are two of an authority, three of a client, and none of a house. `opening` is its answer,
+        empty for a house; None where there was no memory for the talk itself."""
         self._buffer = ctypes.create_string_buffer(ROOM)
         self._address = ctypes.addressof(self._buffer)
         self._bytes = memoryview(self._buffer)
         pointer = ctypes.c_void_p()
-        lines = [schema, len(schema), doc, len(doc)]
-        if client is None:
-            size = _library.gezhufet_open_authority(*lines, ctypes.byref(pointer))
+        given = [it for line in lines for it in (line, len(line))]
+        size = 0
+        if not lines:
+            _library.gezhufet_open_house(ctypes.byref(pointer))
+        elif len(lines) == 2:
+            size = _library.gezhufet_open_authority(*given, ctypes.byref(pointer))
         else:
-            size = _library.gezhufet_open_client(*lines, client, len(client), ctypes.byref(pointer))
+            size = _library.gezhufet_open_client(*given, ctypes.byref(pointer))
         self._pointer: Optional[int] = pointer.value
         self.opening: Optional[bytes] = self._answer(size) if self._pointer else None
 

@@ -4,6 +4,8 @@ pub mod Mapped
 pub mod Authored
 pub mod Reverted
 pub mod Edited
+pub mod Ids
+pub mod Pieces
 pub mod Names
 pub mod Submitting
 pub mod Accepting

@@ -165,6 +165,6 @@ answer-good a (Err code) good = good
 pub answered-good : (a : Archive) (word : DocWord) (d : Data) → IsArchive a → IsArchive (answered a word d).1
 answered-good a word d good = answer-good a (wish_in a.schema.spec word d) good
 
-pub opened-good : (name kind : List ℕ) (s : Schema) (version : ℕ) (doc : Document) → Valid (documents_of s.spec) doc
-    → IsArchive (opened name kind s version doc)
-opened-good name kind s version doc valid = record { first_good = valid; good = valid; folded = refl }
+pub opened-good : (name kind : List ℕ) (s : Schema) (version : ℕ) (doc : Document) (ids : List (List ℕ)) → Valid (documents_of s.spec) doc
+    → IsArchive (opened name kind s version doc ids)
+opened-good name kind s version doc ids valid = record { first_good = valid; good = valid; folded = refl }

@@ -19,10 +19,10 @@ version_of a = a.from + length a.log
 abbrev pub IsArchive : Archive → Type 0
 IsArchive a = IsKept meaning a.schema (authority_of a)
 
--- a document of this name whose log begins at this version, and is empty
-abbrev pub opened : List ℕ → List ℕ → Schema → ℕ → Document → Archive
-opened name kind s version doc =
-    record { name = name; kind = kind; schema = s; from = version; first = doc; doc = doc; log = []; ids = [] }
+-- a document of this name whose log begins at this version, and is empty, with the IDs of the clients that came before
+abbrev pub opened : List ℕ → List ℕ → Schema → ℕ → Document → List (List ℕ) → Archive
+opened name kind s version doc ids =
+    record { name = name; kind = kind; schema = s; from = version; first = doc; doc = doc; log = []; ids = ids }
 
 -- the same with what this authority has, and these IDs
 abbrev pub with_authority : Archive → LiveAuthority → List (List ℕ) → Archive

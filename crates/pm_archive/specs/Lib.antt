@@ -1,5 +1,7 @@
 pub mod Archives
 pub mod Texts
+pub mod Same
+pub mod Lines
 pub mod Mapping
 pub mod Authoring
 pub mod Answers

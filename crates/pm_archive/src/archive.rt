@@ -28,7 +28,7 @@ pub struct Archive {
 }
 
 impl Archive {
-    /// A document whose log begins at the version, and is empty.
+    /// A document whose log begins at the version, and is empty, with the IDs of the clients that came before.
     pub fn open(
         alloc: Global,
         name: Text,
@@ -36,9 +36,10 @@ impl Archive {
         schema: Shared,
         version: u32,
         doc: Document,
+        ids: ClientIds,
     ) -> Result<Archive, AllocError>
         requires { Valid (documents_of schema.spec) doc }
-        ensures opened { IfOk result (λ a. a ≡ opened name kind schema version doc) }
+        ensures opened { IfOk result (λ a. a ≡ opened name kind schema version doc ids) }
         ensures good { IfOk result IsArchive }
     {
         Ok(Archive {
@@ -49,7 +50,7 @@ impl Archive {
             first: doc.copy()?,
             doc,
             log: Listed::new(alloc),
-            ids: ClientIds::new(alloc),
+            ids,
         })
     }
 

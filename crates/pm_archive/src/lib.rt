@@ -7,7 +7,7 @@
 //! where there is room for its ID, its version is the document's and its steps apply (`AcceptsExactly`); a line with a fault
 //! changes nothing (`FaultsChangeNothing`). To let old steps go changes no answer but those to what asks for them
 //! (`ForgetsOnlyBelow`). Where entries are taken back and the later ones lie apart, what is left is what the later ones make of the
-//! document before (`RevertLeaves`).
+//! document before (`RevertLeaves`). Which lines make a document what it is, and whether two are the same (`same_archive`).
 //!
 //! Not proved: that there is memory.
 #![tactic(auto)]
@@ -17,9 +17,11 @@ mod archive;
 mod authoring;
 mod editing;
 mod forgetting;
+mod lines;
 mod mapping;
 mod presenting;
 mod reverting;
+mod same;
 mod shared;
 mod texts;
 mod theorems;

@@ -1,3 +1,3 @@
-pub mod Eithers
+pub mod AnyTalks
 pub mod Held
 pub mod Conversations

@@ -1,9 +1,9 @@
 //! A talk, with the answer that it gave last.
 ghost use Rattle.std.specs.Prelude.{◌≡◌, []};
 ghost use Rattle.pm_c.specs.Conversations.{answer_of, Told};
-ghost use Rattle.pm_c.specs.Eithers.{IsGood};
+ghost use Rattle.pm_c.specs.AnyTalks.{IsGood};
 
-use crate::either::EitherTalk;
+use crate::any_talk::AnyTalk;
 use pm_serve::Reply;
 use pm_talk::no_memory;
 use std::alloc::{AllocError, Global};
@@ -11,14 +11,14 @@ use std::alloc::{AllocError, Global};
 /// A talk, and the answer that it gave last.
 #[derive(Drop)]
 pub struct Conversation {
-    pub talk: EitherTalk,
+    pub talk: AnyTalk,
     /// None where there was no memory for it.
     pub answer: Option<String>,
 }
 
 impl Conversation {
     /// This talk, of which no line came. Its answer is empty.
-    pub(crate) fn new(alloc: Global, talk: EitherTalk) -> Conversation
+    pub(crate) fn new(alloc: Global, talk: AnyTalk) -> Conversation
         ensures talk { result.talk ≡ talk }
         ensures answer { answer_of result ≡ [] }
     {

@@ -2,17 +2,19 @@
 ghost use Rattle.std.specs.Prelude.{◌≡◌, ◌++◌, length, min, take, drop, true, false, Some};
 ghost use Rattle.pm_talk.specs.declared.talk.Talk.TheVariants as authority;
 ghost use Rattle.pm_editor.specs.declared.talk.ClientTalk.TheVariants as client;
+ghost use Rattle.pm_house.specs.Houses as house;
 ghost use Rattle.pm_c.specs.declared.conversation.Conversation.{Conversation};
-ghost use Rattle.pm_c.specs.declared.either.EitherTalk.TheVariants.{Authority, Client};
-ghost use Rattle.pm_c.specs.Eithers.{is_open, IsGood};
+ghost use Rattle.pm_c.specs.declared.any_talk.AnyTalk.TheVariants as any;
+ghost use Rattle.pm_c.specs.AnyTalks.{is_open, IsGood};
 ghost use Rattle.pm_c.specs.Conversations.{answer_of, IsNew, Holds, Told};
 ghost use Rattle.pm_c.specs.declared.exports.TheConstants.{VERSION};
 
+use crate::any_talk::AnyTalk;
 use crate::conversation::Conversation;
-use crate::either::EitherTalk;
 use crate::handle::Handle;
 use crate::loose::Loose;
 use pm_editor::ClientTalk;
+use pm_house::House;
 use pm_talk::Talk;
 use std::alloc::Global;
 
@@ -31,25 +33,36 @@ pub extern "C" fn pm_c_version() -> u32
 /// is no memory, and then `to` is as it was.
 #[unsafe(no_mangle)]
 pub extern "C" fn pm_c_open_authority(alloc: Global, to: &mut Handle) -> bool
-    ensures opened { result ≡ true → Holds to.new.value (IsNew (Authority authority.AwaitsSchema)) }
+    ensures opened { result ≡ true → Holds to.new.value (IsNew (any.Authority authority.AwaitsSchema)) }
     ensures good { result ≡ true → Holds to.new.value (λ c. IsGood c.talk) }
     ensures none { result ≡ false → to.new.value ≡ to.old.value }
 {
-    open(alloc, EitherTalk::Authority(Talk::AwaitsSchema), to)
+    open(alloc, AnyTalk::Authority(Talk::AwaitsSchema), to)
 }
 
 /// Opens a client's talk, as `pm_c_open_authority` opens an authority's.
 #[unsafe(no_mangle)]
 pub extern "C" fn pm_c_open_client(alloc: Global, to: &mut Handle) -> bool
-    ensures opened { result ≡ true → Holds to.new.value (IsNew (Client client.AwaitsSchema)) }
+    ensures opened { result ≡ true → Holds to.new.value (IsNew (any.Client client.AwaitsSchema)) }
     ensures good { result ≡ true → Holds to.new.value (λ c. IsGood c.talk) }
     ensures none { result ≡ false → to.new.value ≡ to.old.value }
 {
-    open(alloc, EitherTalk::Client(ClientTalk::AwaitsSchema), to)
+    open(alloc, AnyTalk::Client(ClientTalk::AwaitsSchema), to)
+}
+
+/// Opens a house of no schemas and no documents, as `pm_c_open_authority` opens an authority's talk. It awaits no lines: the first one
+/// asks it something.
+#[unsafe(no_mangle)]
+pub extern "C" fn pm_c_open_house(alloc: Global, to: &mut Handle) -> bool
+    ensures opened { result ≡ true → Holds to.new.value (IsNew (any.House house.empty)) }
+    ensures good { result ≡ true → Holds to.new.value (λ c. IsGood c.talk) }
+    ensures none { result ≡ false → to.new.value ≡ to.old.value }
+{
+    open(alloc, AnyTalk::House(House::new(alloc)), to)
 }
 
 /// Has `to` hold this talk.
-fn open(alloc: Global, talk: EitherTalk, to: &mut Handle) -> bool
+fn open(alloc: Global, talk: AnyTalk, to: &mut Handle) -> bool
     requires { IsGood talk }
     ensures opened { result ≡ true → Holds to.new.value (IsNew talk) }
     ensures good { result ≡ true → Holds to.new.value (λ c. IsGood c.talk) }

@@ -65,7 +65,7 @@ module _ (name : List ℕ) (h : House) (d : Data) (text : List ℕ) (next : Hous
     where
       of-document : (k : Kind) (r : Result Document Code) → OfDocument h k o r text next → found_in name next ≡ Some a
       of-document k (Ok doc) told =
-          ap (found_in name) told.2 ∙ found-before name h.documents (opened o.name o.kind k.schema o.version doc ∷ []) a found
+          ap (found_in name) told.2 ∙ found-before name h.documents (opened o.name o.kind k.schema o.version doc o.ids ∷ []) a found
       of-document k (Err code) told = same-found name h next a told.1 found
 
       by-room : (k : Kind) (b : Bool)

@@ -38,7 +38,7 @@ module _ (d : Data) (o : Opening) (k : Kind) (text : List ℕ) (archive : Option
 
       from : (r : Result Document Code) → DocumentIn k.schema d r → OfHeard k o r text archive → OpensBy h d o q text next
       from (Ok doc) read told =
-          let own : Archive = opened o.name o.kind k.schema o.version doc in
+          let own : Archive = opened o.name o.kind k.schema o.version doc o.ids in
           let stands : docs ≡ h.documents ++ own ∷ [] =
           added
           ∙ (ap (λ (x : Archive). old ++ x ∷ []) (some-inner a own (sym is ∙ told.2))
@@ -54,8 +54,8 @@ module _ (d : Data) (o : Opening) (k : Kind) (text : List ℕ) (archive : Option
     where
       from : (r : Result Document Code) → OfHeard k o r text archive → All IsArchive docs
       from (Ok doc) told =
-          let own : Archive = opened o.name o.kind k.schema o.version doc in
-          let valid : IsArchive own = opened-good o.name o.kind k.schema o.version doc told.0 in
+          let own : Archive = opened o.name o.kind k.schema o.version doc o.ids in
+          let valid : IsArchive own = opened-good o.name o.kind k.schema o.version doc o.ids told.0 in
           let stands : docs ≡ old ++ own ∷ [] = added ∙ ap (λ (x : Archive). old ++ x ∷ []) (some-inner a own (sym is ∙ told.2)) in
           subst (λ (xs : List Archive). All IsArchive xs) (sym stands) (All-append IsArchive old (own ∷ []) good (All-cons IsArchive own [] valid none-good))
       from (Err code) told = absurd (none-some a (sym told.1 ∙ is))

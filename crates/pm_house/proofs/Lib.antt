@@ -7,3 +7,5 @@ pub mod Placing
 pub mod Heard
 pub mod Staying
 pub mod Marking
+pub mod Limiting
+pub mod Naming

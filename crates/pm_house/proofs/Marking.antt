@@ -99,7 +99,7 @@ module _ (h : House) (text : List ℕ) (next : House) where
     where
       of-document : (k : Kind) (r : Result Document Code) → OfDocument h k o r text next → next ≡ h
       of-document k (Ok doc) told =
-          absurd (one-longer h.documents next.documents (opened o.name o.kind k.schema o.version doc) (ap (λ (x : House). x.documents) told.2) same)
+          absurd (one-longer h.documents next.documents (opened o.name o.kind k.schema o.version doc o.ids) (ap (λ (x : House). x.documents) told.2) same)
       of-document k (Err code) told = told.1
 
       by-room : (k : Kind) (b : Bool)

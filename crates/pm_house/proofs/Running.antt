@@ -131,8 +131,8 @@ module _ (h : House) (text : List ℕ) (next : House) (good : IsGood h) where
     where
       of-document : (k : Kind) (r : Result Document Code) → OfDocument h k o r text next → IsGood next
       of-document k (Ok doc) told =
-          let a : Archive = opened o.name o.kind k.schema o.version doc in
-          let own : IsArchive a = opened-good o.name o.kind k.schema o.version doc told.0 in
+          let a : Archive = opened o.name o.kind k.schema o.version doc o.ids in
+          let own : IsArchive a = opened-good o.name o.kind k.schema o.version doc o.ids told.0 in
           subst IsGood (sym told.2) (All-append IsArchive h.documents (a ∷ []) good (All-cons IsArchive a [] own none-good))
       of-document k (Err code) told = same-good h next told.1 good
 

@@ -1,7 +1,10 @@
 pub mod Found
 pub mod Texts
 pub mod Houses
-pub mod Keeping
 pub mod Replies
+pub mod Limits
+pub mod Same
+pub mod Lines
+pub mod Keeping
 pub mod Marks
 pub mod Turns

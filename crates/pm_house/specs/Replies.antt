@@ -69,7 +69,7 @@ Names h d text next = (r : Result Naming Code) × NamingIs d r × NamesSchema h 
 abbrev pub OfDocument : House → Kind → Opening → Result Document Code → List ℕ → House → Type 0
 OfDocument h k o (Ok doc) text next =
     Valid (documents_of k.schema.spec) doc × (text ≡ opened_text (length doc.tokens) o.version)
-    × (next ≡ with_document h (opened o.name o.kind k.schema o.version doc))
+    × (next ≡ with_document h (opened o.name o.kind k.schema o.version doc o.ids))
 OfDocument h k o (Err code) text next = Says (fault_text code) h text next
 
 -- A document of an unknown schema is not opened, and not one more than there is room for.
@@ -175,7 +175,7 @@ FaultOf line.NoMemory text = ⊥
 abbrev pub OfHeard : Kind → Opening → Result Document Code → List ℕ → Option Archive → Type 0
 OfHeard k o (Ok doc) text archive =
     Valid (documents_of k.schema.spec) doc × (text ≡ opened_text (length doc.tokens) o.version)
-    × (archive ≡ Some (opened o.name o.kind k.schema o.version doc))
+    × (archive ≡ Some (opened o.name o.kind k.schema o.version doc o.ids))
 OfHeard k o (Err code) text archive = (text ≡ fault_text code) × (archive ≡ None)
 
 abbrev pub DocumentHeard : Kind → Opening → Data → List ℕ → Option Archive → Type 0

@@ -1,7 +1,8 @@
 -- The texts of the house's own answers: each a line of compact JSON, whose keys stand in byte order. Names have no character that
 -- JSON escapes.
-use Rattle.std.specs.Prelude.{ℕ, ◌+◌, min, Bool, true, false, List, [], ◌∷◌, ◌++◌, length, fold, codes, decimal}
+use Rattle.std.specs.Prelude.{ℕ, Bool, true, false, List, [], ◌∷◌, ◌++◌, length, fold, codes, decimal}
 use Rattle.serde_json.specs.Written.{comma_if}
+use Rattle.pm_talk.specs.Work.{up_to}
 use Rattle.pm_archive.specs.declared.archive.Archive.{Archive}
 use Rattle.pm_archive.specs.Archives.{version_of}
 use Rattle.pm_house.specs.declared.texts.Lack.{Lack}
@@ -42,11 +43,7 @@ row_items later (a ∷ rest) = comma_if later ++ (row_text a ++ row_items true r
 abbrev pub documents_text : List Archive → List ℕ
 documents_text archives = codes "{\"documents\":[" ++ row_items false archives
 
--- a sum, which stands still at 2^64 - 1
-abbrev pub up_to : ℕ → ℕ → ℕ
-up_to sum n = min 18446744073709551615 (sum + n)
-
--- how many entries of logs are kept, and how many tokens the documents have
+-- how many entries of logs are kept, and how many tokens the documents have; the sums stand still at 2^64 - 1
 abbrev pub entries_in : List Archive → ℕ
 entries_in archives = fold (λ sum a. up_to sum (length a.log)) 0 archives
 

@@ -39,7 +39,11 @@ impl House {
     }
 
     /// The answer to a value, and whether it changed anything.
-    fn answer_change(&mut self, alloc: Global, json: &Value) -> Result<Answer, AllocError>
+    pub(crate) fn answer_change(
+        &mut self,
+        alloc: Global,
+        json: &Value,
+    ) -> Result<Answer, AllocError>
         requires { IsGood self.old }
         ensures told { IfOk result (λ a. OfValue self.old (view json.now) (string_bytes a.text) self.new) }
         ensures changed { IfOk result (λ a. MatchBool a.changed (self.new ≢ self.old) (self.new ≡ self.old)) }

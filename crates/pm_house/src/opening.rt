@@ -144,12 +144,13 @@ fn hear_document(
         name,
         kind: kind_name,
         version,
+        ids,
     } = opening;
     match document_in(alloc, kind.schema.get(), json) {
         Ok(doc) => {
             let text = opened_text(alloc, doc.size(), version)?;
             let schema = kind.schema.share()?;
-            let archive = Archive::open(alloc, name, kind_name, schema, version, doc)?;
+            let archive = Archive::open(alloc, name, kind_name, schema, version, doc, ids)?;
             Ok(Heard {
                 text,
                 archive: Some(archive),

@@ -1,4 +1,4 @@
--- Talks behind the same lines stand alike, and so each line of a file is accepted again.
+-- Talks behind the same lines stand alike, and so each line of a file is accepted again: of talks without a limit of work.
 use Rattle.std.proofs.Common.{◌≡◌, ℕ, Bool, true, false, List, [], ◌∷◌, ◌++◌, length, refl, ◌∙◌, sym, subst}
 use Rattle.std.specs.Prelude.{◌≢◌, ◌==◌, ◌&&◌, not, Result, Ok, Err}
 use Rattle.pm_schema.specs.declared.schema.Schema.{Schema}
@@ -15,7 +15,7 @@ use Rattle.pm_talk.specs.Talk.{opened, AfterSchema, AfterDocument, Replies, is_o
 use Rattle.pm_kept.specs.Alike.{AlikeLives, Alike}
 use Rattle.pm_kept.specs.Behind.{Behind, Keeps}
 use Rattle.pm_kept.specs.Opens.{IsNotAccepted}
-use Rattle.pm_kept.specs.Laws.{AllStandAlike, AllAcceptedAgain, Reopens, AllReopen}
+use Rattle.pm_kept.specs.Laws.{AllAcceptedAgain, Reopens, AllReopen}
 use Rattle.pm_kept.specs.Sizes.{changes}
 use Rattle.pm_kept.specs.Talks.{talk_meaning}
 use Rattle.pm_kept.proofs.AlikeLives.{answered-alike}
@@ -118,8 +118,8 @@ together-behind (line ∷ lines) first first_too talk other h a b =
     let same = same-reply line a.0 b.0 true true a.1 b.1 first first_too h a.2 b.2 in
     together-behind lines a.1 b.1 talk other (same.together refl) a.4 b.4
 
-pub all-stand-alike : AllStandAlike
-all-stand-alike lines talk other a b = stand-alike talk other (together-behind lines AwaitsSchema AwaitsSchema talk other tt a b)
+pub talks-stand-alike : (lines : List (List ℕ)) (talk other : Talk) → Behind talk_meaning lines AwaitsSchema talk → Behind talk_meaning lines AwaitsSchema other → Alike talk other
+talks-stand-alike lines talk other a b = stand-alike talk other (together-behind lines AwaitsSchema AwaitsSchema talk other tt a b)
 
 -- the talk behind a front of the lines, and what the line after it is answered
 record Passed (first : Talk) (before : List (List ℕ)) (line : List ℕ) : Type 0 where
@@ -136,8 +136,8 @@ passed (l ∷ before) line later first talk a =
     let p = passed before line later a.1 talk a.4 in
     record { was = p.was; behind = (a.0, a.1, a.2, a.3, p.behind); text = p.text; next = p.next; replies = p.replies; change = p.change }
 
-pub all-accepted-again : AllAcceptedAgain talk_meaning
-all-accepted-again lines talk behind number n =
+pub talks-accepted-again : AllAcceptedAgain talk_meaning
+talks-accepted-again lines talk behind number n =
     let p = passed n.before n.line n.later AwaitsSchema talk (subst (λ (ls : List (List ℕ)). Behind talk_meaning ls AwaitsSchema talk) n.split behind) in
     let h = together-behind n.before AwaitsSchema AwaitsSchema p.was n.was tt p.behind n.behind in
     let same = same-reply n.line p.text n.text true n.more p.next n.next p.was n.was h p.replies n.replies in
@@ -174,8 +174,8 @@ closed-alike live talk h closed = let e : true ≡ false = open-alike (Open live
 
 begun : (file : List ℕ) (live : Live) (lines : List (List ℕ)) → recorded file ≡ lines → Behind talk_meaning lines AwaitsSchema (Open live) → Reopens talk_meaning file
 begun file live lines found behind = record {
-  accepted = λ number n. all-accepted-again lines (Open live) behind number (subst (λ (ls : List (List ℕ)). IsNotAccepted talk_meaning ls number) found n);
-  opens = λ some m. closed-alike live m.0 (all-stand-alike lines (Open live) m.0 behind (subst (λ (ls : List (List ℕ)). Behind talk_meaning ls AwaitsSchema m.0) found m.1)) m.2;
+  accepted = λ number n. talks-accepted-again lines (Open live) behind number (subst (λ (ls : List (List ℕ)). IsNotAccepted talk_meaning ls number) found n);
+  opens = λ some m. closed-alike live m.0 (talks-stand-alike lines (Open live) m.0 behind (subst (λ (ls : List (List ℕ)). Behind talk_meaning ls AwaitsSchema m.0) found m.1)) m.2;
 }
 
 reopens : (file : List ℕ) (talk : Talk) (lines : List (List ℕ)) → Keeps talk_meaning file talk lines → Reopens talk_meaning file
@@ -183,5 +183,5 @@ reopens file AwaitsSchema lines keeps = unbegun file keeps.found
 reopens file (AwaitsDocument s) lines keeps = unbegun file keeps.found
 reopens file (Open live) lines keeps = begun file live lines keeps.found keeps.behind
 
-pub all-reopen : AllReopen talk_meaning
-all-reopen file some = reopens file some.0 some.1 some.2
+pub talks-reopen : AllReopen talk_meaning
+talks-reopen file some = reopens file some.0 some.1 some.2

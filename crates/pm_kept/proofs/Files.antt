@@ -12,8 +12,8 @@ use Rattle.pm_journal.specs.declared.journal.Journal.{Journal}
 use Rattle.pm_journal.proofs.Lines.{length-records_more}
 use Rattle.pm_serve.specs.Serves.{kept}
 use Rattle.pm_kept.specs.declared.kept.Kept.{Kept}
-use Rattle.pm_kept.specs.Means.{Meaning, Laws}
-use Rattle.pm_kept.specs.Behind.{Behind, in_file, Keeps, KeepsSome}
+use Rattle.pm_kept.specs.Means.{Meaning, Laws, unlimited}
+use Rattle.pm_kept.specs.Behind.{Stands, in_file, Keeps, KeepsSome}
 use Rattle.pm_kept.specs.Kept.{held_lines, AreHeld, lines_so_far, accepted, IsInStep, IsUp, IsGoodKept, Leaves, CouldNotKeep, Went, Lost, InFile, NotInFile, PutsHeld}
 use Rattle.pm_kept.specs.Runs.{HearsSome, HearsAll, GroupHeard, GroupLost}
 use Rattle.pm_kept.proofs.Stands.{some_behind, some_closed}
@@ -78,23 +78,23 @@ module _ {S D : Type 0} (m : Meaning S) (seen : D → List ℕ) (may_leave : D �
       step_leaves k.service k.held k.journal step.0 step.1
 
   -- a service before its first line, over an empty file
-  pub fresh : (service : S) (journal : Journal D) → service ≡ m.start → IsBlank seen may_leave is_clean is_usable journal → IsInStep m seen may_leave is_clean is_usable service None journal
+  pub fresh : (service : S) (journal : Journal D) → unlimited m service ≡ m.start → IsBlank seen may_leave is_clean is_usable journal → IsInStep m seen may_leave is_clean is_usable service None journal
   fresh service journal is blank =
       record {
         file = inl blank;
         are_held = tt;
-        behind = λ clean. subst (λ (f : List ℕ). Behind m (recorded f ++ []) m.start service) (sym (blank.empty clean)) is;
+        behind = λ clean. subst (λ (f : List ℕ). Stands m (recorded f ++ []) service) (sym (blank.empty clean)) is;
         unbegun = λ closed clean. ap recorded (blank.empty clean);
       }
 
   -- the service behind the lines of a file
   pub resumed : (service : S) (journal : Journal D) → m.is_begun service ≡ true → IsOpen seen may_leave is_clean is_usable journal
-      → (IsTrue (is_clean journal.disk) → Behind m (recorded (seen journal.disk)) m.start service) → IsInStep m seen may_leave is_clean is_usable service None journal
+      → (IsTrue (is_clean journal.disk) → Stands m (recorded (seen journal.disk)) service) → IsInStep m seen may_leave is_clean is_usable service None journal
   resumed service journal opens is stands =
       record {
         file = inr is;
         are_held = tt;
-        behind = λ clean. subst (λ (ls : List (List ℕ)). Behind m ls m.start service) (sym (append-nil (recorded (seen journal.disk)))) (stands clean);
+        behind = λ clean. subst (λ (ls : List (List ℕ)). Stands m ls service) (sym (append-nil (recorded (seen journal.disk)))) (stands clean);
         unbegun = λ closed clean. absurd (not_closed (sym opens ∙ closed));
       }
 
@@ -114,7 +114,7 @@ module _ {S D : Type 0} (m : Meaning S) (laws : Laws m) (seen : D → List ℕ) 
       record {
         file = subst (TakesLines seen may_leave is_clean is_usable) (sym same) is.file;
         are_held = are_held;
-        behind = λ clean. subst (λ (ls : List (List ℕ)). Behind m ls m.start mid.service) (sym all)
+        behind = λ clean. subst (λ (ls : List (List ℕ)). Stands m ls mid.service) (sym all)
             (some_behind m laws heard (accepted seen k) m.start k.service out some more mid.service (is.behind (subst (λ (j : Journal D). IsTrue (is_clean j.disk)) same clean)) hears);
         unbegun = λ closed clean. ap (λ (j : Journal D). recorded (seen j.disk)) same
             ∙ is.unbegun (some_closed m laws heard k.service out some more mid.service hears closed) (subst (λ (j : Journal D). IsTrue (is_clean j.disk)) same clean);
@@ -137,7 +137,7 @@ module _ {S D : Type 0} (m : Meaning S) (laws : Laws m) (seen : D → List ℕ) 
       record {
         file = put.file;
         are_held = put.are_held;
-        behind = λ clean. subst (λ (ls : List (List ℕ)). Behind m ls m.start t.service) (sym (put.same clean)) (subst (Behind m (accepted seen mid) m.start) (sym same) (is.behind (put.clean clean)));
+        behind = λ clean. subst (λ (ls : List (List ℕ)). Stands m ls t.service) (sym (put.same clean)) (subst (Stands m (accepted seen mid)) (sym same) (is.behind (put.clean clean)));
         unbegun = λ closed clean.
             let shut = sym (ap m.is_begun same) ∙ closed in
             ap (λ (j : Journal D). recorded (seen j.disk)) (put.still shut) ∙ is.unbegun shut (put.clean clean);
@@ -183,7 +183,7 @@ module _ {S D : Type 0} (m : Meaning S) (laws : Laws m) (seen : D → List ℕ) 
             })
             (λ (after : recorded c ≡ accepted seen mid). inr record {
               found = after ∙ all ∙ in_open t.service (accepted seen k ++ some) (ap m.is_begun service ∙ put.opens);
-              behind = subst (λ (ls : List (List ℕ)). Behind m ls m.start t.service) all (subst (Behind m (accepted seen mid) m.start) (sym service) (step.behind (put.clean clean)));
+              behind = subst (λ (ls : List (List ℕ)). Stands m ls t.service) all (subst (Stands m (accepted seen mid)) (sym service) (step.behind (put.clean clean)));
             }) (put.crash clean c left);
       }
     where

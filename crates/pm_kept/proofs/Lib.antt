@@ -4,6 +4,7 @@ mod AlikeLives
 mod AlikeOpenings
 pub mod Files
 mod Heard
+mod LimitedAlike
 mod Opens
 mod Runs
 mod Said

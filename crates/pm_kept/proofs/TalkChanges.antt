@@ -1,18 +1,21 @@
 -- Whether a line changed a talk.
-use Rattle.std.proofs.Common.{◌≡◌, ℕ, Bool, true, false, List, length, refl, sym, ◌∙◌, ap, subst, arith, Result, Ok, Err}
-use Rattle.std.specs.Prelude.{◌≢◌, MatchBool, not, ◌&&◌, ◌==◌}
+use Rattle.std.proofs.Common.{◌≡◌, inl, inr, ℕ, Bool, true, false, List, length, refl, sym, ◌∙◌, ap, subst, arith, Result, Ok, Err}
+use Rattle.std.specs.Prelude.{◌≢◌, ◌⊎◌, MatchBool, not, ◌&&◌, ◌==◌, Option, None, Some}
 use Rattle.std.proofs.lemmas.Bool.{true≢false, not-false}
 use Rattle.std.proofs.lemmas.Bool.Decides.{nat_tests}
 use Rattle.pm_tokens.specs.Tokens.{Doc as Document}
 use Rattle.pm_schema.specs.declared.schema.Schema.{Schema}
 use Rattle.pm_head.specs.declared.code.Code.{Code}
+use Rattle.pm_talk.specs.declared.limited.Limited.{Limited}
 use Rattle.pm_talk.specs.declared.live.Live.{Live}
 use Rattle.pm_talk.specs.declared.talk.Talk.{Talk}
 use Rattle.pm_talk.specs.declared.talk.Talk.TheVariants.{AwaitsSchema, AwaitsDocument, Open}
 use Rattle.pm_talk.specs.Live.{answered}
 use Rattle.pm_talk.specs.Talk.{Replies, AfterSchema, AfterDocument, opened}
+use Rattle.pm_talk.specs.Limited.{RepliesBelow, RepliesWithin}
 use Rattle.pm_kept.specs.Sizes.{is_same_size, changes}
 use Rattle.pm_kept.specs.Talks.{talk_laws}
+use Rattle.pm_kept.specs.LimitedTalks.{same_limited, as_without}
 use Rattle.pm_kept.proofs.Unchanged.{same_live}
 
 -- ---- a line after which the sizes are the same changed nothing
@@ -72,3 +75,33 @@ by_more was next line text false replies = talk_laws.closes was line text next r
 pub talk_changed : (was next : Talk) (line text : List ℕ) (more b : Bool) → Replies was line text more next → b ≡ (more && changes was next) → MatchBool b (next ≢ was) (next ≡ was)
 talk_changed was next line text more b replies is =
     subst (λ (x : Bool). MatchBool x (next ≢ was) (next ≡ was)) (sym is) (by_more was next line text more replies)
+
+-- ---- so it is within a limit of work
+
+-- a submission that is over the limit leaves the sizes as they were
+open_changed : (live : Live) (next : Talk) (line text : List ℕ) (more b : Bool) → Replies (Open live) line text more next ⊎ ((more ≡ true) × (next ≡ Open live))
+    → b ≡ (more && changes (Open live) next) → MatchBool b (next ≢ Open live) (next ≡ Open live)
+open_changed live next line text more b (inl told) is = talk_changed (Open live) next line text more b told is
+open_changed live next line text more b (inr none) is =
+    let own : changes (Open live) (Open live) ≡ false = own_size (length live.authority.log) (length live.ids) in
+    let same : changes (Open live) next ≡ false = ap (changes (Open live)) none.1 ∙ own in
+    let unchanged_is : b ≡ false = is ∙ ap (λ (x : Bool). x && changes (Open live) next) none.0 ∙ same in
+    subst (λ (x : Bool). MatchBool x (next ≢ Open live) (next ≡ Open live)) (sym unchanged_is) none.1
+
+below_changed : (limit : Option ℕ) (was next : Talk) (line text : List ℕ) (more b : Bool) → RepliesBelow limit was line text more next → b ≡ (more && changes was next)
+    → MatchBool b (next ≢ was) (next ≡ was)
+below_changed None was next line text more b replies is = talk_changed was next line text more b replies is
+below_changed (Some limit) AwaitsSchema next line text more b replies is = talk_changed AwaitsSchema next line text more b replies is
+below_changed (Some limit) (AwaitsDocument s) next line text more b replies is = talk_changed (AwaitsDocument s) next line text more b replies is
+below_changed (Some limit) (Open live) next line text more b replies is =
+    open_changed live next line text more b (as_without (Some limit) (Open live) line text more next replies) is
+
+-- the limit stays
+with_limit : (b : Bool) (was next : Limited) → next.limit ≡ was.limit → MatchBool b (next.talk ≢ was.talk) (next.talk ≡ was.talk) → MatchBool b (next ≢ was) (next ≡ was)
+with_limit true was next limit other = λ e. other (ap (λ (t : Limited). t.talk) e)
+with_limit false was next limit same = same_limited next was same limit
+
+pub limited_changed : (was next : Limited) (line text : List ℕ) (more b : Bool) → RepliesWithin was line text more next → b ≡ (more && changes was.talk next.talk)
+    → MatchBool b (next ≢ was) (next ≡ was)
+limited_changed was next line text more b replies is =
+    with_limit b was next replies.1 (below_changed was.limit was.talk next.talk line text more b replies.0 is)

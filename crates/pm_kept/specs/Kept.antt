@@ -7,7 +7,7 @@ use Rattle.pm_journal.specs.declared.group.Group.{Group}
 use Rattle.pm_journal.specs.declared.journal.Journal.{Journal}
 use Rattle.pm_kept.specs.declared.kept.Kept.{Kept}
 use Rattle.pm_kept.specs.Means.{Meaning}
-use Rattle.pm_kept.specs.Behind.{Behind, Keeps, KeepsSome}
+use Rattle.pm_kept.specs.Behind.{Stands, Keeps, KeepsSome}
 
 -- what is said where a call of the disk failed
 abbrev pub disk_fault : List ℕ
@@ -36,7 +36,7 @@ module _ {S D : Type 0} (m : Meaning S) (seen : D → List ℕ) (may_leave : D �
   pub record IsInStep (service : S) (held : Option Group) (journal : Journal D) : Type 0 where
     pub file : TakesLines seen may_leave is_clean is_usable journal
     pub are_held : AreHeld held
-    pub behind : IsTrue (is_clean journal.disk) → Behind m (lines_so_far seen held journal) m.start service
+    pub behind : IsTrue (is_clean journal.disk) → Stands m (lines_so_far seen held journal) service
     pub unbegun : m.is_begun service ≡ false → IsTrue (is_clean journal.disk) → recorded (seen journal.disk) ≡ []
 
   -- A call of the disk failed, and a crash leaves a file with a service behind its lines; or file and service are in step, and once it

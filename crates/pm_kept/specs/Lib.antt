@@ -9,3 +9,4 @@ pub mod Runs
 pub mod Said
 pub mod Sizes
 pub mod Talks
+pub mod LimitedTalks

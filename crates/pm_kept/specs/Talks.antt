@@ -1,6 +1,6 @@
--- A talk whose lines are kept.
+-- A talk whose lines are kept. It has no limit of work.
 use Rattle.std.specs.Prelude.{◌≡◌, ℕ, Bool, true, false, List, [], ◌++◌, length, codes, decimal, Result, Ok, Err}
-use Rattle.std.proofs.Common.{ap}
+use Rattle.std.proofs.Common.{ap, refl}
 use Rattle.std.proofs.lemmas.Bool.{false≢true}
 use Rattle.pm_tokens.specs.Tokens.{Doc as Document}
 use Rattle.pm_schema.specs.declared.schema.Schema.{Schema}
@@ -18,7 +18,7 @@ resumed_text (Open live) = codes "{\"size\":" ++ (decimal (length live.authority
 
 -- It begins with line 1. None of its lines is in the file before lines 1 and 2 have both come.
 abbrev pub talk_meaning : Meaning Talk
-talk_meaning = record { good = IsGood; replies = Replies; last = last_text; resumed = resumed_text; start = AwaitsSchema; is_begun = is_open }
+talk_meaning = record { good = IsGood; replies = Replies; last = last_text; resumed = resumed_text; start = AwaitsSchema; is_begun = is_open; limited = λ limit talk. talk }
 
 -- ---- its laws
 
@@ -42,4 +42,13 @@ stays_open (AwaitsDocument s) line text more next replies opens = absurd (false�
 stays_open (Open live) line text more next replies opens = ap is_open replies.2
 
 pub talk_laws : Laws talk_meaning
-talk_laws = record { closes = refused; stays_begun = stays_open }
+talk_laws =
+    record {
+      closes = refused;
+      stays_begun = stays_open;
+      stays_limited = λ limit was line text more next replies is. refl;
+      accepts = λ was line text more next replies other. (replies, other);
+      starts = refl;
+      relimits = λ limit talk. refl;
+      still_begun = λ limit talk. refl;
+    }

@@ -33,6 +33,12 @@ pub trait Keepable: Sized + Drop {
         ensures err { OnErr result (self.new ≡ self.old) }
         ensures good { means.good self.new };
 
+    /// Sets how many tokens the steps of a line may go over from now on, or that there is no limit. It takes no memory.
+    fn set_limit(&mut self, limit: Option<u64>)
+        requires { means.good self.old }
+        ensures limited { self.new ≡ means.limited limit self.old }
+        ensures good { means.good self.new };
+
     /// What is said at the end of input. It takes no memory.
     fn last(&self) -> &[u8]
         ensures { result.now ≡ means.last self.now };

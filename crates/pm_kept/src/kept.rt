@@ -32,28 +32,30 @@ pub struct Kept<S: Keepable, D: Disk> {
 }
 
 impl<S: Keepable, D: Disk> Kept<S, D> {
-    /// A service before its first line, over an empty file. Nothing is written.
-    pub fn new(alloc: Global, disk: D) -> Kept<S, D>
+    /// A service before its first line, with this limit of work in tokens, over an empty file. Nothing is written.
+    pub fn new(alloc: Global, disk: D, limit: Option<u64>) -> Kept<S, D>
         requires usable { IsTrue (D.Disk.is_usable disk) }
         requires empty { IsTrue (D.Disk.is_clean disk) → D.Disk.seen disk ≡ [] }
         // After a restart, what is read is what is on the disk.
         requires durable { IsTrue (D.Disk.is_clean disk) → Only (D.Disk.seen disk) (D.Disk.may_leave disk) }
         ensures good { IsGoodKept S.means D.Disk.seen D.Disk.may_leave D.Disk.is_clean D.Disk.is_usable result }
-        ensures service { result.service ≡ S.means.start }
+        ensures service { result.service ≡ S.means.limited limit S.means.start }
         ensures held { result.held ≡ None }
         ensures up { result.failed ≡ false }
         ensures disk { result.journal.disk ≡ disk }
     {
+        let mut service = S::start(alloc);
+        service.set_limit(limit);
         Kept {
-            service: S::start(alloc),
+            service,
             held: None,
             journal: Journal::blank(disk),
             failed: false,
         }
     }
 
-    /// The service behind the lines of a file, over that file. Nothing is written.
-    pub fn resume(disk: D, opened: Opened<S>) -> Kept<S, D>
+    /// The service behind the lines of a file, with this limit of work in tokens from now on, over that file. Nothing is written.
+    pub fn resume(disk: D, opened: Opened<S>, limit: Option<u64>) -> Kept<S, D>
         requires usable { IsTrue (D.Disk.is_usable disk) }
         requires found { IsTrue (D.Disk.is_clean disk) → IsRecovered opened.found (D.Disk.seen disk) }
         requires stands { Behind S.means (texts opened.found) S.means.start opened.service }
@@ -62,12 +64,14 @@ impl<S: Keepable, D: Disk> Kept<S, D> {
         // After a restart, what is read is what is on the disk.
         requires durable { IsTrue (D.Disk.is_clean disk) → Only (D.Disk.seen disk) (D.Disk.may_leave disk) }
         ensures good { IsGoodKept S.means D.Disk.seen D.Disk.may_leave D.Disk.is_clean D.Disk.is_usable result }
-        ensures service { result.service ≡ opened.service }
+        ensures service { result.service ≡ S.means.limited limit opened.service }
         ensures held { result.held ≡ None }
         ensures up { result.failed ≡ false }
         ensures disk { result.journal.disk ≡ disk }
     {
         let Opened { found, service } = opened;
+        let mut service = service;
+        service.set_limit(limit);
         let journal = Journal::resume(disk, &found);
         Kept {
             service,

@@ -111,12 +111,12 @@ module _ {S D : Type 0} (m : Meaning S) (seen : D → List ℕ) (may_leave : D �
     pub cause : NotBegunFor status (faults was) (faults disk) (IsTrue (is_clean disk)) (seen was)
     pub nothing : NothingMoved left rest old new r r_new w w_new
 
-  -- The file was empty, and a service was served over it from the first line on.
-  pub record Begun (status : FileStatus) (was disk : D) (left rest old new : Option (List ℕ)) (r r_new w w_new : ℕ) : Type 0 where
+  -- The file was empty, and a service was served over it from the first line on, with this limit of work or none.
+  pub record Begun (limit : Option ℕ) (status : FileStatus) (was disk : D) (left rest old new : Option (List ℕ)) (r r_new w w_new : ℕ) : Type 0 where
     pub opened : D
     pub untouched : IsUntouched seen may_leave was opened
     pub empty : IsTrue (is_clean opened) → seen was ≡ []
-    pub talked : KeptTalked status m.start [] opened disk left rest old new r r_new w w_new
+    pub talked : KeptTalked status (m.limited limit m.start) [] opened disk left rest old new r r_new w w_new
 
   -- the file was not taken up, and is as it was
   pub record NotOpened (status : FileStatus) (was disk : D) (left rest old new : Option (List ℕ)) (r r_new w w_new : ℕ) : Type 0 where
@@ -135,8 +135,9 @@ module _ {S D : Type 0} (m : Meaning S) (seen : D → List ℕ) (may_leave : D �
     pub read : rest ≡ left
     pub reads : r_new ≡ r
 
-  -- A service stands behind the lines of the file, it was written where it stands, and then it was served over the file.
-  pub record Resumed (status : FileStatus) (was disk : D) (left rest old new : Option (List ℕ)) (r r_new w w_new : ℕ) : Type 0 where
+  -- A service stands behind the lines of the file, whatever limits of work there were before; it was written where it stands, and then it
+  -- was served over the file with this limit or none.
+  pub record Resumed (limit : Option ℕ) (status : FileStatus) (was disk : D) (left rest old new : Option (List ℕ)) (r r_new w w_new : ℕ) : Type 0 where
     pub opened : D
     pub untouched : IsUntouched seen may_leave was opened
     pub first : S
@@ -144,4 +145,4 @@ module _ {S D : Type 0} (m : Meaning S) (seen : D → List ℕ) (may_leave : D �
     pub taken_up : m.is_begun first ≡ true
     pub said : Option (List ℕ)
     pub says : Adds old said (m.resumed first)
-    pub talked : KeptTalked status first (recorded (seen was)) opened disk left rest said new r r_new w w_new
+    pub talked : KeptTalked status (m.limited limit first) (recorded (seen was)) opened disk left rest said new r r_new w w_new

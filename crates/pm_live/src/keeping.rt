@@ -50,11 +50,13 @@ pub struct Ended<D: Disk> {
     pub disk: D,
 }
 
-/// Answers the lines of the source by a service that begins. The file, which is to be empty, gets each line that is accepted before it
-/// is answered; a talk's lines 1 and 2 come together. Lines that wait together come into the file together.
+/// Answers the lines of the source by a service that begins, with this limit of work in tokens. The file, which is to be empty, gets
+/// each line that is accepted before it is answered; a talk's lines 1 and 2 come together. Lines that wait together come into the file
+/// together.
 pub fn run_new<S: Keepable, R: Piecewise, W: Sink, D: Disk>(
     alloc: Global,
     disk: D,
+    limit: Option<u64>,
     source: &mut R,
     sink: &mut W,
 ) -> Ended<D>
@@ -64,7 +66,7 @@ pub fn run_new<S: Keepable, R: Piecewise, W: Sink, D: Disk>(
     // The file is as it was, with the cause; or it was empty, what was written is the answers, and of the lines those that were
     // accepted are on the disk: each whose answer was begun, and at most those of one more group.
     ensures output { NotBegun S.means D.Disk.seen D.Disk.may_leave D.Disk.is_clean D.Disk.is_usable D.Disk.faults result.status disk result.disk (R.left source.old) (R.left source.new) (W.written sink.old) (W.written sink.new) (R.faults source.old) (R.faults source.new) (W.faults sink.old) (W.faults sink.new)
-        ⊎ Begun S.means D.Disk.seen D.Disk.may_leave D.Disk.is_clean D.Disk.is_usable D.Disk.faults result.status disk result.disk (R.left source.old) (R.left source.new) (W.written sink.old) (W.written sink.new) (R.faults source.old) (R.faults source.new) (W.faults sink.old) (W.faults sink.new) }
+        ⊎ Begun S.means D.Disk.seen D.Disk.may_leave D.Disk.is_clean D.Disk.is_usable D.Disk.faults limit result.status disk result.disk (R.left source.old) (R.left source.new) (W.written sink.old) (W.written sink.new) (R.faults source.old) (R.faults source.new) (W.faults sink.old) (W.faults sink.new) }
     // Whatever stops, a crash leaves a file with a service behind its lines, or as it was.
     ensures again { IsUntouched D.Disk.seen D.Disk.may_leave disk result.disk ⊎ LeavesSome S.means D.Disk.may_leave D.Disk.is_clean result.disk }
 {
@@ -90,14 +92,16 @@ pub fn run_new<S: Keepable, R: Piecewise, W: Sink, D: Disk>(
             disk,
         };
     };
-    let kept: Kept<S, D> = Kept::new(alloc, disk);
+    let kept: Kept<S, D> = Kept::new(alloc, disk, limit);
     keep(alloc, kept, lines, source, sink)
 }
 
-/// Stands behind the lines of the file, says so, and answers the lines of the source. The file gets each line that is accepted.
+/// Stands behind the lines of the file, says so, and answers the lines of the source, with this limit of work in tokens. The file gets
+/// each line that is accepted.
 pub fn run_open<S: Keepable, R: Piecewise, W: Sink, D: Disk>(
     alloc: Global,
     disk: D,
+    limit: Option<u64>,
     source: &mut R,
     sink: &mut W,
 ) -> Ended<D>
@@ -109,7 +113,7 @@ pub fn run_open<S: Keepable, R: Piecewise, W: Sink, D: Disk>(
     // more group.
     ensures output { NotOpened S.means D.Disk.seen D.Disk.may_leave D.Disk.is_clean D.Disk.is_usable D.Disk.faults result.status disk result.disk (R.left source.old) (R.left source.new) (W.written sink.old) (W.written sink.new) (R.faults source.old) (R.faults source.new) (W.faults sink.old) (W.faults sink.new)
         ⊎ (NotSaid S.means D.Disk.seen D.Disk.may_leave D.Disk.is_clean D.Disk.is_usable D.Disk.faults result.status disk result.disk (R.left source.old) (R.left source.new) (W.written sink.old) (W.written sink.new) (R.faults source.old) (R.faults source.new) (W.faults sink.old) (W.faults sink.new)
-        ⊎ Resumed S.means D.Disk.seen D.Disk.may_leave D.Disk.is_clean D.Disk.is_usable D.Disk.faults result.status disk result.disk (R.left source.old) (R.left source.new) (W.written sink.old) (W.written sink.new) (R.faults source.old) (R.faults source.new) (W.faults sink.old) (W.faults sink.new)) }
+        ⊎ Resumed S.means D.Disk.seen D.Disk.may_leave D.Disk.is_clean D.Disk.is_usable D.Disk.faults limit result.status disk result.disk (R.left source.old) (R.left source.new) (W.written sink.old) (W.written sink.new) (R.faults source.old) (R.faults source.new) (W.faults sink.old) (W.faults sink.new)) }
     // Whatever stops, a crash leaves a file with a service behind its lines, or as it was.
     ensures again { IsUntouched D.Disk.seen D.Disk.may_leave disk result.disk ⊎ LeavesSome S.means D.Disk.may_leave D.Disk.is_clean result.disk }
     // Where a service's own lines are always accepted again, as a talk's are, a file that a crash may leave is taken up.
@@ -137,12 +141,12 @@ pub fn run_open<S: Keepable, R: Piecewise, W: Sink, D: Disk>(
             disk,
         };
     }
-    let kept = Kept::resume(disk, opened);
+    let kept = Kept::resume(disk, opened, limit);
     keep(alloc, kept, lines, source, sink)
 }
 
 /// The status where no service stands behind a file.
-fn status_of_error(error: OpenError) -> FileStatus
+pub(crate) fn status_of_error(error: OpenError) -> FileStatus
     ensures { result ≡ error_status_of error }
 {
     match error {

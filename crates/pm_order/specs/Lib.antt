@@ -2,6 +2,7 @@ pub mod Words
 pub mod Names
 pub mod Fields
 pub mod Positions
+pub mod Clients
 pub mod Openings
 pub mod Namings
 pub mod Wishes

@@ -9,6 +9,7 @@
 //! Not proved: that there is memory.
 #![tactic(auto)]
 
+mod clients;
 mod codes;
 mod fields;
 mod names;

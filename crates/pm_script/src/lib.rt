@@ -7,7 +7,7 @@
 //! documents, clients and op lines (`input_means_one`). Of a file of many rooms each room is the session of its own
 //! lines.
 //!
-//! Not proved: that every input is a session or a refusal; out of memory may come for any.
+//! That every input is a session or a refusal is `input_means_something` of pm_laws. Not proved: that there is memory to tell which.
 #![tactic(auto)]
 
 mod acts;

@@ -7,3 +7,4 @@ pub mod Submitting
 pub mod Opens
 pub mod Heard
 pub mod IdLaws
+pub mod Limiting

@@ -7,3 +7,5 @@ pub mod Presenting
 pub mod Talk
 pub mod Lines
 pub mod Openings
+pub mod Work
+pub mod Limited

@@ -1,15 +1,17 @@
 //! An authority that answers lines.
-ghost use Rattle.std.specs.Prelude.{◌≡◌, ◌<◌, length, false, None, IfOk, OnOk, OnErr, string_bytes};
+ghost use Rattle.std.specs.Prelude.{◌≡◌, ◌<◌, length, false, None, Ok, IfOk, OnOk, OnErr, string_bytes};
 ghost use Rattle.std.specs.List.{list_any};
 ghost use Rattle.std.specs.Str.{bytes_eq};
 ghost use Rattle.pm_schema.specs.Names.{place_of};
 ghost use Rattle.pm_apply.specs.Changes.{meaning};
 ghost use Rattle.pm_authority.specs.Kept.{IsKept};
 ghost use Rattle.pm_talk.specs.declared.ids.TheConstants.{MAX_IDS};
-ghost use Rattle.pm_talk.specs.Live.{answered, submitted};
+ghost use Rattle.pm_talk.specs.Live.{answer, answered, submitted};
+ghost use Rattle.pm_talk.specs.Limited.{answer_within, answered_within};
 
 use crate::asked::{Asked, asked_line};
 use crate::ids::{ClientIds, MAX_IDS};
+use crate::limited::{is_over, limit_text};
 use crate::presenting::{Told, present};
 use crate::texts::fault_text;
 use crate::writing::{doc_text, front, since_text};
@@ -37,16 +39,69 @@ impl Live {
         ensures kept { IsKept meaning self.new.schema self.new.authority }
     {
         match asked_line(alloc, &self.schema, line) {
-            Ok(Asked::Submit { version, id, steps }) => {
+            Ok(asked) => self.answer_asked(alloc, asked),
+            Err(LineError::Code(code)) => fault_text(alloc, code),
+            Err(LineError::NoMemory) => Err(AllocError),
+        }
+    }
+
+    /// The answer to a line where the steps of a submission may go over so many tokens: one that goes over more is told the limit,
+    /// and changes nothing.
+    pub(crate) fn answer_within(
+        &mut self,
+        alloc: Global,
+        limit: u64,
+        line: &[u8],
+    ) -> Result<String, AllocError>
+        requires { IsKept meaning self.old.schema self.old.authority }
+        ensures text { IfOk result (λ s. string_bytes s ≡ (answered_within limit self.old line.now).0) }
+        ensures after { OnOk result (self.new ≡ (answered_within limit self.old line.now).1) }
+        ensures err { OnErr result (self.new ≡ self.old) }
+        ensures kept { IsKept meaning self.new.schema self.new.authority }
+    {
+        match asked_line(alloc, &self.schema, line) {
+            Ok(asked) => self.answer_below(alloc, limit, asked),
+            Err(LineError::Code(code)) => fault_text(alloc, code),
+            Err(LineError::NoMemory) => Err(AllocError),
+        }
+    }
+
+    /// The answer to a line that asks this, within the limit.
+    fn answer_below(
+        &mut self,
+        alloc: Global,
+        limit: u64,
+        asked: Asked,
+    ) -> Result<String, AllocError>
+        requires { IsKept meaning self.old.schema self.old.authority }
+        ensures text { IfOk result (λ s. string_bytes s ≡ (answer_within limit self.old (Ok asked)).0) }
+        ensures after { OnOk result (self.new ≡ (answer_within limit self.old (Ok asked)).1) }
+        ensures err { OnErr result (self.new ≡ self.old) }
+        ensures kept { IsKept meaning self.new.schema self.new.authority }
+    {
+        if is_over(limit, &asked) {
+            return limit_text(alloc, limit);
+        }
+        self.answer_asked(alloc, asked)
+    }
+
+    /// The answer to a line that asks this.
+    fn answer_asked(&mut self, alloc: Global, asked: Asked) -> Result<String, AllocError>
+        requires { IsKept meaning self.old.schema self.old.authority }
+        ensures text { IfOk result (λ s. string_bytes s ≡ (answer self.old (Ok asked)).0) }
+        ensures after { OnOk result (self.new ≡ (answer self.old (Ok asked)).1) }
+        ensures err { OnErr result (self.new ≡ self.old) }
+        ensures kept { IsKept meaning self.new.schema self.new.authority }
+    {
+        match asked {
+            Asked::Submit { version, id, steps } => {
                 self.submit(alloc, version, id.as_str(), steps.as_slice())
             }
-            Ok(Asked::Since { version, most }) => {
+            Asked::Since { version, most } => {
                 let log = front(self.authority.log(), version, most);
                 since_text(alloc, &self.schema, &self.ids, log, version)
             }
-            Ok(Asked::Doc) => doc_text(alloc, &self.schema, &self.authority),
-            Err(LineError::Code(code)) => fault_text(alloc, code),
-            Err(LineError::NoMemory) => Err(AllocError),
+            Asked::Doc => doc_text(alloc, &self.schema, &self.authority),
         }
     }
 

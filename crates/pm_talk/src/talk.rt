@@ -1,7 +1,8 @@
 //! A talk, by what came of it so far.
-ghost use Rattle.std.specs.Prelude.{◌≡◌, true, IfOk, OnErr, string_bytes};
+ghost use Rattle.std.specs.Prelude.{◌≡◌, true, Some, IfOk, OnErr, string_bytes};
 ghost use Rattle.pm_talk.specs.declared.talk.Talk.TheVariants.{AwaitsSchema, AwaitsDocument};
 ghost use Rattle.pm_talk.specs.Talk.{Replies, is_open, awaits_document, IsGood, last_text, DocumentHeard};
+ghost use Rattle.pm_talk.specs.Limited.{RepliesBelow};
 
 use crate::ids::ClientIds;
 use crate::live::Live;
@@ -49,6 +50,42 @@ impl Talk {
             Talk::AwaitsDocument(_) => self.take_document(alloc, line),
             Talk::Open(live) => Ok(Reply {
                 text: live.answer(alloc, line)?,
+                more: true,
+            }),
+        }
+    }
+
+    /// The same with a limit of work, or none.
+    pub(crate) fn tell_within(
+        &mut self,
+        alloc: Global,
+        limit: Option<u64>,
+        line: &[u8],
+    ) -> Result<Reply, AllocError>
+        requires { IsGood self.old }
+        ensures told { IfOk result (λ r. RepliesBelow limit self.old line.now (string_bytes r.text) r.more self.new) }
+        ensures err { OnErr result (self.new ≡ self.old) }
+        ensures good { IsGood self.new }
+    {
+        match limit {
+            Some(limit) => self.tell_below(alloc, limit, line),
+            None => self.tell(alloc, line),
+        }
+    }
+
+    /// The same where the steps of a submission may go over so many tokens: one that goes over more is told the limit, and changes
+    /// nothing.
+    fn tell_below(&mut self, alloc: Global, limit: u64, line: &[u8]) -> Result<Reply, AllocError>
+        requires { IsGood self.old }
+        ensures told { IfOk result (λ r. RepliesBelow (Some limit) self.old line.now (string_bytes r.text) r.more self.new) }
+        ensures err { OnErr result (self.new ≡ self.old) }
+        ensures good { IsGood self.new }
+    {
+        match self {
+            Talk::AwaitsSchema => self.take_schema(alloc, line),
+            Talk::AwaitsDocument(_) => self.take_document(alloc, line),
+            Talk::Open(live) => Ok(Reply {
+                text: live.answer_within(alloc, limit, line)?,
                 more: true,
             }),
         }

@@ -18,6 +18,6 @@ returns-in-Ok c =
       (
         subst (λ (s : Schema). Valid (documents_of s.spec) doc) c.get.ensures c.in-Ok.ensures.valid,
         c.in_ok-text-in-Ok.ensures ∙ ap (λ (n : ℕ). opened_text n o.version) c.size.ensures,
-        ap Some (c.in_ok-archive-in-Ok.ensures.opened ∙ ap (λ (s : Schema). opened o.name o.kind s o.version doc) c.in_ok-schema-in-Ok.ensures),
+        ap Some (c.in_ok-archive-in-Ok.ensures.opened ∙ ap (λ (s : Schema). opened o.name o.kind s o.version doc o.ids) c.in_ok-schema-in-Ok.ensures),
       ),
     )

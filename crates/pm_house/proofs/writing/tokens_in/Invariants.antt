@@ -1,6 +1,7 @@
 use Rattle.std.proofs.Common.{◌≡◌, drop, length}
 use Rattle.std.specs.Prelude.{fold}
-use Rattle.pm_house.specs.Texts.{up_to, tokens_in}
+use Rattle.pm_talk.specs.Work.{up_to}
+use Rattle.pm_house.specs.Texts.{tokens_in}
 use Rattle.pm_house.proofs.writing.tokens_in.Given as goal
 
 abbrev pub invariant-loop-archive : goal.invariant-loop-archive

@@ -1,4 +1,4 @@
-use Rattle.pm_kept.proofs.Alike.{all-stand-alike, all-accepted-again, all-reopen}
+use Rattle.pm_kept.proofs.LimitedAlike.{all-stand-alike, all-accepted-again, all-reopen}
 use Rattle.pm_kept.proofs.theorems.laws.Goals as goal
 
 pub returns : goal.returns

@@ -28,7 +28,7 @@ returns-clause-output g c =
       taken_up = c.in-Ok.ensures.begun;
       said = g.W.Sink.written c.write_all.new.sink;
       says = search rules;
-      talked = begun_at g.S.Keepable.means seen may_leave is_clean is_usable faults c.keep.result.status kept.service opened.service _ _ kept.journal.disk c.open.new.disk c.keep.result.disk _ _ _ _ _ _ _ _ _
+      talked = begun_at g.S.Keepable.means seen may_leave is_clean is_usable faults c.keep.result.status kept.service (g.S.Keepable.means.limited c.args.limit opened.service) _ _ kept.journal.disk c.open.new.disk c.keep.result.disk _ _ _ _ _ _ _ _ _
           c.resume-kept.ensures.service (λ clean. lines_before seen kept c.open.new.disk (seen c.args.disk) c.resume-kept.ensures.held c.resume-kept.ensures.disk c.open.ensures.seen)
           c.resume-kept.ensures.disk still c.keep.ensures.talked;
     })
